@@ -1,0 +1,20 @@
+use native.Mathlib.Omega.{arith}
+use borrow.Author.Tests.{le-leb, lt-leb}
+use Rattle.numbers.specs.Answers.{fitsOf}
+use borrow.Author.Needs.{needs}
+use Rattle.numbers.proofs.fits.Statement.{statement}
+use Rattle.numbers.proofs.fits.Tie as tie
+
+cast-t5 : tie.Need-cast-t5
+cast-t5 c = search needs
+
+returns : tie.Need-returns
+unfolding fitsOf
+returns c = rw (le-leb _ _ (c .if1 .taken))
+
+returns-2 : tie.Need-returns-2
+unfolding fitsOf
+returns-2 c = rw (lt-leb _ _ (c .if1 .left))
+
+pub fits-spec : {M : Type 1} → statement M
+fits-spec = tie.close (tie.spec cast-t5 returns returns-2)
