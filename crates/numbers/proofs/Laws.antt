@@ -53,6 +53,15 @@ read′ Overflow k hi n e h = record { bounds = tt }
 pub read : {w : Found} {k hi n : ℕ} → hi ≤ MAX → Taken w k hi n → Read w k n
 read {w} {k} {hi} {n} e h = read′ w k hi n e h
 
+stopped′ : (w : Found) (k hi n : ℕ) → Tag (1 ∷ 2 ∷ []) w → Bounded Unit w k hi n
+stopped′ (Is v t) k hi n g = neither 0 1 2 (eqb-false 0 1 refl) (eqb-false 0 2 refl) g
+stopped′ Nothing k hi n g = record { bounds = tt }
+stopped′ Overflow k hi n g = record { bounds = tt }
+
+-- not `Is`: it has all bounds, where it may overflow
+pub stopped : {w : Found} {k hi n : ℕ} → Tag (1 ∷ 2 ∷ []) w → Bounded Unit w k hi n
+stopped {w} {k} {hi} {n} g = stopped′ w k hi n g
+
 module _ {overflow : Type 0} where
   -- what is known of the value and the count, once the answer is known
   pub found : {w : Found} {v t k hi n : ℕ} → w ≡ Is v t → Bounded overflow w k hi n → (v ≤ hi) × (k ≤ t) × (t ≤ n)
