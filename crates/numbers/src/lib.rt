@@ -3,7 +3,7 @@ ghost use mathlib.Core.Path.{_≡_};
 ghost use Prim.Native.Nat.{_+_, _≤_, _<_, max};
 ghost use lib.ListN.{length};
 ghost use Rattle.numbers.specs.Slices.{get, oneIf};
-ghost use Rattle.numbers.specs.Answers.{MAX, USIZE, Taken, Read, takenOf, fitsOf};
+ghost use Rattle.numbers.specs.Answers.{MAX, USIZE, Taken, Read, orElse, takenOf, fitsOf};
 ghost use Rattle.numbers.specs.Numbers.{isEnding, wordOf, literalOf, onesOf, teensOf, tensOf, tensOnesOf, numDoubleOf, sumOf, hundredsOf, numTripleOf, numTripleUnitOf, unitsOf, numOf};
 use lexer::lexeme::AND;
 use lexer::lexeme::BILLION;
@@ -26,7 +26,7 @@ use slices::take_if;
 pub mod slices;
 
 // The largest u32.
-const MAX: u64 = 4294967295;
+const MAX: u32 = 4294967295;
 
 // What a number reader answers: the value and the count of lexemes taken, nothing, or a sum or product past the largest u32.
 pub enum Found {
@@ -61,29 +61,36 @@ fn take_ending(l: &[u64], i: usize) -> usize
 }
 
 // A number word from lo to hi, whose code is its value.
-fn word(l: &[u64], lo: u64, hi: u64, tokens: usize) -> Found
-    requires { ⌜ (0 < lo) × (hi ≤ MAX) × (0 < tokens) × (tokens ≤ max 1 (length (now l))) ⌝ }
+fn word(l: &[u64], lo: u32, hi: u32, tokens: usize) -> Found
     ensures { λ r. ⌜ r ≡ wordOf (now (l .entry)) lo hi tokens ⌝ }
-    ensures { λ r. ⌜ Taken r 1 hi (length (now (l .entry))) ⌝ }
 {
     let x = get(l, 0);
-    if is_within(lo, x, hi) {
+    if is_within(lo as u64, x, hi as u64) {
         return Found::Is(x as u32, tokens);
     }
     Found::Nothing
 }
 
 // `Num(n)` with lo <= n <= hi.
-fn literal(l: &[u64], lo: u64, hi: u64, tokens: usize) -> Found
-    requires { ⌜ (lo ≤ hi) × (hi ≤ MAX) × (0 < tokens) × (tokens ≤ max 1 (length (now l))) ⌝ }
+fn literal(l: &[u64], lo: u32, hi: u32, tokens: usize) -> Found
     ensures { λ r. ⌜ r ≡ literalOf (now (l .entry)) lo hi tokens ⌝ }
-    ensures { λ r. ⌜ Taken r 1 hi (length (now (l .entry))) ⌝ }
 {
     let x = get(l, 0);
-    if is_within(NUM + lo, x, NUM + hi) {
+    if is_within(NUM + lo as u64, x, NUM + hi as u64) {
         return Found::Is((x - NUM) as u32, tokens);
     }
     Found::Nothing
+}
+
+// A number word from `first` to hi, or a literal from lo to hi.
+fn word_or_literal(l: &[u64], first: u32, lo: u32, hi: u32, tokens: usize) -> Found
+    ensures { λ r. ⌜ r ≡ orElse (wordOf (now (l .entry)) first hi tokens) (literalOf (now (l .entry)) lo hi tokens) ⌝ }
+{
+    let a = word(l, first, hi, tokens);
+    let Found::Nothing = a else {
+        return a;
+    };
+    literal(l, lo, hi, tokens)
 }
 
 // `Ones::parse`
@@ -91,12 +98,7 @@ pub fn ones(l: &[u64]) -> Found
     ensures { λ r. ⌜ r ≡ onesOf (now (l .entry)) ⌝ }
     ensures { λ r. ⌜ Taken r 1 9 (length (now (l .entry))) ⌝ }
 {
-    let tokens = 1 + take_ending(l, 1);
-    let a = word(l, 1, 9, tokens);
-    let Found::Nothing = a else {
-        return a;
-    };
-    literal(l, 0, 9, tokens)
+    word_or_literal(l, 1, 0, 9, 1 + take_ending(l, 1))
 }
 
 // `Teens::parse`
@@ -104,12 +106,7 @@ pub fn teens(l: &[u64]) -> Found
     ensures { λ r. ⌜ r ≡ teensOf (now (l .entry)) ⌝ }
     ensures { λ r. ⌜ Taken r 1 19 (length (now (l .entry))) ⌝ }
 {
-    let tokens = 1 + take_if(l, 1, TH);
-    let a = word(l, 10, 19, tokens);
-    let Found::Nothing = a else {
-        return a;
-    };
-    literal(l, 10, 19, tokens)
+    word_or_literal(l, 10, 10, 19, 1 + take_if(l, 1, TH))
 }
 
 // `Tens::parse`
@@ -118,11 +115,12 @@ pub fn tens(l: &[u64]) -> Found
     ensures { λ r. ⌜ Taken r 1 90 (length (now (l .entry))) ⌝ }
 {
     let tokens = 1 + take_if(l, 1, TH);
-    let Found::Is(n, t) = word(l, 20, 90, tokens) else {
-        return Found::Nothing;
+    let a = word(l, 20, 90, tokens);
+    let Found::Is(n, _) = a else {
+        return a;
     };
     if n % 10 == 0 {
-        return Found::Is(n, t);
+        return a;
     }
     Found::Nothing
 }
@@ -166,7 +164,7 @@ pub fn num_double(l: &[u64]) -> Found
 fn fits(v: u64, t: usize) -> Found
     ensures { λ r. ⌜ r ≡ fitsOf v t ⌝ }
 {
-    if v <= MAX {
+    if v <= MAX as u64 {
         Found::Is(v as u32, t)
     } else {
         Found::Overflow
@@ -201,8 +199,9 @@ fn hundreds(l: &[u64], ones: Found) -> Found
         return Found::Nothing;
     };
     if is_at(l, t, HUNDRED) {
-        let required = is_at(l, t + 1, AND);
-        let tokens = t + 1 + one_if(required);
+        let s = t + 1;
+        let required = is_at(l, s, AND);
+        let tokens = s + one_if(required);
         return sum(
             required,
             v as u64 * 100,
@@ -262,8 +261,9 @@ fn units(l: &[u64], triple: Found) -> Found
     let Found::Is(unit, u) = num_triple_unit(rest(l, t)) else {
         return Found::Nothing;
     };
-    let required = is_at(l, t + u, AND);
-    let tokens = t + u + one_if(required);
+    let s = t + u;
+    let required = is_at(l, s, AND);
+    let tokens = s + one_if(required);
     sum(
         required,
         v as u64 * unit as u64,

@@ -1,5 +1,5 @@
 use mathlib.Core.Path.{sym}
-use Prim.Native.Nat.{ℕ, _+_, _*_, _<_}
+use Prim.Native.Nat.{ℕ, _+_, _*_, _≤_, _<_}
 use native.Mathlib.Omega.{arith}
 use lib.ListN.{length}
 use denote.Ref.{now}
@@ -155,7 +155,7 @@ module _ (t : ℕ) where
         ← (units2 .ensures .0),
         enum-told2 .given .1,
         enum-told3 .given .1,
-        ← (literal .ensures .0),
+        ← (literal .ensures),
       ))
       (num-read _)
 
@@ -172,8 +172,7 @@ module _ (t : ℕ) where
 
   units-rest-requires : units-lts.Need-rest-requires units-claims units-at units.Post
   units-rest-requires c κs =
-      let b = found (c .before .triple .given .1) (c .before .before .before .before .pre .1) in
-      omega arith
+      let b = found (c .before .triple .given .1) (c .before .before .before .before .pre .1) in omega arith
 
   units-num-triple-unit-requires : units-lts.Need-num-triple-unit-requires units-claims units-at units.Post
   units-num-triple-unit-requires c κs = search needs
@@ -192,94 +191,68 @@ module _ (t : ℕ) where
       (rw (triple .given .1, ← (rest .ensures .0), ← (num-triple-unit .ensures .0), none (arm2 .keys2) (num-triple-unit .ensures .1)))
       (units-read numOf num-read _ _ (c .before .before .before .before .before .before .before .pre .1))
 
-  units-add-is-at : units-lts.Need-add-is-at units-claims units-at units.Post
-  units-add-is-at c =
-      let b = found (c .before .before .before .before .before .before .triple .given .1) (c .before .before .before .before .before .before .before .before .before .pre .1) in
-      let d = found (c .before .unit .given .1) (c .before .before .before .num-triple-unit .ensures .1) in
+  -- what is known where the unit was read behind the triple
+  read : (c : units-lts.After-known-told2 units-claims units-at units.Post) →
+      let triple = c .before .before .before .before .before .before .triple .given .0 in
+      let unit = c .before .unit .given .0 in
+      (triple .0 * unit .0 ≤ 999000000000) × (0 < unit .1 .0)
+      × (triple .1 .0 + unit .1 .0 ≤ length (c .before .before .before .before .before .before .before .before .before .args .l .now))
+  read c =
+      let behind = c .before .before .before in
+      let b = found (behind .before .before .before .triple .given .1) (behind .before .before .before .before .before .before .pre .1) in
+      let d = found (c .before .unit .given .1) (behind .num-triple-unit .ensures .1) in
+      let p = product (b .0) (d .0) in
       omega arith
+
+  units-add-s : units-lts.Need-add-s units-claims units-at units.Post
+  units-add-s c = let b = read c in omega arith
 
   units-is-at-requires : units-lts.Need-is-at-requires units-claims units-at units.Post
   units-is-at-requires c κs = search needs
 
-  units-add-tokens : units-lts.Need-add-tokens units-claims units-at units.Post
-  units-add-tokens c =
-      let b = found (c .before .before .before .before .before .before .before .triple .given .1) (c .before .before .before .before .before .before .before .before .before .before .pre .1) in
-      let d = found (c .before .before .unit .given .1) (c .before .before .before .before .num-triple-unit .ensures .1) in
-      omega arith
-
   units-one-if-requires : units-lts.Need-one-if-requires units-claims units-at units.Post
   units-one-if-requires c κs = search needs
 
-  units-add-tokens-2 : units-lts.Need-add-tokens-2 units-claims units-at units.Post
-  units-add-tokens-2 c =
-      let b = found (c .before .before .before .before .before .before .before .before .triple .given .1) (c .before .before .before .before .before .before .before .before .before .before .before .pre .1) in
-      let d = found (c .before .before .before .unit .given .1) (c .before .before .before .before .before .num-triple-unit .ensures .1) in
-      omega arith
+  units-add-tokens : units-lts.Need-add-tokens units-claims units-at units.Post
+  units-add-tokens c = let b = read (c .before .before) in omega arith
 
   units-cast-sum : units-lts.Need-cast-sum units-claims units-at units.Post
-  units-cast-sum c =
-      let b = found (c .before .before .before .before .before .before .before .before .triple .given .1) (c .before .before .before .before .before .before .before .before .before .before .before .pre .1) in
-      let d = found (c .before .before .before .unit .given .1) (c .before .before .before .before .before .num-triple-unit .ensures .1) in
-      omega arith
+  units-cast-sum c = search needs
 
   units-cast-sum-2 : units-lts.Need-cast-sum-2 units-claims units-at units.Post
-  units-cast-sum-2 c =
-      let b = found (c .before .before .before .before .before .before .before .before .triple .given .1) (c .before .before .before .before .before .before .before .before .before .before .before .pre .1) in
-      let d = found (c .before .before .before .unit .given .1) (c .before .before .before .before .before .num-triple-unit .ensures .1) in
-      omega arith
+  units-cast-sum-2 c = search needs
 
   units-mul-sum : units-lts.Need-mul-sum units-claims units-at units.Post
-  units-mul-sum c =
-      let b = found (c .before .before .before .before .before .before .before .before .triple .given .1) (c .before .before .before .before .before .before .before .before .before .before .before .pre .1) in
-      let d = found (c .before .before .before .unit .given .1) (c .before .before .before .before .before .num-triple-unit .ensures .1) in
-      let p = product (b .0) (d .0) in
-      omega arith
+  units-mul-sum c = let b = read (c .before .before) in omega arith
 
   units-rest-requires-2 : units-lts.Need-rest-requires-2 units-claims units-at units.Post
-  units-rest-requires-2 c κs =
-      let b = found (c .before .before .before .before .before .before .before .before .triple .given .1) (c .before .before .before .before .before .before .before .before .before .before .before .pre .1) in
-      let d = found (c .before .before .before .unit .given .1) (c .before .before .before .before .before .num-triple-unit .ensures .1) in
-      omega arith
+  units-rest-requires-2 c κs = let b = read (c .before .before) in omega arith
 
   units-num-requires : units-lts.Need-num-requires units-claims units-at units.Post
-  units-num-requires c κs =
-      let b = found (c .before .before .before .before .before .before .before .before .before .triple .given .1) (c .before .before .before .before .before .before .before .before .before .before .before .before .pre .1) in
-      let d = found (c .before .before .before .before .unit .given .1) (c .before .before .before .before .before .before .num-triple-unit .ensures .1) in
-      (omega arith, tt)
+  units-num-requires c κs = let b = read (c .before .before .before) in (omega arith, tt)
 
   units-sum-requires : units-lts.Need-sum-requires units-claims units-at units.Post
-  units-sum-requires c κs =
-      let b = found (c .before .before .before .before .before .before .before .before .before .before .triple .given .1) (c .before .before .before .before .before .before .before .before .before .before .before .before .before .pre .1) in
-      let d = found (c .before .before .before .before .before .unit .given .1) (c .before .before .before .before .before .before .before .num-triple-unit .ensures .1) in
-      let p = product (b .0) (d .0) in
-      let m = most (c .num .ensures .1) in
-      omega arith
+  units-sum-requires c κs = let b = read (c .before .before .before .before) in let m = most (c .num .ensures .1) in omega arith
 
   units-returns-3 : units-lts.Need-returns-3 units-claims units-at units.Post
   unfolding unitsOf tailOf
   units-returns-3 c =
-      let triple = c .before .before .before .before .before .before .before .before .before .before .before .triple in
-      let rest = c .before .before .before .before .before .before .before .before .before .rest in
-      let num-triple-unit = c .before .before .before .before .before .before .before .before .num-triple-unit in
-      let unit = c .before .before .before .before .before .before .unit in
-      let is-at = c .before .before .before .before .is-at in
-      let one-if = c .before .before .before .one-if in
-      let rest2 = c .before .before .rest2 in
-      let num = c .before .num in
-      let sum = c .sum in
+      let place = c .before .before .before .before .before in
+      let behind = place .before .before .before in
+      let start = behind .before .before .before in
       promised
       (rw (
-        triple .given .1,
-        ← (rest .ensures .0),
-        ← (num-triple-unit .ensures .0),
-        unit .given .1,
-        ← (is-at .ensures .0),
-        ← (one-if .ensures .0),
-        ← (rest2 .ensures .0),
-        ← (num .ensures .0),
-        ← (sum .ensures),
+        start .triple .given .1,
+        ← (behind .before .rest .ensures .0),
+        ← (behind .num-triple-unit .ensures .0),
+        place .before .unit .given .1,
+        ← (c .before .before .before .before .is-at .ensures .0),
+        ← (c .before .before .before .one-if .ensures .0),
+        ← (c .before .before .rest2 .ensures .0),
+        ← (c .before .num .ensures .0),
+        ← (c .sum .ensures),
       ))
-      (units-read numOf num-read _ _ (c .before .before .before .before .before .before .before .before .before .before .before .before .before .before .pre .1))
+      (units-read numOf num-read _ _ (start .before .before .before .pre .1))
 
 pub +num+units-spec : {M : Type 1} → statement M
 +num+units-spec =
@@ -305,11 +278,10 @@ pub +num+units-spec : {M : Type 1} → statement M
     (units-num-triple-unit-requires t)
     (units-enum-known-unit t)
     (units-returns-2 t)
-    (units-add-is-at t)
+    (units-add-s t)
     (units-is-at-requires t)
-    (units-add-tokens t)
     (units-one-if-requires t)
-    (units-add-tokens-2 t)
+    (units-add-tokens t)
     (units-cast-sum t)
     (units-cast-sum-2 t)
     (units-mul-sum t)

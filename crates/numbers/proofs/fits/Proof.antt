@@ -1,12 +1,14 @@
-use native.Mathlib.Omega.{arith}
 use borrow.Author.Tests.{le-leb, lt-leb}
 use Rattle.numbers.specs.Answers.{fitsOf}
 use borrow.Author.Needs.{needs}
 use Rattle.numbers.proofs.fits.Statement.{statement}
 use Rattle.numbers.proofs.fits.Tie as tie
 
-cast-t5 : tie.Need-cast-t5
-cast-t5 c = search needs
+cast-if1 : tie.Need-cast-if1
+cast-if1 c = search needs
+
+cast-t6 : tie.Need-cast-t6
+cast-t6 c = search needs
 
 returns : tie.Need-returns
 unfolding fitsOf
@@ -17,4 +19,4 @@ unfolding fitsOf
 returns-2 c = rw (lt-leb _ _ (c .if1 .left))
 
 pub fits-spec : {M : Type 1} → statement M
-fits-spec = tie.close (tie.spec cast-t5 returns returns-2)
+fits-spec = tie.close (tie.spec cast-if1 cast-t6 returns returns-2)

@@ -1,7 +1,6 @@
 use native.Mathlib.Omega.{arith}
 use Rattle.numbers.specs.Numbers.{literalOf}
-use Rattle.numbers.proofs.Laws.{promised}
-use Rattle.numbers.proofs.Bounds.{within-bounds, literal-taken}
+use Rattle.numbers.proofs.Bounds.{within-bounds}
 use borrow.Author.Needs.{needs}
 use Rattle.numbers.proofs.literal.Statement.{statement}
 use Rattle.numbers.proofs.literal.Tie as tie
@@ -18,23 +17,19 @@ add-is-within-2 c = search needs
 is-within-requires : tie.Need-is-within-requires
 is-within-requires c κs = search needs
 
-sub-t9 : tie.Need-sub-t9
-sub-t9 c = let b = within-bounds _ _ _ (c .before .is-within .ensures) (c .if1 .taken) in omega arith
+sub-t11 : tie.Need-sub-t11
+sub-t11 c = let b = within-bounds _ _ _ (c .before .is-within .ensures) (c .if1 .taken) in omega arith
 
-cast-t10 : tie.Need-cast-t10
-cast-t10 c = let b = within-bounds _ _ _ (c .before .is-within .ensures) (c .if1 .taken) in omega arith
+cast-t12 : tie.Need-cast-t12
+cast-t12 c = let b = within-bounds _ _ _ (c .before .is-within .ensures) (c .if1 .taken) in omega arith
 
 returns : tie.Need-returns
 unfolding literalOf
-returns c =
-    let p = c .before .before .before .before .pre in
-    promised (rw (← (c .before .before .get .ensures .0), ← (c .before .is-within .ensures), c .if1 .taken)) (literal-taken _ _ _ _ (p .2) (p .3))
+returns c = rw (← (c .before .before .get .ensures .0), ← (c .before .is-within .ensures), c .if1 .taken)
 
 returns-2 : tie.Need-returns-2
 unfolding literalOf
-returns-2 c =
-    let p = c .before .before .before .before .pre in
-    promised (rw (← (c .before .before .get .ensures .0), ← (c .before .is-within .ensures), c .if1 .left)) (literal-taken _ _ _ _ (p .2) (p .3))
+returns-2 c = rw (← (c .before .before .get .ensures .0), ← (c .before .is-within .ensures), c .if1 .left)
 
 pub literal-spec : {M : Type 1} → statement M
 literal-spec =
@@ -44,7 +39,7 @@ literal-spec =
     add-is-within
     add-is-within-2
     is-within-requires
-    sub-t9
-    cast-t10
+    sub-t11
+    cast-t12
     returns
     returns-2)

@@ -71,7 +71,7 @@ returns-4 c =
       enum-told2 .given .1,
       ← (ones .ensures .0),
       enum-told3 .given .1,
-      ← (literal .ensures .0),
+      ← (literal .ensures),
     )) (num-double-taken _)
 
 pub num-double-spec : {M : Type 1} → statement M

@@ -95,7 +95,7 @@ returns-4 c =
       ← (num-double .ensures .0),
       enum-told3 .given .1,
       ← (take-ending .ensures .0),
-      ← (literal .ensures .0),
+      ← (literal .ensures),
     )) (num-triple-taken _)
 
 pub num-triple-spec : {M : Type 1} → statement M
