@@ -1,88 +1,68 @@
 -- The bounds of each number reader: how large its value is, and how many lexemes it takes.
-use mathlib.Core.Path.{_≡_, refl, sym, _∙_}
-use mathlib.Core.Bool.{Bool, true, false}
+use mathlib.Core.Path.{_≡_, refl}
+use mathlib.Core.Bool.{Bool}
 use mathlib.Core.List.{List, [], _∷_}
 use Prim.Native.Nat.{ℕ, zero, suc, _+_, _*_, _%_, _≤_, _<_, max}
 use native.Mathlib.Nat.{mul-le-mul}
 use native.Mathlib.Omega.{arith}
-use lib.Dec.{leb, ltb, eqb}
-use lib.ListN.{length, drop, getD, length-drop}
-use borrow.Author.Tests.{leb-true, ltb-true, le-leb}
+use lib.Dec.{leb, eqb}
+use lib.ListN.{length, drop, length-drop}
+use borrow.Author.Tests.{leb-true, le-leb}
 use Rattle.lexer.specs.Lexemes.{TH, Dash, And, Hundred, Thousand, Million, Billion, NUM}
 use Rattle.numbers.specs.declared.Found.{Found}
 use Rattle.numbers.specs.declared.Found.the-variants.{Is, Nothing, Overflow}
-use Rattle.numbers.specs.Slices.{and, get, isAt, oneIf, within}
-use Rattle.numbers.specs.Answers.{MAX, Bounded, Taken, Read, pick, andThen, orZero, fitsOf}
+use Rattle.numbers.specs.Slices.{get, isAt, oneIf, within}
+use Rattle.numbers.specs.Answers.{MAX, Bounded, Taken, Read, orZero, fitsOf}
 use Rattle.numbers.specs.Numbers.{isEnding, wordOf, literalOf, onesOf, teensOf, tensOf, tensOnesOf, numDoubleOf, sumOf, tailOf, hundredsOf, numTripleOf, numTripleUnitOf, unitsOf, numStep, numIn, numOf}
+use Rattle.numbers.proofs.Places.{one-most, within-bounds, at-most, there}
 use Rattle.numbers.proofs.Laws.{nothing, wider, read, pick-bounded, or-bounded, then-bounded}
 
-both : (p q : Bool) → and p q ≡ true → (p ≡ true) × (q ≡ true)
-both true q e = (refl, e)
-both false true e = (e, refl)
-both false false e = (e, e)
-
-one-most : (b : Bool) → oneIf b ≤ 1
-one-most true = omega arith
-one-most false = omega arith
-
--- what a test `within` that held says of the number
-pub within-bounds : (lo x hi : ℕ) {r : Bool} → r ≡ within lo x hi → r ≡ true → (lo ≤ x) × (x ≤ hi)
-unfolding within
-within-bounds lo x hi e t =
-    let h = both (leb lo x) (leb x hi) (sym e ∙ t) in
-    (leb-true lo x (h .0), leb-true x hi (h .1))
-
-reach : (p q : Bool) (i n : ℕ) → ltb i n ≡ p → i + oneIf (and p q) ≤ max i n
-reach true true i n e = let h = ltb-true i n e in omega arith
-reach true false i n e = omega arith
-reach false q i n e = omega arith
-
--- a lexeme that is taken where it stands is there
-pub at-most : (l : List ℕ) (i x : ℕ) → i + oneIf (isAt l i x) ≤ max i (length l)
-unfolding isAt
-at-most l i x = reach (ltb i (length l)) (eqb (getD l i 0) x) i (length l) refl
-
--- the promise of such a test
-pub tested-at : (l : List ℕ) (i x : ℕ) {r : Bool} → r ≡ isAt l i x → (r ≡ isAt l i x) × (i + oneIf r ≤ max i (length l))
-tested-at l i x e = (e, rw e (at-most l i x))
-
--- a test `isAt` that held says that the lexeme is there
-pub there : {r : Bool} {i n : ℕ} → i + oneIf r ≤ max i n → r ≡ true → i < n
-there h e = let g = rw e at h in omega arith
-
+-- 0, which stands for what is past the end, is no ending
 ending-pos : (x : ℕ) → oneIf (isEnding x) ≤ x
 unfolding isEnding
 ending-pos zero = omega arith
 ending-pos (suc x) = let h = one-most (isEnding (suc x)) in omega arith
 
--- the promise of a test for an ending: 0, which stands for what is past the end, is none
+-- the promise of a test for an ending
 pub tested-ending : (x : ℕ) {r : Bool} → r ≡ isEnding x → (r ≡ isEnding x) × (oneIf r ≤ x)
 tested-ending x e = (e, rw e (ending-pos x))
 
+-- an ending that is taken behind the first lexeme is there
 ending-most : (l : List ℕ) → 1 + oneIf (isEnding (get l 1)) ≤ max 1 (length l)
 unfolding isEnding get
 ending-most [] = omega arith
 ending-most (x ∷ []) = omega arith
 ending-most (x ∷ y ∷ ys) = let h = one-most (isEnding (get (x ∷ y ∷ ys) 1)) in omega arith
 
+-- a lexeme, which is no 0, is there
 first : (l : List ℕ) → 0 < get l 0 → 0 < length l
 unfolding get
 first [] h = h
 first (x ∷ xs) h = omega arith
 
 module _ (l : List ℕ) (lo hi tokens : ℕ) (some : 0 < tokens) (room : tokens ≤ max 1 (length l)) where
-  pub word-taken : 0 < lo → Taken (wordOf l lo hi tokens) 1 hi (length l)
+  word-taken : 0 < lo → Taken (wordOf l lo hi tokens) 1 hi (length l)
   unfolding wordOf
   word-taken pos =
       pick-bounded (within lo (get l 0) hi) _ _
-      (λ e. record { bounds = let b = within-bounds lo (get l 0) hi refl e in let h = first l (omega arith) in omega arith })
+      (λ e. record {
+        bounds =
+            let b = within-bounds lo (get l 0) hi refl e in
+            let h = first l (omega arith) in
+            omega arith;
+      })
       (λ e. nothing)
 
-  pub literal-taken : Taken (literalOf l lo hi tokens) 1 hi (length l)
+  literal-taken : Taken (literalOf l lo hi tokens) 1 hi (length l)
   unfolding literalOf
   literal-taken =
       pick-bounded (within (NUM + lo) (get l 0) (NUM + hi)) _ _
-      (λ e. record { bounds = let b = within-bounds (NUM + lo) (get l 0) (NUM + hi) refl e in let h = first l (omega arith) in omega arith })
+      (λ e. record {
+        bounds =
+            let b = within-bounds (NUM + lo) (get l 0) (NUM + hi) refl e in
+            let h = first l (omega arith) in
+            omega arith;
+      })
       (λ e. nothing)
 
 pub ones-taken : (l : List ℕ) → Taken (onesOf l) 1 9 (length l)
@@ -103,6 +83,7 @@ tens-taken l =
     then-bounded _ _ (word-taken l 20 90 _ (omega arith) (at-most l 1 TH) (omega arith))
     (λ n t a b d. pick-bounded (eqb (n % 10) 0) _ _ (λ e. record { bounds = omega arith }) (λ e. nothing))
 
+-- ones that may be missing
 zero-taken : (w : Found) {k hi n : ℕ} → Taken w k hi n → Taken (orZero w) 0 hi n
 zero-taken (Is v t) h = record { bounds = let b = h .bounds in omega arith }
 zero-taken Nothing h = record { bounds = omega arith }
@@ -124,20 +105,28 @@ num-double-taken l =
     (or-bounded _ _ (wider (omega arith) (ones-taken l))
     (literal-taken l 20 99 1 (omega arith) (omega arith))))
 
--- a tested sum that is small enough, and one of which that is not known
+-- a tested sum that is small enough
 fits-taken : (v t hi n : ℕ) → (v ≤ hi) × (hi ≤ MAX) × (0 < t) × (t ≤ n) → Taken (fitsOf v t) 1 hi n
 unfolding fitsOf
 fits-taken v t hi n h = rw (le-leb v MAX (omega arith)) (record { bounds = omega arith })
 
+-- any tested sum
 fits-read : (v t n : ℕ) → (0 < t) × (t ≤ n) → Read (fitsOf v t) 1 n
 unfolding fitsOf
-fits-read v t n h = pick-bounded (leb v MAX) _ _ (λ e. record { bounds = let g = leb-true v MAX e in omega arith }) (λ e. record { bounds = tt })
+fits-read v t n h =
+    pick-bounded (leb v MAX) _ _
+    (λ e. record { bounds = let g = leb-true v MAX e in omega arith })
+    (λ e. record { bounds = tt })
 
 module _ {overflow : Type 0} {hi hi′ : ℕ} (head n : ℕ)
     (tested : (v t : ℕ) → v ≤ head + hi → 0 < t → t ≤ n → Bounded overflow (fitsOf v t) 1 hi′ n) where
-  sum-bounded : (required : Bool) (tokens m : ℕ) (w : Found) → 0 < tokens → tokens + m ≤ n → Bounded overflow w 1 hi m → Bounded overflow (sumOf required head tokens w) 1 hi′ n
+  -- a head and the number behind it
+  sum-bounded : (required : Bool) (tokens m : ℕ) (w : Found) → 0 < tokens → tokens + m ≤ n
+      → Bounded overflow w 1 hi m → Bounded overflow (sumOf required head tokens w) 1 hi′ n
   unfolding sumOf
-  sum-bounded required tokens m (Is v t) p q h = let b = h .bounds in tested (head + v) (tokens + t) (omega arith) (omega arith) (omega arith)
+  sum-bounded required tokens m (Is v t) p q h =
+      let b = h .bounds in
+      tested (head + v) (tokens + t) (omega arith) (omega arith) (omega arith)
   sum-bounded required tokens m Nothing p q h =
       pick-bounded required _ _ (λ e. nothing) (λ e. tested head tokens (omega arith) (omega arith) (omega arith))
   sum-bounded required tokens m Overflow p q h = record { bounds = h .bounds }
@@ -145,13 +134,15 @@ module _ {overflow : Type 0} {hi hi′ : ℕ} (head n : ℕ)
 -- a tail takes no more than there is, and its sum is what the test says
 tail-bounded : {overflow : Type 0} {hi hi′ : ℕ} (N : List ℕ → Found) (l : List ℕ) (head t : ℕ)
     → ((v s : ℕ) → v ≤ head + hi → 0 < s → s ≤ length l → Bounded overflow (fitsOf v s) 1 hi′ (length l))
-    → ((m : List ℕ) → Bounded overflow (N m) 1 hi (length m)) → 0 < t → t ≤ length l → Bounded overflow (tailOf N l head t) 1 hi′ (length l)
+    → ((m : List ℕ) → Bounded overflow (N m) 1 hi (length m)) → 0 < t → t ≤ length l
+    → Bounded overflow (tailOf N l head t) 1 hi′ (length l)
 unfolding tailOf
 tail-bounded N l head t tested bounded p q =
     let tokens = t + oneIf (isAt l t And) in
     let room = at-most l t And in
     let left = length-drop tokens l in
-    sum-bounded head (length l) tested (isAt l t And) tokens (length (drop tokens l)) _ (omega arith) (omega arith) (bounded (drop tokens l))
+    sum-bounded head (length l) tested (isAt l t And) tokens (length (drop tokens l)) _
+    (omega arith) (omega arith) (bounded (drop tokens l))
 
 pub hundreds-taken : (l : List ℕ) (ones : Found) → Taken ones 0 9 (length l) → Taken (hundredsOf l ones) 1 999 (length l)
 unfolding hundredsOf
@@ -159,7 +150,9 @@ hundreds-taken l ones h =
     then-bounded _ _ h (λ v t a b d.
     pick-bounded (isAt l t Hundred) _ _
     (λ e. let room = there (at-most l t Hundred) e in
-    tail-bounded numDoubleOf l (v * 100) (t + 1) (λ s u f g i. fits-taken s u 999 (length l) (omega arith)) num-double-taken (omega arith) (omega arith))
+    tail-bounded numDoubleOf l (v * 100) (t + 1)
+    (λ s u f g i. fits-taken s u 999 (length l) (omega arith))
+    num-double-taken (omega arith) (omega arith))
     (λ e. nothing))
 
 pub num-triple-taken : (l : List ℕ) → Taken (numTripleOf l) 1 999 (length l)
@@ -188,7 +181,9 @@ module _ (N : List ℕ → Found) (reads : (l : List ℕ) → Read (N l) 1 (leng
       then-bounded _ _ h (λ v t a b d.
       then-bounded _ _ (num-triple-unit-taken (drop t l)) (λ unit u e f g.
       let left = length-drop t l in
-      tail-bounded N l (v * unit) (t + u) (λ s i x y z. fits-read s i (length l) (omega arith)) reads (omega arith) (omega arith)))
+      tail-bounded N l (v * unit) (t + u)
+      (λ s i x y z. fits-read s i (length l) (omega arith))
+      reads (omega arith) (omega arith)))
 
   step-read : Read (numStep N l) 1 (length l)
   unfolding numStep
@@ -198,6 +193,7 @@ module _ (N : List ℕ → Found) (reads : (l : List ℕ) → Read (N l) 1 (leng
       (or-bounded _ _ (read (omega arith) (num-triple-taken l))
       (read (omega arith) (literal-taken l 1000 MAX 1 (omega arith) (omega arith)))))
 
+-- in any number of turns
 in-read : (n : ℕ) (l : List ℕ) → Read (numIn n l) 1 (length l)
 unfolding numIn
 in-read zero l = nothing

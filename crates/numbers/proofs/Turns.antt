@@ -1,23 +1,17 @@
 -- A number that begins again is read as `numOf` reads it, since the lexemes left fall at each turn.
-use mathlib.Core.Path.{_≡_, refl}
+use mathlib.Core.Path.{_≡_}
 use mathlib.Core.List.{List}
 use Prim.Native.Nat.{ℕ, zero, suc, _+_, _*_, _≤_, _<_}
 use native.Mathlib.Omega.{arith}
 use lib.ListN.{length, drop, length-drop}
 use Rattle.lexer.specs.Lexemes.{And}
 use Rattle.numbers.specs.declared.Found.{Found}
-use Rattle.numbers.specs.declared.Found.the-variants.{Is, Nothing, Overflow}
+use Rattle.numbers.specs.declared.Found.the-variants.{Is}
 use Rattle.numbers.specs.Slices.{isAt, oneIf}
-use Rattle.numbers.specs.Answers.{Taken, andThen}
+use Rattle.numbers.specs.Answers.{Taken}
 use Rattle.numbers.specs.Numbers.{numTripleOf, numTripleUnitOf, tailOf, unitsOf, numStep, numIn, numOf}
-use Rattle.numbers.proofs.Laws.{wider}
+use Rattle.numbers.proofs.Laws.{wider, then-same}
 use Rattle.numbers.proofs.Bounds.{num-triple-taken, num-triple-unit-taken}
-
--- what follows an answer is the same where it is the same within the answer's bounds
-pub then-same : (w : Found) (f g : ℕ → ℕ → Found) {k hi n : ℕ} → Taken w k hi n → ((v t : ℕ) → v ≤ hi → k ≤ t → t ≤ n → f v t ≡ g v t) → andThen w f ≡ andThen w g
-then-same (Is v t) f g h same = let b = h .bounds in same v t (omega arith) (omega arith) (omega arith)
-then-same Nothing f g h same = refl
-then-same Overflow f g h same = refl
 
 -- two readers that agree on every list shorter than n
 Agree : (List ℕ → Found) → (List ℕ → Found) → ℕ → Type 0

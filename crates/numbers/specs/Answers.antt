@@ -1,5 +1,5 @@
 -- What a number reader answers, and how answers are joined: the Rust's `Option<(u32, usize)>`, and an overflow that stops the reading.
-use Prim.Native.Nat.{ℕ, _+_, _≤_}
+use Prim.Native.Nat.{ℕ, _≤_}
 use mathlib.Core.Bool.{Bool, true, false}
 use lib.Dec.{leb}
 use Rattle.numbers.specs.declared.Found.{Found}
@@ -18,7 +18,8 @@ abbrev pub pick : Bool → Found → Found → Found
 pick true x y = x
 pick false x y = y
 
--- one alternative, and the next where it finds nothing; an overflow stops the reading, even in an alternative that would have been given up
+-- one alternative, and the next where it finds nothing; an overflow stops the reading, even in an alternative that would have been
+-- given up
 abbrev pub orElse : Found → Found → Found
 orElse (Is v t) b = Is v t
 orElse Nothing b = b
@@ -46,6 +47,7 @@ takenOf (Is v t) = t
 takenOf Nothing = 0
 takenOf Overflow = 0
 
+-- what `Bounded` says, by cases
 abbrev Bounds : Type 0 → Found → ℕ → ℕ → ℕ → Type 0
 Bounds overflow (Is v t) k hi n = (v ≤ hi) × (k ≤ t) × (t ≤ n)
 Bounds overflow Nothing k hi n = Unit

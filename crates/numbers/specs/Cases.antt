@@ -18,6 +18,11 @@ pub record Case : Type 0 where
 abbrev Num : ℕ → ℕ
 Num n = NUM + n
 
+-- four billion two hundred ninety four million nine hundred sixty seven thousand two hundred ninety, and ones
+abbrev nearMAX : ℕ → List ℕ
+nearMAX ones =
+    Four ∷ Billion ∷ Two ∷ Hundred ∷ Ninety ∷ Four ∷ Million ∷ Nine ∷ Hundred ∷ Sixty ∷ Seven ∷ Thousand ∷ Two ∷ Hundred ∷ Ninety ∷ ones ∷ []
+
 abbrev row : List ℕ → Found → Case
 row l r = record { lexemes = l; reading = r }
 
@@ -46,12 +51,8 @@ cases =
     ∷ row (Num 1000 ∷ TH ∷ []) (Is 1000 1)
     -- the largest u32, and one more
     ∷ row (Num 4294967295 ∷ []) (Is 4294967295 1)
-    ∷ row
-    (Four ∷ Billion ∷ Two ∷ Hundred ∷ Ninety ∷ Four ∷ Million ∷ Nine ∷ Hundred ∷ Sixty ∷ Seven ∷ Thousand ∷ Two ∷ Hundred ∷ Ninety ∷ Five ∷ [])
-    (Is 4294967295 16)
-    ∷ row
-    (Four ∷ Billion ∷ Two ∷ Hundred ∷ Ninety ∷ Four ∷ Million ∷ Nine ∷ Hundred ∷ Sixty ∷ Seven ∷ Thousand ∷ Two ∷ Hundred ∷ Ninety ∷ Six ∷ [])
-    Overflow
+    ∷ row (nearMAX Five) (Is 4294967295 16)
+    ∷ row (nearMAX Six) Overflow
     ∷ row (Thousand ∷ And ∷ Num 4294966296 ∷ []) Overflow
     -- the product is made only once the tail has been read and not given up
     ∷ row (Four ∷ Billion ∷ []) (Is 4000000000 2)

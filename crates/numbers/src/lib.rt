@@ -199,15 +199,11 @@ fn hundreds(l: &[u64], ones: Found) -> Found
         return Found::Nothing;
     };
     if is_at(l, t, HUNDRED) {
+        let head = v as u64 * 100;
         let s = t + 1;
         let required = is_at(l, s, AND);
         let tokens = s + one_if(required);
-        return sum(
-            required,
-            v as u64 * 100,
-            tokens,
-            num_double(rest(l, tokens)),
-        );
+        return sum(required, head, tokens, num_double(rest(l, tokens)));
     }
     Found::Nothing
 }
@@ -249,7 +245,7 @@ pub fn num_triple_unit(l: &[u64]) -> Found
     Found::Nothing
 }
 
-// `<num_triple> <num_triple_unit> [[and] <num>]` for the triple that was read: behind the unit a number begins again.
+// `<num_triple> <num_triple_unit> [[and] <num>]` for the triple that was read: the tail behind it, in which a number begins again.
 fn units(l: &[u64], triple: Found) -> Found
     requires { ⌜ Taken triple 0 999 (length (now l)) ⌝ }
     ensures { λ r. ⌜ r ≡ unitsOf numOf (now (l .entry)) triple ⌝ }
@@ -261,30 +257,26 @@ fn units(l: &[u64], triple: Found) -> Found
     let Found::Is(unit, u) = num_triple_unit(rest(l, t)) else {
         return Found::Nothing;
     };
+    let head = v as u64 * unit as u64;
     let s = t + u;
     let required = is_at(l, s, AND);
     let tokens = s + one_if(required);
-    sum(
-        required,
-        v as u64 * unit as u64,
-        tokens,
-        num(rest(l, tokens)),
-    )
+    sum(required, head, tokens, num(rest(l, tokens)))
 }
 
-// `Num::parse`
+// `Num::parse`; the triple is read once for both alternatives that begin with it.
 pub fn num(l: &[u64]) -> Found
     ensures { λ r. ⌜ r ≡ numOf (now (l .entry)) ⌝ }
     ensures { λ r. ⌜ Read r 1 (length (now (l .entry))) ⌝ }
 {
     let triple = num_triple(l);
-    let a = units(l, triple);
-    let Found::Nothing = a else {
-        return a;
+    let scaled = units(l, triple);
+    let Found::Nothing = scaled else {
+        return scaled;
     };
-    let b = units(l, Found::Is(1, 0));
-    let Found::Nothing = b else {
-        return b;
+    let unit = units(l, Found::Is(1, 0));
+    let Found::Nothing = unit else {
+        return unit;
     };
     let Found::Nothing = triple else {
         return triple;

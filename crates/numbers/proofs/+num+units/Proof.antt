@@ -191,6 +191,12 @@ module _ (t : ℕ) where
       (rw (triple .given .1, ← (rest .ensures .0), ← (num-triple-unit .ensures .0), none (arm2 .keys2) (num-triple-unit .ensures .1)))
       (units-read numOf num-read _ _ (c .before .before .before .before .before .before .before .pre .1))
 
+  units-cast-head : units-lts.Need-cast-head units-claims units-at units.Post
+  units-cast-head c = search needs
+
+  units-cast-head-2 : units-lts.Need-cast-head-2 units-claims units-at units.Post
+  units-cast-head-2 c = search needs
+
   -- what is known where the unit was read behind the triple
   read : (c : units-lts.After-known-told2 units-claims units-at units.Post) →
       let triple = c .before .before .before .before .before .before .triple .given .0 in
@@ -204,6 +210,9 @@ module _ (t : ℕ) where
       let p = product (b .0) (d .0) in
       omega arith
 
+  units-mul-head : units-lts.Need-mul-head units-claims units-at units.Post
+  units-mul-head c = let b = read c in omega arith
+
   units-add-s : units-lts.Need-add-s units-claims units-at units.Post
   units-add-s c = let b = read c in omega arith
 
@@ -215,15 +224,6 @@ module _ (t : ℕ) where
 
   units-add-tokens : units-lts.Need-add-tokens units-claims units-at units.Post
   units-add-tokens c = let b = read (c .before .before) in omega arith
-
-  units-cast-sum : units-lts.Need-cast-sum units-claims units-at units.Post
-  units-cast-sum c = search needs
-
-  units-cast-sum-2 : units-lts.Need-cast-sum-2 units-claims units-at units.Post
-  units-cast-sum-2 c = search needs
-
-  units-mul-sum : units-lts.Need-mul-sum units-claims units-at units.Post
-  units-mul-sum c = let b = read (c .before .before) in omega arith
 
   units-rest-requires-2 : units-lts.Need-rest-requires-2 units-claims units-at units.Post
   units-rest-requires-2 c κs = let b = read (c .before .before) in omega arith
@@ -278,13 +278,13 @@ pub +num+units-spec : {M : Type 1} → statement M
     (units-num-triple-unit-requires t)
     (units-enum-known-unit t)
     (units-returns-2 t)
+    (units-cast-head t)
+    (units-cast-head-2 t)
+    (units-mul-head t)
     (units-add-s t)
     (units-is-at-requires t)
     (units-one-if-requires t)
     (units-add-tokens t)
-    (units-cast-sum t)
-    (units-cast-sum-2 t)
-    (units-mul-sum t)
     (units-rest-requires-2 t)
     (units-num-requires t)
     (units-sum-requires t)

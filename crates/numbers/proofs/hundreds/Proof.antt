@@ -3,7 +3,8 @@ use native.Mathlib.Omega.{arith}
 use lib.ListN.{length}
 use Rattle.numbers.specs.Numbers.{tailOf, hundredsOf}
 use Rattle.numbers.proofs.Laws.{none, found, most, promised}
-use Rattle.numbers.proofs.Bounds.{there, hundreds-taken}
+use Rattle.numbers.proofs.Places.{there}
+use Rattle.numbers.proofs.Bounds.{hundreds-taken}
 use borrow.Author.Needs.{needs}
 use Rattle.numbers.proofs.hundreds.Statement.{statement}
 use Rattle.numbers.proofs.hundreds.Tie as tie
@@ -17,6 +18,12 @@ returns c = promised (rw (none (c .match .keys2) (c .before .before .pre))) (hun
 
 is-at-requires : tie.Need-is-at-requires
 is-at-requires c κs = search needs
+
+cast-head : tie.Need-cast-head
+cast-head c = search needs
+
+mul-head : tie.Need-mul-head
+mul-head c = search needs
 
 -- what is known where `Hundred` was seen behind the ones
 seen : (c : tie.Then1) →
@@ -38,12 +45,6 @@ one-if-requires c κs = search needs
 
 add-tokens : tie.Need-add-tokens
 add-tokens c = let b = seen (c .before .before) in omega arith
-
-cast-sum : tie.Need-cast-sum
-cast-sum c = search needs
-
-mul-sum : tie.Need-mul-sum
-mul-sum c = search needs
 
 rest-requires : tie.Need-rest-requires
 rest-requires c κs = let b = seen (c .before .before) in omega arith
@@ -86,12 +87,12 @@ hundreds-spec =
     enum-known-ones
     returns
     is-at-requires
+    cast-head
+    mul-head
     add-s
     is-at-requires-2
     one-if-requires
     add-tokens
-    cast-sum
-    mul-sum
     rest-requires
     num-double-requires
     sum-requires

@@ -1,3 +1,5 @@
+use Prim.Native.Nat.{_+_, _≤_}
+use lib.ListN.{length}
 use native.Mathlib.Nat.{add-zero}
 use native.Mathlib.Omega.{arith}
 use Rattle.numbers.specs.Numbers.{tensOnesOf}
@@ -51,25 +53,28 @@ returns-2 c =
       ← (rest .ensures .0),
       ← (ones .ensures .0),
       none (arm2 .keys2) (ones .ensures .1),
-      add-zero,
+      add-zero (n .given .0 .0),
       add-zero,
     )) (tens-ones-taken _)
 
-add-t11 : tie.Need-add-t11
-add-t11 c =
-    let tens = c .before .before .before .before .before .before .before .before .before .tens in
-    let ones = c .before .before .before .ones in
-    let b = found (c .before .before .before .before .before .before .before .n .given .1) (tens .ensures .1) in
-    let d = found (c .before .m .given .1) (ones .ensures .1) in
+-- what is known of tens and ones, once both are read
+read : (c : tie.After-known-told2) →
+    let place = c .before .before .before .before .before .before .before in
+    let tens = place .n .given .0 in
+    let ones = c .before .m .given .0 in
+    let tokens = tens .1 .0 + c .before .before .before .before .before .take-if .result in
+    (tens .0 + ones .0 ≤ 99) × (tokens + ones .1 .0 ≤ length (place .before .before .before .before .args .l .now))
+read c =
+    let place = c .before .before .before .before .before .before .before in
+    let b = found (place .n .given .1) (place .before .before .tens .ensures .1) in
+    let d = found (c .before .m .given .1) (c .before .before .before .ones .ensures .1) in
     omega arith
 
+add-t11 : tie.Need-add-t11
+add-t11 c = let b = read c in omega arith
+
 add-t8 : tie.Need-add-t8
-add-t8 c =
-    let tens = c .before .before .before .before .before .before .before .before .before .tens in
-    let ones = c .before .before .before .ones in
-    let b = found (c .before .before .before .before .before .before .before .n .given .1) (tens .ensures .1) in
-    let d = found (c .before .m .given .1) (ones .ensures .1) in
-    omega arith
+add-t8 c = let b = read c in omega arith
 
 returns-3 : tie.Need-returns-3
 unfolding tensOnesOf
