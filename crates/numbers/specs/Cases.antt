@@ -21,8 +21,12 @@ Num n = NUM + n
 -- four billion two hundred ninety four million nine hundred sixty seven thousand two hundred ninety, and ones
 abbrev nearMAX : ℕ → List ℕ
 nearMAX ones =
-    Four ∷ Billion ∷ Two ∷ Hundred ∷ Ninety ∷ Four ∷ Million ∷ Nine ∷ Hundred ∷ Sixty ∷ Seven ∷ Thousand ∷ Two ∷ Hundred ∷ Ninety ∷ ones ∷ []
+    Four ∷ Billion
+    ∷ Two ∷ Hundred ∷ Ninety ∷ Four ∷ Million
+    ∷ Nine ∷ Hundred ∷ Sixty ∷ Seven ∷ Thousand
+    ∷ Two ∷ Hundred ∷ Ninety ∷ ones ∷ []
 
+-- the lexemes of a row and its reading
 abbrev row : List ℕ → Found → Case
 row l r = record { lexemes = l; reading = r }
 
@@ -32,10 +36,10 @@ cases =
     -- words
     row (Twenty ∷ Dash ∷ Two ∷ Thousand ∷ And ∷ Three ∷ Hundred ∷ Five ∷ []) (Is 22305 8)
     ∷ row (Ninety ∷ Dash ∷ Nine ∷ []) (Is 99 3)
-    -- a dash is taken though no ones follow
-    ∷ row (Ninety ∷ Dash ∷ []) (Is 90 2)
     ∷ row (Hundred ∷ And ∷ Five ∷ []) (Is 105 3)
     ∷ row (Thousand ∷ []) (Is 1000 1)
+    -- a dash is taken though no ones follow
+    ∷ row (Ninety ∷ Dash ∷ []) (Is 90 2)
     -- after an `and` a number has to follow
     ∷ row (One ∷ Hundred ∷ And ∷ []) (Is 1 1)
     ∷ row (Hundred ∷ And ∷ []) Nothing

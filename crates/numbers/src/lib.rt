@@ -153,9 +153,9 @@ pub fn num_double(l: &[u64]) -> Found
     let Found::Nothing = b else {
         return b;
     };
-    let d = ones(l);
-    let Found::Nothing = d else {
-        return d;
+    let c = ones(l);
+    let Found::Nothing = c else {
+        return c;
     };
     literal(l, 20, 99, 1)
 }
@@ -221,9 +221,9 @@ pub fn num_triple(l: &[u64]) -> Found
     let Found::Nothing = b else {
         return b;
     };
-    let d = num_double(l);
-    let Found::Nothing = d else {
-        return d;
+    let c = num_double(l);
+    let Found::Nothing = c else {
+        return c;
     };
     literal(l, 100, 999, 1 + take_ending(l, 1))
 }

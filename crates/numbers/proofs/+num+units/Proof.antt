@@ -1,3 +1,4 @@
+-- `num` and `units` call each other: one proof for both, over the lexemes left.
 use mathlib.Core.Path.{sym}
 use Prim.Native.Nat.{ℕ, _+_, _*_, _≤_, _<_}
 use native.Mathlib.Omega.{arith}

@@ -32,7 +32,9 @@ returns-2 c =
     let enum-told = c .before .before .enum-told in
     let teens = c .before .teens in
     let arm2 = c .match2 in
-    promised (rw (← (tens-ones .ensures .0), enum-told .given .1, ← (teens .ensures .0)) (sym (kept _ _ (arm2 .keys2)))) (num-double-taken _)
+    promised
+    (rw (← (tens-ones .ensures .0), enum-told .given .1, ← (teens .ensures .0)) (sym (kept _ _ (arm2 .keys2))))
+    (num-double-taken _)
 
 ones-requires : tie.Need-ones-requires
 ones-requires c κs = search needs
@@ -49,7 +51,9 @@ returns-3 c =
     let enum-told2 = c .before .before .enum-told2 in
     let ones = c .before .ones in
     let arm3 = c .match3 in
-    promised (rw (← (tens-ones .ensures .0), enum-told .given .1, ← (teens .ensures .0), enum-told2 .given .1, ← (ones .ensures .0)) (sym (kept _ _ (arm3 .keys2)))) (num-double-taken _)
+    promised
+    (rw (← (tens-ones .ensures .0), enum-told .given .1, ← (teens .ensures .0), enum-told2 .given .1, ← (ones .ensures .0)) (sym (kept _ _ (arm3 .keys2))))
+    (num-double-taken _)
 
 literal-requires : tie.Need-literal-requires
 literal-requires c κs = search needs

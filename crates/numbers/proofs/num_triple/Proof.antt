@@ -38,7 +38,9 @@ returns-2 c =
     let enum-told = c .before .before .enum-told in
     let hundreds2 = c .before .hundreds2 in
     let arm2 = c .match2 in
-    promised (rw (← (ones .ensures .0), ← (hundreds .ensures .0), enum-told .given .1, ← (hundreds2 .ensures .0)) (sym (kept _ _ (arm2 .keys2)))) (num-triple-taken _)
+    promised
+    (rw (← (ones .ensures .0), ← (hundreds .ensures .0), enum-told .given .1, ← (hundreds2 .ensures .0)) (sym (kept _ _ (arm2 .keys2))))
+    (num-triple-taken _)
 
 num-double-requires : tie.Need-num-double-requires
 num-double-requires c κs = search needs

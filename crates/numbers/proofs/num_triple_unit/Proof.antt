@@ -39,7 +39,9 @@ returns-3 c =
     let if2 = c .before .before .if2 in
     let is-at3 = c .before .is-at3 in
     let if3 = c .if3 in
-    promised (rw (← (is-at .ensures .0), if1 .left, ← (is-at2 .ensures .0), if2 .left, ← (is-at3 .ensures .0), if3 .taken)) (num-triple-unit-taken _)
+    promised
+    (rw (← (is-at .ensures .0), if1 .left, ← (is-at2 .ensures .0), if2 .left, ← (is-at3 .ensures .0), if3 .taken))
+    (num-triple-unit-taken _)
 
 returns-4 : tie.Need-returns-4
 unfolding numTripleUnitOf
@@ -50,7 +52,9 @@ returns-4 c =
     let if2 = c .before .before .if2 in
     let is-at3 = c .before .is-at3 in
     let if3 = c .if3 in
-    promised (rw (← (is-at .ensures .0), if1 .left, ← (is-at2 .ensures .0), if2 .left, ← (is-at3 .ensures .0), if3 .left)) (num-triple-unit-taken _)
+    promised
+    (rw (← (is-at .ensures .0), if1 .left, ← (is-at2 .ensures .0), if2 .left, ← (is-at3 .ensures .0), if3 .left))
+    (num-triple-unit-taken _)
 
 pub num-triple-unit-spec : {M : Type 1} → statement M
 num-triple-unit-spec =

@@ -22,7 +22,9 @@ enum-known-a c = search needs
 returns : tie.Need-returns
 unfolding tensOf
 returns c =
-    promised (rw (← (c .before .before .take-if .ensures .0), ← (c .before .word .ensures)) (sym (passed _ _ (c .match .keys2)))) (tens-taken _)
+    promised
+    (rw (← (c .before .before .take-if .ensures .0), ← (c .before .word .ensures)) (sym (passed _ _ (c .match .keys2))))
+    (tens-taken _)
 
 returns-2 : tie.Need-returns-2
 unfolding tensOf

@@ -29,7 +29,9 @@ add-tokens : tie.Need-add-tokens
 add-tokens c = search needs
 
 rest-requires : tie.Need-rest-requires
-rest-requires c κs = let b = found (c .before .before .n .given .1) (c .before .before .before .before .tens .ensures .1) in omega arith
+rest-requires c κs =
+    let b = found (c .before .before .n .given .1) (c .before .before .before .before .tens .ensures .1) in
+    omega arith
 
 ones-requires : tie.Need-ones-requires
 ones-requires c κs = search needs
@@ -85,7 +87,9 @@ returns-3 c =
     let rest = c .before .before .before .before .rest in
     let ones = c .before .before .before .ones in
     let m = c .before .m in
-    promised (rw (← (tens .ensures .0), n .given .1, ← (take-if .ensures .0), ← (rest .ensures .0), ← (ones .ensures .0), m .given .1)) (tens-ones-taken _)
+    promised
+    (rw (← (tens .ensures .0), n .given .1, ← (take-if .ensures .0), ← (rest .ensures .0), ← (ones .ensures .0), m .given .1))
+    (tens-ones-taken _)
 
 pub tens-ones-spec : {M : Type 1} → statement M
 tens-ones-spec =
