@@ -36,10 +36,13 @@ cases =
     -- words
     row (Twenty ∷ Dash ∷ Two ∷ Thousand ∷ And ∷ Three ∷ Hundred ∷ Five ∷ []) (Is 22305 8)
     ∷ row (Ninety ∷ Dash ∷ Nine ∷ []) (Is 99 3)
+    ∷ row (One ∷ Hundred ∷ []) (Is 100 2)
     ∷ row (Hundred ∷ And ∷ Five ∷ []) (Is 105 3)
+    ∷ row (Five ∷ Thousand ∷ []) (Is 5000 2)
     ∷ row (Thousand ∷ []) (Is 1000 1)
-    -- a dash is taken though no ones follow
+    -- a dash behind tens is taken though no ones follow; behind ones it is not
     ∷ row (Ninety ∷ Dash ∷ []) (Is 90 2)
+    ∷ row (Ninety ∷ Nine ∷ Dash ∷ []) (Is 99 2)
     -- after an `and` a number has to follow
     ∷ row (One ∷ Hundred ∷ And ∷ []) (Is 1 1)
     ∷ row (Hundred ∷ And ∷ []) Nothing
