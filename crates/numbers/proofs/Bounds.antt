@@ -13,8 +13,9 @@ use Rattle.numbers.specs.declared.Found.{Found}
 use Rattle.numbers.specs.declared.Found.the-variants.{Is, Nothing, Overflow}
 use Rattle.numbers.specs.Slices.{get, isAt, oneIf, within}
 use Rattle.numbers.specs.Answers.{MAX, Bounded, Taken, Read, orZero, fitsOf}
-use Rattle.numbers.specs.Numbers.{isEnding, wordOf, literalOf, onesOf, teensOf, tensOf, tensOnesOf, numDoubleOf, sumOf, tailOf, hundredsOf, numTripleOf, numTripleUnitOf, unitsOf, numStep, numIn, numOf}
+use Rattle.numbers.specs.Numbers.{isEnding, wordOf, literalOf, onesOf, teensOf, tensOf, tensOnesOf, numDoubleOf, sumOf, tailOf, hundredsOf, numTripleOf, numTripleUnitOf, unitsOf, numStep, numOf}
 use Rattle.numbers.proofs.Places.{one-most, within-bounds, at-most, there}
+use Rattle.numbers.proofs.Again.{again-keeps}
 use Rattle.numbers.proofs.Laws.{nothing, wider, read, pick-bounded, or-bounded, then-bounded}
 
 -- 0, which stands for what is past the end, is no ending
@@ -193,13 +194,7 @@ module _ (N : List ℕ → Found) (reads : (l : List ℕ) → Read (N l) 1 (leng
       (or-bounded _ _ (read (omega arith) (num-triple-taken l))
       (read (omega arith) (literal-taken l 1000 MAX 1 (omega arith) (omega arith)))))
 
--- in any number of turns
-in-read : (n : ℕ) (l : List ℕ) → Read (numIn n l) 1 (length l)
-unfolding numIn
-in-read zero l = nothing
-in-read (suc n) l = step-read (numIn n) (in-read n) l
-
 -- a number is a u32 of at least one lexeme and at most all
 pub num-read : (l : List ℕ) → Read (numOf l) 1 (length l)
 unfolding numOf
-num-read l = in-read (suc (length l)) l
+num-read l = again-keeps Nothing numStep (λ m w. Read w 1 (length m)) (λ m. nothing) step-read l

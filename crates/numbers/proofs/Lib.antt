@@ -1,4 +1,5 @@
 pub mod Places
+pub mod Again
 pub mod Laws
 pub mod Bounds
 pub mod Turns

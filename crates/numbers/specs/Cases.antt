@@ -7,7 +7,8 @@ use Rattle.numbers.specs.declared.Found.{Found}
 use Rattle.numbers.specs.declared.Found.the-variants.{Is, Nothing, Overflow}
 use Rattle.numbers.specs.Slices.{get, isAt, within}
 use Rattle.numbers.specs.Answers.{fitsOf}
-use Rattle.numbers.specs.Numbers.{isEnding, wordOf, literalOf, onesOf, teensOf, tensOf, tensOnesOf, numDoubleOf, sumOf, tailOf, hundredsOf, numTripleOf, numTripleUnitOf, unitsOf, numStep, numIn, numOf}
+use Rattle.numbers.specs.Numbers.{isEnding, wordOf, literalOf, onesOf, teensOf, tensOf, tensOnesOf, numDoubleOf, sumOf, tailOf, hundredsOf, numTripleOf, numTripleUnitOf, unitsOf, numStep, numOf}
+use Rattle.numbers.specs.Again.{turns, again}
 
 -- a row: the lexemes, and what is read of them
 pub record Case : Type 0 where
@@ -71,5 +72,5 @@ cases =
 
 -- each row is what `numOf` gives
 pub read-as-listed : map (λ c. numOf (c .lexemes)) cases ≡ map (λ c. c .reading) cases
-unfolding cases get isAt within isEnding wordOf literalOf onesOf teensOf tensOf tensOnesOf numDoubleOf sumOf tailOf hundredsOf numTripleOf numTripleUnitOf fitsOf unitsOf numStep numIn numOf
+unfolding cases get isAt within isEnding wordOf literalOf onesOf teensOf tensOf tensOnesOf numDoubleOf sumOf tailOf hundredsOf numTripleOf numTripleUnitOf fitsOf unitsOf numStep turns again numOf
 read-as-listed = refl

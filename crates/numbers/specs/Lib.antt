@@ -1,4 +1,5 @@
 pub mod Slices
+pub mod Again
 pub mod Answers
 pub mod Numbers
 pub mod Cases

@@ -1,12 +1,13 @@
 -- The number readers of ast.rs, `Ones` to `Num`: the same alternatives in the same order, on a list of lexemes.
-use Prim.Native.Nat.{ℕ, zero, suc, _+_, _-_, _*_, _%_}
+use Prim.Native.Nat.{ℕ, _+_, _-_, _*_, _%_}
 use mathlib.Core.Bool.{Bool}
 use mathlib.Core.List.{List}
 use lib.Dec.{eqb}
-use lib.ListN.{drop, length}
+use lib.ListN.{drop}
 use Rattle.lexer.specs.Lexemes.{One, Nine, Ten, Nineteen, Twenty, Ninety, Dash, And, Hundred, Thousand, Million, Billion, ST, ND, RD, TH, NUM}
 use Rattle.numbers.specs.declared.Found.{Found}
 use Rattle.numbers.specs.declared.Found.the-variants.{Is, Nothing, Overflow}
+use Rattle.numbers.specs.Again.{again}
 use Rattle.numbers.specs.Slices.{or, get, within, isAt, oneIf}
 use Rattle.numbers.specs.Answers.{MAX, pick, orElse, andThen, orZero, fitsOf}
 
@@ -99,11 +100,6 @@ numStep N l =
     (orElse (numTripleOf l)
     (literalOf l 1000 MAX 1)))
 
--- at most n turns
-unfoldable pub numIn : ℕ → List ℕ → Found
-numIn zero l = Nothing
-numIn (suc n) l = numStep (numIn n) l
-
--- `Num::parse`: the lexemes left fall at each turn, so that their number of turns is enough (`num-is`: numOf l ≡ numStep numOf l)
+-- `Num::parse`, which calls itself behind a unit word (`num-is`: numOf l ≡ numStep numOf l)
 unfoldable pub numOf : List ℕ → Found
-numOf l = numIn (suc (length l)) l
+numOf l = again Nothing numStep l
