@@ -1,16 +1,16 @@
 -- Laws of reading a list at a place: what a test that held says of the place and of the lexeme there.
 use mathlib.Core.Path.{_≡_, refl, sym, _∙_}
-use mathlib.Core.Bool.{Bool, true, false}
+use mathlib.Core.Bool.{Bool, true, false, _&&_}
 use mathlib.Core.List.{List}
 use Prim.Native.Nat.{ℕ, _+_, _≤_, _<_, max}
 use native.Mathlib.Omega.{arith}
 use lib.Dec.{leb, ltb, eqb}
 use lib.ListN.{length, getD}
 use borrow.Author.Tests.{leb-true, ltb-true}
-use Rattle.numbers.specs.Slices.{and, isAt, oneIf, within}
+use Rattle.numbers.specs.Slices.{isAt, oneIf, within}
 
 -- both parts of an `and`
-both : (p q : Bool) → and p q ≡ true → (p ≡ true) × (q ≡ true)
+both : (p q : Bool) → p && q ≡ true → (p ≡ true) × (q ≡ true)
 both true q e = (refl, e)
 both false true e = (e, refl)
 both false false e = (e, e)
@@ -28,7 +28,7 @@ within-bounds lo x hi e t =
     (leb-true lo x (h .0), leb-true x hi (h .1))
 
 -- a place where a test of the length held is there
-reach : (p q : Bool) (i n : ℕ) → ltb i n ≡ p → i + oneIf (and p q) ≤ max i n
+reach : (p q : Bool) (i n : ℕ) → ltb i n ≡ p → i + oneIf (p && q) ≤ max i n
 reach true true i n e = let h = ltb-true i n e in omega arith
 reach true false i n e = omega arith
 reach false q i n e = omega arith

@@ -1,6 +1,6 @@
 -- The number readers of ast.rs, `Ones` to `Num`: the same alternatives in the same order, on a list of lexemes.
 use Prim.Native.Nat.{ℕ, _+_, _-_, _*_, _%_}
-use mathlib.Core.Bool.{Bool}
+use mathlib.Core.Bool.{Bool, _||_}
 use mathlib.Core.List.{List}
 use lib.Dec.{eqb}
 use lib.ListN.{drop}
@@ -8,12 +8,12 @@ use Rattle.lexer.specs.Lexemes.{One, Nine, Ten, Nineteen, Twenty, Ninety, Dash,
 use Rattle.numbers.specs.declared.Found.{Found}
 use Rattle.numbers.specs.declared.Found.the-variants.{Is, Nothing, Overflow}
 use Rattle.numbers.specs.Again.{again}
-use Rattle.numbers.specs.Slices.{or, get, within, isAt, oneIf}
+use Rattle.numbers.specs.Slices.{get, within, isAt, oneIf}
 use Rattle.numbers.specs.Answers.{MAX, pick, orElse, andThen, orZero, fitsOf}
 
 -- `ST | RD | ND | TH`
 unfoldable pub isEnding : ℕ → Bool
-isEnding x = or (eqb x ST) (or (eqb x RD) (or (eqb x ND) (eqb x TH)))
+isEnding x = eqb x ST || (eqb x RD || (eqb x ND || eqb x TH))
 
 -- a number word from lo to hi, whose code is its value; `Zero` is none
 unfoldable pub wordOf : List ℕ → ℕ → ℕ → ℕ → Found
