@@ -1,1 +1,7 @@
+mod class;
+pub mod find;
+pub mod lex;
 pub mod lexeme;
+pub mod part;
+pub mod refusal;
+mod table;

@@ -1,0 +1,28 @@
+-- `lexer::table::lexeme_of` meets its contract. Assumes nothing.
+use mathlib.Core.Path.{_∙_}
+use native.Mathlib.Omega.{arith}
+use borrow.Author.Needs.{needs}
+use Rattle.lexer.specs.Keywords.{keywords}
+use Rattle.lexer.specs.Table.{sorted}
+use Rattle.lexer.proofs.Cells.{lexeme-cell}
+use Rattle.lexer.proofs.Rows.{rows-count, rows-short}
+use Rattle.lexer.proofs.table.lexeme_of.Statement.{statement}
+use Rattle.lexer.proofs.table.lexeme_of.Tie as tie
+
+mul-cell : tie.Need-mul-cell
+mul-cell c = search needs
+
+add-cell : tie.Need-add-cell
+add-cell c = search needs
+
+cell-requires : tie.Need-cell-requires
+cell-requires c κs = search needs
+
+cast-result : tie.Need-cast-result
+cast-result c = search needs
+
+returns : tie.Need-returns
+returns c = c .cell .ensures ∙ lexeme-cell (sorted keywords) rows-short (c .before .args .i) (omega (arith, rows-count))
+
+pub lexeme-of-spec : {M : Type 1} → statement M
+lexeme-of-spec = tie.close (tie.spec mul-cell add-cell cell-requires cast-result returns)
