@@ -7,3 +7,4 @@ pub mod Tabled
 pub mod Runs
 pub mod Lines
 pub mod Places
+pub mod Examples

@@ -12,7 +12,8 @@ use Rattle.lexer.specs.Words.{Word, meaning, folded}
 use Rattle.lexer.specs.Classes.{Gap, Letter, Digit, Mark, classOf, markOf}
 use Rattle.lexer.specs.Refusals.{TooLong, Meaningless, TooMany}
 use Rattle.lexer.specs.Lex.{runEnd, between, numberOf, ofWord, ofNumber, wordAt, numberAt, tokenOf, tokenFrom, tokenAt}
-use Rattle.lexer.specs.Lex.{Item, item, Lexed, refused, whole, ahead, ifTaken, lexFrom, lexed, startsOf, lineOf, Placed, placeOf, offendingOf}
+use Rattle.lexer.specs.Lex.{Item, item, Lexed, refused, whole, ahead, ifTaken, lexFrom, lexed}
+use Rattle.lexer.specs.Lex.{startsOf, lineOf, Placed, placeOf, offendingOf}
 use Rattle.lexer.specs.declared.find.Found.{Found}
 use Rattle.lexer.specs.declared.find.Found.the-variants.{Lexeme, Unknown}
 use Rattle.lexer.specs.declared.lex.Digits.{Digits}

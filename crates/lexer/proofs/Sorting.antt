@@ -39,7 +39,8 @@ meaning-insert x (y ∷ ys) w = go (isLess (ordered (y .spelling) (x .spelling))
         → meaning (cond b (y ∷ insert x ys) (x ∷ y ∷ ys)) w ≡ meaning (x ∷ y ∷ ys) w
     go true less later =
         ap (cond (isSame (ordered (y .spelling) w)) (Lexeme (y .lexeme))) later
-        ∙ exchanged (isSame (ordered (y .spelling) w)) (isSame (ordered (x .spelling) w)) (Lexeme (y .lexeme)) (Lexeme (x .lexeme)) (meaning ys w)
+        ∙ exchanged (isSame (ordered (y .spelling) w)) (isSame (ordered (x .spelling) w))
+        (Lexeme (y .lexeme)) (Lexeme (x .lexeme)) (meaning ys w)
         (never-both (y .spelling) (x .spelling) w less)
     go false not-less later = refl
 

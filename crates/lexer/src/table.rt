@@ -1,6 +1,6 @@
 // The words in byte order, a row of 14 numbers each: the word's bytes, filled up with zeros to 12, its length and its lexeme.
 ghost use mathlib.Core.Path.{_≡_};
-ghost use Prim.Native.Nat.{_≤_, _<_};
+ghost use Prim.Native.Nat.{_+_, _*_, _≤_, _<_};
 ghost use lib.ListN.{length, getD};
 ghost use Rattle.lexer.specs.Keywords.{keywords};
 ghost use Rattle.lexer.specs.Table.{sorted, cells, spellingAt, lexemeAt};
@@ -141,11 +141,12 @@ const WORDS: [u8; 1862] = *b"\
     zero\0\0\0\0\0\0\0\0\x04\x97\
 ";
 
-fn cell(k: usize) -> u8
-    requires { ⌜ k < 1862 ⌝ }
-    ensures { λ r. ⌜ r ≡ getD (cells (sorted keywords)) k 0 ⌝ }
+// Number j of row i.
+fn cell(i: usize, j: usize) -> u8
+    requires { ⌜ (i < 133) × (j < 14) ⌝ }
+    ensures { λ r. ⌜ r ≡ getD (cells (sorted keywords)) (i * 14 + j) 0 ⌝ }
 {
-    WORDS[k]
+    WORDS[i * 14 + j]
 }
 
 // How many bytes row i's word has.
@@ -153,7 +154,7 @@ pub fn length_of(i: usize) -> usize
     requires { ⌜ i < 133 ⌝ }
     ensures { λ r. ⌜ (r ≡ length (spellingAt (sorted keywords) i)) × (r ≤ 12) ⌝ }
 {
-    cell(i * 14 + 12) as usize
+    cell(i, 12) as usize
 }
 
 // Byte j of row i's word.
@@ -161,7 +162,7 @@ pub fn byte_of(i: usize, j: usize) -> u8
     requires { ⌜ (i < 133) × (j < length (spellingAt (sorted keywords) i)) ⌝ }
     ensures { λ r. ⌜ r ≡ getD (spellingAt (sorted keywords) i) j 0 ⌝ }
 {
-    cell(i * 14 + j)
+    cell(i, j)
 }
 
 // What row i's word means.
@@ -169,5 +170,5 @@ pub fn lexeme_of(i: usize) -> u64
     requires { ⌜ i < 133 ⌝ }
     ensures { λ r. ⌜ r ≡ lexemeAt (sorted keywords) i ⌝ }
 {
-    cell(i * 14 + 13) as u64
+    cell(i, 13) as u64
 }

@@ -19,15 +19,15 @@ Inv-loop i w n j₀ j = (j ≤ n) × (j ≤ length w)
 abbrev μ-loop : tie.MeasureT-loop
 μ-loop i w n j₀ j = n - j
 
-folded-length : (w : List ℕ) → length (folded w) ≡ length w
-folded-length w = length-map w lowerOf
-
--- the row's word, the folded word and the place of the byte that is compared
+-- the row's word and the folded word
 abbrev row : tie.At-loop Inv-loop μ-loop → List ℕ
 row at = spellingAt (sorted keywords) (at .before .before .before .args .i)
 
 abbrev looked : tie.At-loop Inv-loop μ-loop → List ℕ
 looked at = folded (at .before .before .before .args .w .now)
+
+looked-length : (at : tie.At-loop Inv-loop μ-loop) → length (looked at) ≡ length (at .before .before .before .args .w .now)
+looked-length at = length-map (at .before .before .before .args .w .now) lowerOf
 
 -- both bytes are read: they decide, or what follows them
 module _ (c : tie.After-lower Inv-loop μ-loop) where
@@ -51,7 +51,7 @@ module _ (c : tie.After-lower Inv-loop μ-loop) where
       let w = at .before .before .before .args .w .now in
       let j = at .loop .j in
       at .loop .inv .2
-      ∙ opened (row at) (looked at) j a b (omega arith) (omega (arith, folded-length w))
+      ∙ opened (row at) (looked at) j a b (omega arith) (omega (arith, looked-length at))
       (c .before .before .byte-of .ensures) (c .lower .ensures ∙ sym (List·getD-map lowerOf w j 0))
 
 length-of-requires : tie.Need-length-of-requires Inv-loop μ-loop
@@ -63,7 +63,7 @@ loop-holds c = (omega arith, omega arith, refl)
 returns : tie.Need-returns Inv-loop μ-loop
 returns c =
     let at = c .before .before in
-    sym (at .loop .inv .2 ∙ end-more (row at) (looked at) (at .loop .j) (omega arith) (omega (arith, folded-length (at .before .before .before .args .w .now))))
+    sym (at .loop .inv .2 ∙ end-more (row at) (looked at) (at .loop .j) (omega arith) (omega (arith, looked-length at)))
 
 byte-of-requires : tie.Need-byte-of-requires Inv-loop μ-loop
 byte-of-requires c κs = omega arith
@@ -94,12 +94,12 @@ loop-again c =
 returns-4 : tie.Need-returns-4 Inv-loop μ-loop
 returns-4 c =
     let at = c .before .before in
-    sym (at .loop .inv .2 ∙ end-less (row at) (looked at) (at .loop .j) (omega arith) (omega (arith, folded-length (at .before .before .before .args .w .now))))
+    sym (at .loop .inv .2 ∙ end-less (row at) (looked at) (at .loop .j) (omega arith) (omega (arith, looked-length at)))
 
 returns-5 : tie.Need-returns-5 Inv-loop μ-loop
 returns-5 c =
     let at = c .before .before in
-    sym (at .loop .inv .2 ∙ end-same (row at) (looked at) (at .loop .j) (omega arith) (omega (arith, folded-length (at .before .before .before .args .w .now))))
+    sym (at .loop .inv .2 ∙ end-same (row at) (looked at) (at .loop .j) (omega arith) (omega (arith, looked-length at)))
 
 pub compare-spec : {M : Type 1} → statement M
 compare-spec =

@@ -104,7 +104,8 @@ lexeme-of-requires c κs = omega arith
 returns : tie.Need-returns Inv-loop μ-loop
 returns c =
     let d = c .before .before .before in
-    let e : ordered (spellingAt (sorted keywords) (mid d)) (looked d) ≡ Same = sym (d .compare .ensures) ∙ c .before .enum-told2 .given .1 in
+    let e : ordered (spellingAt (sorted keywords) (mid d)) (looked d) ≡ Same =
+    sym (d .compare .ensures) ∙ c .before .enum-told2 .given .1 in
     let none = none-before (sorted keywords) rows-increasing (looked d) (mid d) (in-table d) e in
     ap Lexeme (c .lexeme-of .ensures)
     ∙ sym (present (sorted keywords) (looked d) (mid d) (in-table d) none e)

@@ -1,4 +1,4 @@
--- `lexer::lex::lex` meets its contract. The loop's invariant: what was read so far stands in front of what is left to read. Assumes nothing.
+-- `lexer::lex::lex` meets its contract. The loop's invariant: what was read so far stands in front of what is left. Assumes nothing.
 use mathlib.Core.Path.{_≡_, refl, sym, ap, _∙_}
 use mathlib.Core.List.{List, [], _∷_, _++_, append-nil}
 use Prim.Native.Nat.{ℕ, _+_, _-_, _≤_}

@@ -33,19 +33,23 @@ enum-told c = search needs
 
 returns : tie.Need-returns
 unfolding numberAt
-returns c = rw (← (c .before .before .before .before .run-end .ensures), ← (c .before .before .digits-value .ensures), c .enum-told .given .1)
+returns c =
+    let d = c .before .before in
+    rw (← (d .before .before .run-end .ensures), ← (d .digits-value .ensures), c .enum-told .given .1)
 
 add-t10 : tie.Need-add-t10
 add-t10 c =
-    let e = c .before .before .before .before .before .run-end .result in
-    let st = c .before .before .before .before .before .before .before in
-    let d = c .before .d .given in
-    omega (arith, value-most (between (st .args .s .now) (st .args .a) e) (d .0 .0) (sym (d .1) ∙ c .before .before .before .digits-value .ensures))
+    let d = c .before .before .before in
+    let st = d .before .before .before .before in
+    let e = d .before .before .run-end .result in
+    let v = c .before .d .given in
+    omega (arith, value-most (between (st .args .s .now) (st .args .a) e) (v .0 .0) (sym (v .1) ∙ d .digits-value .ensures))
 
 returns-2 : tie.Need-returns-2
 unfolding numberAt
 returns-2 c =
-    rw (← (c .before .before .before .before .before .run-end .ensures), ← (c .before .before .before .digits-value .ensures), c .before .d .given .1)
+    let d = c .before .before .before in
+    rw (← (d .before .before .run-end .ensures), ← (d .digits-value .ensures), c .before .d .given .1)
 
 pub number-at-spec : {M : Type 1} → statement M
 number-at-spec =

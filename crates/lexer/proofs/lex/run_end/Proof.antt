@@ -27,8 +27,8 @@ class-requires c κs = search needs
 returns : tie.Need-returns Inv-loop μ-loop
 returns c =
     let at = c .before .before .before .before in
-    let st = at .before .before in
-    omega (arith, run-stop (st .args .k) (st .args .s .now) (at .loop .e) (omega arith) (λ e. c .if1 .taken (c .before .class .ensures ∙ e)))
+    let args = at .before .before .args in
+    omega (arith, run-stop (args .k) (args .s .now) (at .loop .e) (omega arith) (λ e. c .if1 .taken (c .before .class .ensures ∙ e)))
 
 add-e : tie.Need-add-e Inv-loop μ-loop
 add-e c = omega arith
@@ -39,14 +39,14 @@ loop-less c = omega arith
 loop-again : tie.Need-loop-again Inv-loop μ-loop
 loop-again c =
     let at = c .before .before .before .before in
-    let st = at .before .before in
-    omega (arith, run-step (st .args .k) (st .args .s .now) (at .loop .e) (omega arith) (sym (c .before .class .ensures) ∙ c .if1 .left))
+    let args = at .before .before .args in
+    omega (arith, run-step (args .k) (args .s .now) (at .loop .e) (omega arith) (sym (c .before .class .ensures) ∙ c .if1 .left))
 
 returns-2 : tie.Need-returns-2 Inv-loop μ-loop
 returns-2 c =
     let at = c .before in
-    let st = at .before .before in
-    omega (arith, run-over (st .args .k) (st .args .s .now) (at .loop .e) (omega arith))
+    let args = at .before .before .args in
+    omega (arith, run-over (args .k) (args .s .now) (at .loop .e) (omega arith))
 
 pub run-end-spec : {M : Type 1} → statement M
 run-end-spec =

@@ -33,12 +33,15 @@ enum-told c = search needs
 
 returns : tie.Need-returns
 unfolding wordAt
-returns c = rw (← (c .before .before .before .before .run-end .ensures), ← (c .before .before .find .ensures), c .enum-told .given .1)
+returns c =
+    let d = c .before .before in
+    rw (← (d .before .before .run-end .ensures), ← (d .find .ensures), c .enum-told .given .1)
 
 returns-2 : tie.Need-returns-2
 unfolding wordAt
 returns-2 c =
-    rw (← (c .before .before .before .before .before .run-end .ensures), ← (c .before .before .before .find .ensures), c .before .f .given .1)
+    let d = c .before .before .before in
+    rw (← (d .before .before .run-end .ensures), ← (d .find .ensures), c .before .f .given .1)
 
 pub word-at-spec : {M : Type 1} → statement M
 word-at-spec =

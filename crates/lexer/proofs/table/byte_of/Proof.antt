@@ -14,12 +14,6 @@ use Rattle.lexer.proofs.table.byte_of.Tie as tie
 most : (c : tie.Start) → length (spellingAt (sorted keywords) (c .args .i)) ≤ 12
 most c = length-most (sorted keywords) rows-short (c .args .i) (omega (arith, rows-count))
 
-mul-cell : tie.Need-mul-cell
-mul-cell c = search needs
-
-add-cell : tie.Need-add-cell
-add-cell c = omega (arith, most c)
-
 cell-requires : tie.Need-cell-requires
 cell-requires c κs = omega (arith, most c)
 
@@ -29,4 +23,4 @@ returns c =
     c .cell .ensures ∙ byte-cell (sorted keywords) rows-short (st .args .i) (omega (arith, rows-count)) (st .args .j) (st .pre .1)
 
 pub byte-of-spec : {M : Type 1} → statement M
-byte-of-spec = tie.close (tie.spec mul-cell add-cell cell-requires returns)
+byte-of-spec = tie.close (tie.spec cell-requires returns)

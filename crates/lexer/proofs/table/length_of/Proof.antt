@@ -11,12 +11,6 @@ use Rattle.lexer.proofs.Rows.{rows-count, rows-short}
 use Rattle.lexer.proofs.table.length_of.Statement.{statement}
 use Rattle.lexer.proofs.table.length_of.Tie as tie
 
-mul-cell : tie.Need-mul-cell
-mul-cell c = search needs
-
-add-cell : tie.Need-add-cell
-add-cell c = search needs
-
 cell-requires : tie.Need-cell-requires
 cell-requires c κs = search needs
 
@@ -31,4 +25,4 @@ returns c =
     (e, omega (arith, length-most (sorted keywords) rows-short i h))
 
 pub length-of-spec : {M : Type 1} → statement M
-length-of-spec = tie.close (tie.spec mul-cell add-cell cell-requires cast-result returns)
+length-of-spec = tie.close (tie.spec cell-requires cast-result returns)

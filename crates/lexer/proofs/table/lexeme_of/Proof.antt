@@ -9,12 +9,6 @@ use Rattle.lexer.proofs.Rows.{rows-count, rows-short}
 use Rattle.lexer.proofs.table.lexeme_of.Statement.{statement}
 use Rattle.lexer.proofs.table.lexeme_of.Tie as tie
 
-mul-cell : tie.Need-mul-cell
-mul-cell c = search needs
-
-add-cell : tie.Need-add-cell
-add-cell c = search needs
-
 cell-requires : tie.Need-cell-requires
 cell-requires c κs = search needs
 
@@ -25,4 +19,4 @@ returns : tie.Need-returns
 returns c = c .cell .ensures ∙ lexeme-cell (sorted keywords) rows-short (c .before .args .i) (omega (arith, rows-count))
 
 pub lexeme-of-spec : {M : Type 1} → statement M
-lexeme-of-spec = tie.close (tie.spec mul-cell add-cell cell-requires cast-result returns)
+lexeme-of-spec = tie.close (tie.spec cell-requires cast-result returns)
