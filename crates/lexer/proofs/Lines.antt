@@ -1,10 +1,10 @@
 -- The lexemes of a phrase, one after the other, and the arrays that they fill. Assumes nothing.
 use mathlib.Core.Path.{_≡_, refl, sym, ap, _∙_}
 use mathlib.Core.List.{List, [], _∷_, _++_, map, append-assoc, map-append}
-use Prim.Native.Nat.{ℕ, zero, suc, _-_, _<_}
+use Prim.Native.Nat.{ℕ, zero, suc, _-_, _≤_, _<_}
 use native.Mathlib.Omega.{arith}
-use lib.ListN.{length, set, replicate, length-append, length-map}
-use lib.Seq.{set-append-seam, append-snoc}
+use lib.ListN.{length, getD, take, set, replicate, length-append, length-replicate, length-map, List·getD-append}
+use lib.Seq.{take-at, set-append-seam, append-snoc}
 use Rattle.lexer.specs.Words.{Word}
 use Rattle.lexer.specs.Refusals.{TooMany}
 use Rattle.lexer.specs.Lex.{tokenAt, Item, item, Lexed, refused, whole, ahead, lexFrom, filled}
@@ -34,6 +34,16 @@ ahead-none (whole l) = refl
 pub ahead-more : (l m : List Item) (r : Lexed) → ahead l (ahead m r) ≡ ahead (l ++ m) r
 ahead-more l m (refused n a e) = refl
 ahead-more l m (whole k) = ap whole (sym (append-assoc l m k))
+
+-- what is filled up begins with the list itself: the codes that a reader takes, and each lexeme's place
+pub filled-taken : (l : List ℕ) (n : ℕ) → length l ≡ n → take n (filled l) ≡ l
+filled-taken l n e = take-at l (replicate (64 - length l) 0) n e
+
+pub filled-at : (l : List ℕ) (k : ℕ) → k < length l → getD (filled l) k 0 ≡ getD l k 0
+filled-at l k h = List·getD-append l (replicate (64 - length l) 0) 0 k h
+
+pub filled-length : (l : List ℕ) → length l ≤ 64 → length (filled l) ≡ 64
+filled-length l h = simp (length-append, length-replicate) (omega arith)
 
 -- one more at the end of what is filled up
 filled-more : (l : List ℕ) (n v : ℕ) → length l ≡ n → n < 64 → set (filled l) n v ≡ filled (l ++ (v ∷ []))

@@ -2,18 +2,18 @@
 use mathlib.Core.Path.{_≡_, refl}
 use mathlib.Core.Bool.{Bool, true, false, cond}
 use mathlib.Core.List.{List, [], _∷_}
-use Prim.Native.Nat.{ℕ, zero, suc, _+_, _-_, _≤_, _<_, zero-le, suc-le-suc}
+use Prim.Native.Nat.{ℕ, zero, suc, _+_, _≤_, _<_, zero-le, suc-le-suc}
 use native.Mathlib.Nat.{not-suc-le-zero, le-of-suc-le-suc}
 use native.Mathlib.Omega.{arith}
 use lib.Dec.{eqb, leb, ltb}
 use borrow.Author.Tests.{ltb-true}
-use lib.ListN.{length, getD, replicate, length-map, List·getD-append}
+use lib.ListN.{length, getD, length-map}
 use Rattle.lexer.specs.Words.{Word, meaning, folded}
 use Rattle.lexer.specs.Classes.{Gap, Letter, Digit, Mark, classOf, markOf}
 use Rattle.lexer.specs.Refusals.{TooLong, Meaningless, TooMany}
 use Rattle.lexer.specs.Lex.{runEnd, between, numberOf, ofWord, ofNumber, wordAt, numberAt, tokenOf, tokenFrom, tokenAt}
 use Rattle.lexer.specs.Lex.{Item, item, Lexed, refused, whole, ahead, ifTaken, lexFrom, lexed}
-use Rattle.lexer.specs.Lex.{startsOf, lineOf, Placed, placeOf, offendingOf}
+use Rattle.lexer.specs.Lex.{codesOf, startsOf, lineOf, Placed, placeOf, offendingOf}
 use Rattle.lexer.specs.declared.find.Found.{Found}
 use Rattle.lexer.specs.declared.find.Found.the-variants.{Lexeme, Unknown}
 use Rattle.lexer.specs.declared.lex.Digits.{Digits}
@@ -22,6 +22,7 @@ use Rattle.lexer.specs.declared.lex.Line.{Line}
 use Rattle.lexer.specs.declared.lex.Token.{Token}
 use Rattle.lexer.specs.declared.lex.Token.the-variants.{Finish, Taken, Refused}
 use Rattle.lexer.proofs.Runs.{run-within}
+use Rattle.lexer.proofs.Lines.{filled-at, filled-length}
 
 -- the bytes from a up to e begin and end within the first n
 record Part (a e n : ℕ) : Type 0 where
@@ -119,15 +120,24 @@ below-at n (i ∷ l) b (suc k) h = below-at n l (b .1) k (le-of-suc-le-suc h)
 
 line-placed : (n : ℕ) (r : Lexed) → Fits 64 n r → Placed n (lineOf r)
 line-placed n (refused m a e) h =
-    record { count-most = zero-le; place-end = h .0; end-most = h .1; start-below = λ k l. absurd (not-suc-le-zero l) }
+    record {
+      count-most = zero-le;
+      codes-length = refl;
+      starts-length = refl;
+      place-end = h .0;
+      end-most = h .1;
+      start-below = λ k l. absurd (not-suc-le-zero l);
+    }
 line-placed n (whole l) h =
+    let codes : length (codesOf l) ≡ length l = length-map l (λ (i : Item). i .code) in
+    let starts : length (startsOf l) ≡ length l = length-map l (λ (i : Item). i .start) in
     record {
       count-most = h .0;
+      codes-length = filled-length (codesOf l) (omega arith);
+      starts-length = filled-length (startsOf l) (omega arith);
       place-end = zero-le;
       end-most = zero-le;
-      start-below = λ k b.
-          rw (List·getD-append (startsOf l) (replicate (64 - length (startsOf l)) 0) 0 k (omega (arith, length-map l (λ (i : Item). i .start))))
-          (below-at n l (h .1) k b);
+      start-below = λ k b. rw (filled-at (startsOf l) k (omega arith)) (below-at n l (h .1) k b);
     }
 
 -- an answer that is the right one stands where its bounds say

@@ -1,6 +1,7 @@
 -- How a phrase is cut into lexemes. Assumes nothing.
 use Prim.Native.Nat.{ℕ, suc, zero, _+_, _-_, _*_, _≤_, _<_}
 use Prim.Native.Char.{code}
+use mathlib.Core.Path.{_≡_}
 use mathlib.Core.Bool.{cond}
 use mathlib.Core.List.{List, [], _∷_, _++_, map}
 use lib.Dec.{ltb, leb, eqb}
@@ -131,6 +132,8 @@ lineOf (whole l) =
 -- where an answer stands in a phrase of n bytes: what callers need of it to cut the phrase and the arrays
 pub record Placed (n : ℕ) (r : Line) : Type 0 where
   pub count-most : r .count ≤ 64
+  pub codes-length : length (r .codes) ≡ 64
+  pub starts-length : length (r .starts) ≡ 64
   pub place-end : r .place ≤ r .end
   pub end-most : r .end ≤ n
   pub start-below : (k : ℕ) → k < r .count → getD (r .starts) k 0 < n
