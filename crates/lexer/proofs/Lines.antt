@@ -53,6 +53,6 @@ filled-more l n v e h =
     rw (r, q, ← e) (set-append-seam l 0 (replicate (63 - length l) 0) v ∙ sym (append-snoc l v (replicate (63 - length l) 0)))
 
 -- an array that holds a field of each lexeme, with one lexeme more
-pub more : (f : Item → ℕ) (l : List Item) (i : Item) (n : ℕ) {a : List ℕ} → length l ≡ n → n < 64 → a ≡ filled (map f l)
+pub array-more : (f : Item → ℕ) (l : List Item) (i : Item) (n : ℕ) {a : List ℕ} → length l ≡ n → n < 64 → a ≡ filled (map f l)
     → set a n (f i) ≡ filled (map f (l ++ (i ∷ [])))
-more f l i n e h q = rw (q, map-append) (filled-more (map f l) n (f i) (length-map l f ∙ e) h)
+array-more f l i n e h q = rw (q, map-append) (filled-more (map f l) n (f i) (length-map l f ∙ e) h)

@@ -75,7 +75,9 @@ unfolding tokenAt
 token-within ws s at = go (ltb (runEnd Gap s at) (length s)) refl
   where
     go : (b : Bool) → ltb (runEnd Gap s at) (length s) ≡ b → Within (length s) (tokenFrom ws s (runEnd Gap s at))
-    go true e = simp e (token-of-within ws s (runEnd Gap s at) (ltb-true (runEnd Gap s at) (length s) e) (classOf (getD s (runEnd Gap s at) 0)))
+    go true e =
+        let a = runEnd Gap s at in
+        simp e (token-of-within ws s a (ltb-true a (length s) e) (classOf (getD s a 0)))
     go false e = simp e tt
 
 -- each lexeme begins within the first n bytes

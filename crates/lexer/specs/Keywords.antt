@@ -11,6 +11,7 @@ use Rattle.lexer.specs.Lexemes.{Twenty, Thirty, Fourty, Fifty, Sixty, Se
 use Rattle.lexer.specs.Lexemes.{ST, ND, RD}
 use Rattle.lexer.specs.Words.{Word, word}
 
+-- the 133 words, each with the lexeme that it gives
 unfoldable pub keywords : List Word
 keywords =
     word "on" On ∷

@@ -84,6 +84,7 @@ pub data Lexed : Type 0 where
   refused : ℕ → ℕ → ℕ → Lexed
   whole : List Item → Lexed
 
+-- a lexeme of code k whose first byte stands at a
 abbrev pub item : ℕ → ℕ → Item
 item k a = record { code = k; start = a }
 

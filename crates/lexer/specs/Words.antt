@@ -2,7 +2,7 @@
 use Prim.Native.Nat.{ℕ, _+_}
 use Prim.Native.Char.{code}
 use Prim.Native.String.{String, [] as []ˢ, _∷_ as _∷ˢ_}
-use mathlib.Core.Bool.{Bool, true, false, cond}
+use mathlib.Core.Bool.{Bool, true, false, _&&_, cond}
 use mathlib.Core.List.{List, [], _∷_, map}
 use lib.Dec.{ltb, leb}
 use Rattle.lexer.specs.declared.find.Order.{Order}
@@ -44,7 +44,7 @@ meaning (x ∷ xs) w = cond (isSame (ordered (x .spelling) w)) (Lexeme (x .lexem
 
 -- "Letters fold to lower case": a capital letter's small one, any other byte itself
 abbrev pub lowerOf : ℕ → ℕ
-lowerOf b = cond (leb 65 b) (cond (leb b 90) (b + 32) b) b
+lowerOf b = cond (leb (code "A") b && leb b (code "Z")) (b + 32) b
 
 -- a word as it is looked up
 abbrev pub folded : List ℕ → List ℕ

@@ -19,6 +19,7 @@ pub const DIGIT: u8 = 2;
 // It is a lexeme by itself. A byte with no meaning has class 4.
 pub const MARK: u8 = 3;
 
+// The class of each byte, 16 to a line.
 const CLASS: [u8; 256] = *b"\
     \x04\x04\x04\x04\x04\x04\x04\x04\x04\x00\x04\x04\x04\x04\x04\x04\
     \x04\x04\x04\x04\x04\x04\x04\x04\x04\x04\x04\x04\x04\x04\x04\x04\

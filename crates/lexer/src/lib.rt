@@ -1,3 +1,5 @@
+// The lexer: a phrase, as bytes, cut into lexemes.
+
 mod class;
 pub mod find;
 pub mod lex;

@@ -1,8 +1,8 @@
 #!/usr/bin/env python3
 """What lexing answers, worked out apart from the code: writes this program's stdin and the stdout that it must give.
 
-The rules are those of docs/01-scope.md (the refusal table and module 2); the words are the `map.insert` lines of the Rust's lexer.rs and
-the lexemes the variants of its enum, both in their order.
+The rules are those of document 01 (the refusal table and module 2), the words are the `map.insert` lines of the Rust's lexer.rs and the
+lexemes the variants of its enum, both in their order.
 Use: python3 expected.py   (it writes ../stdin and ../stdout)
 """
 import pathlib
@@ -34,9 +34,9 @@ Sixteen Seventeen Eighteen Nineteen Twenty Thirty Fourty Fifty Sixty Seventy Eig
 RD TH
 """
 
-ONES = "One Two Three Four Five Six Seven Eight Nine Ten Eleven Twelve Thirteen Fourteen Fifteen Sixteen Seventeen Eighteen Nineteen".split()
-TENS = "Twenty Thirty Fourty Fifty Sixty Seventy Eighty Ninety".split()
-VALUES = {name: k + 1 for k, name in enumerate(ONES)} | {name: 20 + 10 * k for k, name in enumerate(TENS)}
+ONES = "One Two Three Four Five Six Seven Eight Nine Ten Eleven Twelve Thirteen Fourteen Fifteen Sixteen Seventeen Eighteen Nineteen"
+TENS = "Twenty Thirty Fourty Fifty Sixty Seventy Eighty Ninety"
+VALUES = {name: k + 1 for k, name in enumerate(ONES.split())} | {name: 20 + 10 * k for k, name in enumerate(TENS.split())}
 # a number word's code is its value; every other lexeme but Num has its code from 100 on
 OTHERS = [name for name in LEXEMES.split() if name not in VALUES and name != "Num"]
 CODES = VALUES | {name: 100 + k for k, name in enumerate(OTHERS)}
@@ -109,22 +109,25 @@ def cases():
     yield from [b"9" * 30, b"1" + b"0" * 30, b"0" * 200, b"0" * 255 + b"7", b"18446744073709551616", b"18446744073709551617"]
     yield from [b"36893488147419103232", b"4294967296" * 25, b"340282366920938463463374607431768211456"]
     # letters beside digits, marks and gaps
-    yield from [b"10am", b"5pm5", b"am10pm", b"march4th", b"1st2nd3rd4th", b"x1", b"1x", b"a1a1", b"monday-friday", b"5:00-6:00", b"5.2/2022,"]
+    yield from [b"10am", b"5pm5", b"am10pm", b"march4th", b"1st2nd3rd4th", b"x1", b"1x", b"a1a1"]
+    yield from [b"monday-friday", b"5:00-6:00", b"5.2/2022,"]
     yield from [b"\tnow\t", b" \t \t", b"now\rnow", b"now\x0bnow", b"now\x00", b"\x00", b"-/.,:", b"--", b":::", b"a,b", b"now;", b"(now)"]
-    yield from [b"@", b"[", b"`", b"{", b"A@Z[a`z{", b"/0", b"9:", b"now\x80", b"\xc3\xa9t\xc3\xa9", b"m\xc3\xa4rz", b"\xff\xfe", b"\xc1\xda\xe1\xfa"]
+    yield from [b"@", b"[", b"`", b"{", b"A@Z[a`z{", b"/0", b"9:"]
+    yield from [b"now\x80", b"\xc3\xa9t\xc3\xa9", b"m\xc3\xa4rz", b"\xff\xfe", b"\xc1\xda\xe1\xfa"]
     # the paper's phrases
     yield from [b"friday", b"wednesday", b"next friday", b"last friday", b"this monday", b"tuesday in two weeks", b"friday next 5:00"]
     yield from [b"5/2/2022", b"5.2.2022", b"1000/1/1", b"1001/1/1", b"5/2", b"5/2 at noon", b"march 4th", b"march 24th", b"january 1, 2010"]
-    yield from [b"march 3 5 pm", b"twenty-march 2024", b"0 days ago", b"zero days ago", b"one hundred and days ago", b"four billion days ago"]
-    yield from [b"five billion days ago", b"4294967295 years from now", b"this month", b"a year from now", b"12 months from now", b"forty days ago"]
+    yield from [b"march 3 5 pm", b"twenty-march 2024", b"0 days ago", b"zero days ago", b"one hundred and days ago"]
+    yield from [b"four billion days ago", b"five billion days ago", b"4294967295 years from now", b"this month", b"a year from now"]
+    yield from [b"12 months from now", b"forty days ago"]
     # the Rust's own tests
     yield from [b"fifty-five days from january 1, 2010 5:00", b"Hello World"]
     # phrases at random
     draw = random.Random(1)
     pieces = list(WORDS) + list(MARKS) + [b" ", b"\t", b"soon", b"?", b"0", b"7", b"31", b"2024", b"4294967295", b"4294967296", b"\xe9"]
     for _ in range(400):
-        gap = draw.choice([b" ", b"", b"  "])
-        yield gap.join(mixed_case(piece) if draw.random() < 0.2 and piece.isalpha() else piece for piece in draw.choices(pieces, k=draw.randint(1, 12)))
+        drawn = draw.choices(pieces, k=draw.randint(1, 12))
+        yield draw.choice([b" ", b"", b"  "]).join(mixed_case(piece) if piece.isalpha() and draw.random() < 0.2 else piece for piece in drawn)
 
 
 phrases = list(cases())

@@ -44,6 +44,7 @@ fn write_answer(phrase: &[u8]) {
     io::write_all(STDOUT_FILENO, b"\n");
 }
 
+// Every single byte as a phrase.
 fn write_bytes() {
     let mut b: u64 = 0;
     while b < 256 {
@@ -52,6 +53,7 @@ fn write_bytes() {
     }
 }
 
+// Each line as a phrase; bytes behind the last line feed, if any, are a line.
 fn write_lines(text: &[u8]) {
     let mut at: usize = 0;
     while at < text.len() {

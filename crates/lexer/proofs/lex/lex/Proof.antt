@@ -7,9 +7,9 @@ use borrow.Author.Needs.{needs}
 use borrow.Author.Tests.{le-leb, lt-leb}
 use lib.ListN.{length, length-append}
 use Rattle.lexer.specs.Keywords.{keywords}
-use Rattle.lexer.specs.Lex.{tokenAt, Item, item, whole, ahead, lexFrom, lexed, filled, codesOf, startsOf, lineOf}
+use Rattle.lexer.specs.Lex.{tokenAt, Item, item, ahead, lexFrom, lexed, filled, codesOf, startsOf}
 use Rattle.lexer.specs.declared.lex.Token.the-variants.{Finish, Taken, Refused}
-use Rattle.lexer.proofs.Lines.{lex-finish, lex-refused, lex-full, lex-taken, ahead-none, ahead-more, more}
+use Rattle.lexer.proofs.Lines.{lex-finish, lex-refused, lex-full, lex-taken, ahead-none, ahead-more, array-more}
 use Rattle.lexer.proofs.Places.{answered}
 use Rattle.lexer.proofs.lex.lex.Statement.{statement}
 use Rattle.lexer.proofs.lex.lex.Tie as tie
@@ -34,11 +34,21 @@ abbrev phrase : tie.At-loop Inv-loop μ-loop → List ℕ
 phrase at = at .before .before .before .args .s .now
 
 -- the token there is a lexeme
-taken : (d : tie.After-t2 Inv-loop μ-loop)
-    → let at = d .before .before .before in
-    let g = d .t2 .given .0 in
-    tokenAt keywords (phrase at) (at .loop .at) ≡ Taken (g .0) (g .1 .0) (g .1 .1 .0)
-taken d = sym (d .before .before .token-at .ensures) ∙ d .t2 .given .1
+module _ (d : tie.After-t2 Inv-loop μ-loop) where
+  abbrev at : tie.At-loop Inv-loop μ-loop
+  at = d .before .before .before
+
+  abbrev code : ℕ
+  code = d .t2 .given .0 .0
+
+  abbrev start : ℕ
+  start = d .t2 .given .0 .1 .0
+
+  abbrev end : ℕ
+  end = d .t2 .given .0 .1 .1 .0
+
+  taken : tokenAt keywords (phrase at) (at .loop .at) ≡ Taken code start end
+  taken = sym (d .before .before .token-at .ensures) ∙ d .t2 .given .1
 
 refuse-requires : tie.Need-refuse-requires Inv-loop μ-loop
 refuse-requires c κs = search needs
@@ -71,15 +81,15 @@ enum-told c = search needs
 returns-2 : tie.Need-returns-2 Inv-loop μ-loop
 returns-2 c =
     let at = c .before .before .before in
-    let inv = at .loop .inv in
-    let e : tokenAt keywords (phrase at) (at .loop .at) ≡ Finish = sym (c .before .before .token-at .ensures) ∙ c .enum-told .given .1 in
+    let l = at .loop in
+    let e : tokenAt keywords (phrase at) (l .at) ≡ Finish = sym (c .before .before .token-at .ensures) ∙ c .enum-told .given .1 in
     answered keywords (phrase at) (rw (
-      inv .read,
-      lex-finish keywords (phrase at) (at .loop .at) (64 - at .loop .n) e,
-      append-nil (inv .done),
-      inv .count,
-      ← (inv .codes-are),
-      ← (inv .starts-are),
+      l .inv .read,
+      lex-finish keywords (phrase at) (l .at) (64 - l .n) e,
+      append-nil (l .inv .done),
+      l .inv .count,
+      ← (l .inv .codes-are),
+      ← (l .inv .starts-are),
     ))
 
 enum-known-t : tie.Need-enum-known-t Inv-loop μ-loop
@@ -92,13 +102,13 @@ returns-3 : tie.Need-returns-3 Inv-loop μ-loop
 returns-3 c =
     let d = c .before .before in
     let at = d .before .before .before in
-    let inv = at .loop .inv in
-    let g = d .t .given .0 in
-    let e : tokenAt keywords (phrase at) (at .loop .at) ≡ Refused (g .0) (g .1 .0) (g .1 .1 .0) =
-    sym (d .before .before .token-at .ensures) ∙ d .t .given .1 in
+    let l = at .loop in
+    let g = d .t .given in
+    let e : tokenAt keywords (phrase at) (l .at) ≡ Refused (g .0 .0) (g .0 .1 .0) (g .0 .1 .1 .0) =
+    sym (d .before .before .token-at .ensures) ∙ g .1 in
     answered keywords (phrase at) (rw (
-      inv .read,
-      lex-refused keywords (phrase at) (at .loop .at) (64 - at .loop .n) (g .0) (g .1 .0) (g .1 .1 .0) e,
+      l .inv .read,
+      lex-refused keywords (phrase at) (l .at) (64 - l .n) (g .0 .0) (g .0 .1 .0) (g .0 .1 .1 .0) e,
     ) (c .refuse2 .ensures))
 
 enum-known-t-2 : tie.Need-enum-known-t-2 Inv-loop μ-loop
@@ -110,11 +120,10 @@ refuse-requires-3 c κs = search needs
 returns-4 : tie.Need-returns-4 Inv-loop μ-loop
 returns-4 c =
     let d = c .before .before .before in
-    let at = d .before .before .before in
-    let g = d .t2 .given .0 in
-    answered keywords (phrase at) (rw (
-      at .loop .inv .read,
-      lex-full keywords (phrase at) (at .loop .at) (64 - at .loop .n) (g .0) (g .1 .0) (g .1 .1 .0) (omega arith) (taken d),
+    let l = at d .loop in
+    answered keywords (phrase (at d)) (rw (
+      l .inv .read,
+      lex-full keywords (phrase (at d)) (l .at) (64 - l .n) (code d) (start d) (end d) (omega arith) (taken d),
     ) (c .refuse3 .ensures))
 
 mul-codes : tie.Need-mul-codes Inv-loop μ-loop
@@ -138,21 +147,21 @@ loop-less c = omega arith
 loop-again : tie.Need-loop-again Inv-loop μ-loop
 loop-again c =
     let d = c .before .before in
-    let at = d .before .before .before in
-    let inv = at .loop .inv in
-    let g = d .t2 .given .0 in
-    let n = at .loop .n in
+    let s = phrase (at d) in
+    let l = at d .loop in
+    let n = l .n in
+    let i = item (code d) (start d) in
+    let done = l .inv .done in
     record {
-      done = inv .done ++ (item (g .0) (g .1 .0) ∷ []);
-      count = simp length-append (omega (arith, inv .count));
+      done = done ++ (i ∷ []);
+      count = simp length-append (omega (arith, l .inv .count));
       room = omega arith;
-      codes-are = more (λ (i : Item). i .code) (inv .done) (item (g .0) (g .1 .0)) n (inv .count) (omega arith) (inv .codes-are);
-      starts-are = more (λ (i : Item). i .start) (inv .done) (item (g .0) (g .1 .0)) n (inv .count) (omega arith) (inv .starts-are);
+      codes-are = array-more (λ (i : Item). i .code) done i n (l .inv .count) (omega arith) (l .inv .codes-are);
+      starts-are = array-more (λ (i : Item). i .start) done i n (l .inv .count) (omega arith) (l .inv .starts-are);
       read =
-          inv .read
-          ∙ ap (ahead (inv .done))
-          (lex-taken keywords (phrase at) (at .loop .at) (64 - n) (64 - (n + 1)) (g .0) (g .1 .0) (g .1 .1 .0) (omega arith) (taken d))
-          ∙ ahead-more (inv .done) (item (g .0) (g .1 .0) ∷ []) (lexFrom keywords (64 - (n + 1)) (phrase at) (g .1 .1 .0));
+          l .inv .read
+          ∙ ap (ahead done) (lex-taken keywords s (l .at) (64 - n) (64 - (n + 1)) (code d) (start d) (end d) (omega arith) (taken d))
+          ∙ ahead-more done (i ∷ []) (lexFrom keywords (64 - (n + 1)) s (end d));
     }
 
 pub lex-spec : {M : Type 1} → statement M

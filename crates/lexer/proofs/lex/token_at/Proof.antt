@@ -39,7 +39,8 @@ number-at-requires c κs = search needs
 
 returns-3 : tie.Need-returns-3
 returns-3 c =
-    rw (begun (c .before .before .before), ne-eqb _ _ (c .before .before .if2 .left), eq-eqb _ _ (c .before .if3 .taken)) (c .number-at .ensures)
+    let at = c .before in
+    rw (begun (at .before .before), ne-eqb _ _ (at .before .if2 .left), eq-eqb _ _ (at .if3 .taken)) (c .number-at .ensures)
 
 shared-slice-read-mark : tie.Need-shared-slice-read-mark
 shared-slice-read-mark c = search needs

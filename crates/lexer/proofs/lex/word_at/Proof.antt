@@ -1,5 +1,4 @@
 -- `lexer::lex::word_at` meets its contract. Assumes nothing.
-use mathlib.Core.Path.{_≡_}
 use native.Mathlib.Omega.{arith}
 use borrow.Author.Needs.{needs}
 use Rattle.lexer.specs.Classes.{Letter}

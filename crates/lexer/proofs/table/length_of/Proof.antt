@@ -1,13 +1,8 @@
 -- `lexer::table::length_of` meets its contract. Assumes nothing.
-use mathlib.Core.Path.{_≡_, _∙_}
-use Prim.Native.Nat.{_<_}
+use mathlib.Core.Path.{_∙_}
 use native.Mathlib.Omega.{arith}
 use borrow.Author.Needs.{needs}
-use lib.ListN.{length}
-use Rattle.lexer.specs.Keywords.{keywords}
-use Rattle.lexer.specs.Table.{sorted, spellingAt}
-use Rattle.lexer.proofs.Cells.{length-cell, length-most}
-use Rattle.lexer.proofs.Rows.{rows-count, rows-short}
+use Rattle.lexer.proofs.Rows.{row-length, row-most}
 use Rattle.lexer.proofs.table.length_of.Statement.{statement}
 use Rattle.lexer.proofs.table.length_of.Tie as tie
 
@@ -20,9 +15,8 @@ cast-result c = search needs
 returns : tie.Need-returns
 returns c =
     let i = c .before .args .i in
-    let h : i < length (sorted keywords) = omega (arith, rows-count) in
-    let e : c .cell .result ≡ length (spellingAt (sorted keywords) i) = c .cell .ensures ∙ length-cell (sorted keywords) rows-short i h in
-    (e, omega (arith, length-most (sorted keywords) rows-short i h))
+    let h = c .before .pre in
+    (c .cell .ensures ∙ row-length i h, omega (arith, c .cell .ensures, row-length i h, row-most i h))
 
 pub length-of-spec : {M : Type 1} → statement M
 length-of-spec = tie.close (tie.spec cell-requires cast-result returns)

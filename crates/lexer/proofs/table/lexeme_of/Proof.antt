@@ -1,11 +1,7 @@
 -- `lexer::table::lexeme_of` meets its contract. Assumes nothing.
 use mathlib.Core.Path.{_∙_}
-use native.Mathlib.Omega.{arith}
 use borrow.Author.Needs.{needs}
-use Rattle.lexer.specs.Keywords.{keywords}
-use Rattle.lexer.specs.Table.{sorted}
-use Rattle.lexer.proofs.Cells.{lexeme-cell}
-use Rattle.lexer.proofs.Rows.{rows-count, rows-short}
+use Rattle.lexer.proofs.Rows.{row-lexeme}
 use Rattle.lexer.proofs.table.lexeme_of.Statement.{statement}
 use Rattle.lexer.proofs.table.lexeme_of.Tie as tie
 
@@ -16,7 +12,7 @@ cast-result : tie.Need-cast-result
 cast-result c = search needs
 
 returns : tie.Need-returns
-returns c = c .cell .ensures ∙ lexeme-cell (sorted keywords) rows-short (c .before .args .i) (omega (arith, rows-count))
+returns c = c .cell .ensures ∙ row-lexeme (c .before .args .i) (c .before .pre)
 
 pub lexeme-of-spec : {M : Type 1} → statement M
 lexeme-of-spec = tie.close (tie.spec cell-requires cast-result returns)
