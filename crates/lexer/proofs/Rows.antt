@@ -26,7 +26,7 @@ rows-increasing = tt
 
 -- row i of the code's table
 module _ (i : ℕ) (h : i < 133) where
-  in-table : i < length (sorted keywords)
+  pub in-table : i < length (sorted keywords)
   in-table = omega (arith, rows-count)
 
   pub row-most : length (spellingAt (sorted keywords) i) ≤ 12

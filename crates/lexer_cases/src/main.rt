@@ -27,6 +27,14 @@ fn write_lexemes(codes: &[u64; 64], starts: &[u64; 64], count: usize)
     }
 }
 
+// A refusal, `refused 2 at 3 to 8 part 5`.
+fn write_refusal(number: u8, place: usize, end: usize, part: &[u8]) {
+    write_number(b"refused ", number as u64);
+    write_number(b" at ", place as u64);
+    write_number(b" to ", end as u64);
+    write_number(b" part ", part.len() as u64);
+}
+
 // What lexing answers to a phrase.
 fn write_answer(phrase: &[u8]) {
     let l = lex(phrase);
@@ -36,10 +44,7 @@ fn write_answer(phrase: &[u8]) {
         let starts = l.starts;
         write_lexemes(&codes, &starts, l.count);
     } else {
-        write_number(b"refused ", number as u64);
-        write_number(b" at ", l.place as u64);
-        write_number(b" to ", l.end as u64);
-        write_number(b" part ", offending(phrase).len() as u64);
+        write_refusal(number, l.place, l.end, offending(phrase));
     }
     io::write_all(STDOUT_FILENO, b"\n");
 }
@@ -63,6 +68,7 @@ fn write_lines(text: &[u8]) {
     }
 }
 
+// Standard input has fewer than 65,536 bytes: data/expected.py, which writes it, sees to that.
 fn main() {
     write_bytes();
     let mut text = io::large_buffer();

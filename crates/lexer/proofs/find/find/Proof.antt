@@ -15,7 +15,7 @@ use Rattle.lexer.specs.declared.find.Found.the-variants.{Lexeme}
 use Rattle.lexer.proofs.Order.{Tri, below, equal, above, tri, not-less-same, not-more-same}
 use Rattle.lexer.proofs.Sorting.{meaning-sorted}
 use Rattle.lexer.proofs.Halves.{all-less, all-more, none-before, absent, present}
-use Rattle.lexer.proofs.Rows.{rows-count, rows-increasing}
+use Rattle.lexer.proofs.Rows.{rows-count, rows-increasing, in-table}
 use Rattle.lexer.proofs.find.find.Statement.{statement}
 use Rattle.lexer.proofs.find.find.Tie as tie
 
@@ -54,8 +54,8 @@ module _ (c : tie.After-compare Inv-loop μ-loop) where
   abbrev mid : ℕ
   mid = at .loop .lo + (at .loop .hi - at .loop .lo - 1) / 2
 
-  in-table : mid < length (sorted keywords)
-  in-table = omega (arith, rows-count)
+  mid-in : mid < length (sorted keywords)
+  mid-in = in-table mid (omega arith)
 
 loop-holds : tie.Need-loop-holds Inv-loop μ-loop
 loop-holds c = (
@@ -91,7 +91,7 @@ loop-again c =
     let d = c .before .before in (
       omega arith,
       omega arith,
-      all-less (sorted keywords) rows-increasing (looked d) (mid d) (in-table d) (sym (d .compare .ensures) ∙ c .enum-told .given .1),
+      all-less (sorted keywords) rows-increasing (looked d) (mid d) (mid-in d) (sym (d .compare .ensures) ∙ c .enum-told .given .1),
       at d .loop .inv .3,
     )
 
@@ -106,9 +106,9 @@ returns c =
     let d = c .before .before .before in
     let e : ordered (spellingAt (sorted keywords) (mid d)) (looked d) ≡ Same =
     sym (d .compare .ensures) ∙ c .before .enum-told2 .given .1 in
-    let none = none-before (sorted keywords) rows-increasing (looked d) (mid d) (in-table d) e in
+    let none = none-before (sorted keywords) rows-increasing (looked d) (mid d) (mid-in d) e in
     ap Lexeme (c .lexeme-of .ensures)
-    ∙ sym (present (sorted keywords) (looked d) (mid d) (in-table d) none e)
+    ∙ sym (present (sorted keywords) (looked d) (mid d) (mid-in d) none e)
     ∙ meaning-sorted keywords (looked d)
 
 enum-told-3 : tie.Need-enum-told-3 Inv-loop μ-loop
@@ -123,7 +123,7 @@ loop-again-2 c =
       omega arith,
       omega arith,
       at d .loop .inv .2,
-      all-more (sorted keywords) rows-increasing (looked d) (mid d) (in-table d) (sym (d .compare .ensures) ∙ c .enum-told3 .given .1),
+      all-more (sorted keywords) rows-increasing (looked d) (mid d) (mid-in d) (sym (d .compare .ensures) ∙ c .enum-told3 .given .1),
     )
 
 returns-2 : tie.Need-returns-2 Inv-loop μ-loop
