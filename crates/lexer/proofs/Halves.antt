@@ -14,7 +14,7 @@ use Rattle.lexer.specs.declared.find.Order.{Order}
 use Rattle.lexer.specs.declared.find.Order.the-variants.{Less, Same, More}
 use Rattle.lexer.specs.declared.find.Found.{Found}
 use Rattle.lexer.specs.declared.find.Found.the-variants.{Lexeme, Unknown}
-use Rattle.lexer.proofs.Order.{Tri, below, equal, above, tri, same-equal, more-less, less-more, less-trans, not-less-same}
+use Rattle.lexer.proofs.Order.{Tri, below, equal, above, tri, same-equal, more-less, less-more, less-trans, clash}
 
 -- w comes before the first row
 abbrev before : Word → List Word → Bool
@@ -72,7 +72,7 @@ module _ (ws : List Word) (t : T (increasing ws)) (f : List ℕ) (m : ℕ) (hm :
 
   -- row m spells f: no row before it does
   pub none-before : ordered (spellingAt ws m) f ≡ Same → (k : ℕ) → k < m → ordered (spellingAt ws k) f ≡ Same → ⊥
-  none-before e k h = not-less-same (ap (ordered (spellingAt ws k)) (sym (same-equal (spellingAt ws m) f e)) ∙ rising ws t k m h hm)
+  none-before e k h d = clash (ap (ordered (spellingAt ws k)) (sym (same-equal (spellingAt ws m) f e)) ∙ rising ws t k m h hm) d tt
 
 -- a row that does not spell f is passed over
 passed : (o : Order) (a b : Found) → (o ≡ Same → ⊥) → cond (isSame o) a b ≡ b

@@ -1,11 +1,11 @@
 -- Byte order: it turns round, it is transitive, and only equal lists are the same. Assumes nothing.
 use mathlib.Core.Path.{_≡_, refl, sym, ap, _∙_}
-use mathlib.Core.Bool.{Bool, true, false}
+use mathlib.Core.Bool.{Bool, true, false, not}
 use mathlib.Core.List.{List, [], _∷_}
 use Prim.Native.Nat.{ℕ, _+_, _≤_, _<_}
 use native.Mathlib.Numerals.{add-one}
 use native.Mathlib.Omega.{arith}
-use lib.Dec.{ltb}
+use lib.Dec.{T, T-not, eqb, eqb-refl, ltb}
 use lib.ListN.{length, getD, drop, drop-of-length-le}
 use lib.Seq.{drop-cons}
 use borrow.Author.Tests.{lt-ltb, le-ltb, ltb-true, ltb-false}
@@ -27,15 +27,15 @@ tri x y = go (ltb x y) refl (ltb y x) refl
     go false e true f = above (ltb-true y x f)
     go false e false f = equal (omega (arith, ltb-false x y e, ltb-false y x f))
 
+-- Less, Same and More by a number
+abbrev rank : Order → ℕ
+rank Less = 0
+rank Same = 1
+rank More = 2
+
 -- no order is two of the three
-pub not-less-same : {A : Type 0} {o : Order} → o ≡ Less → o ≡ Same → A
-not-less-same p q = let z : _≡_ {A = ℕ} 0 1 = cc in absurd (omega arith)
-
-pub not-more-same : {A : Type 0} {o : Order} → o ≡ More → o ≡ Same → A
-not-more-same p q = let z : _≡_ {A = ℕ} 0 1 = cc in absurd (omega arith)
-
-not-less-more : {A : Type 0} {o : Order} → o ≡ Less → o ≡ More → A
-not-less-more p q = let z : _≡_ {A = ℕ} 0 1 = cc in absurd (omega arith)
+pub clash : {A : Type 0} {o p q : Order} → o ≡ p → o ≡ q → T (not (eqb (rank p) (rank q))) → A
+clash {p = p} {q = q} e f t = absurd (T-not (eqb (rank p) (rank q)) t (rw (sym e ∙ f) (eqb-refl (rank q))))
 
 -- the first bytes decide, or what follows them
 module _ (x y : ℕ) (xs ys : List ℕ) where
@@ -50,14 +50,14 @@ module _ (x y : ℕ) (xs ys : List ℕ) where
 
 pub same-equal : (a b : List ℕ) → ordered a b ≡ Same → a ≡ b
 same-equal [] [] h = refl
-same-equal [] (y ∷ ys) h = not-less-same refl h
-same-equal (x ∷ xs) [] h = not-more-same refl h
+same-equal [] (y ∷ ys) h = clash refl h tt
+same-equal (x ∷ xs) [] h = clash refl h tt
 same-equal (x ∷ xs) (y ∷ ys) h = go (tri x y) (same-equal xs ys)
   where
     go : Tri x y → (ordered xs ys ≡ Same → xs ≡ ys) → x ∷ xs ≡ y ∷ ys
-    go (below l) rests = not-less-same (head-less x y xs ys l) h
+    go (below l) rests = clash (head-less x y xs ys l) h tt
     go (equal e) rests = let t : xs ≡ ys = rests (sym (head-same x y xs ys e) ∙ h) in cc
-    go (above l) rests = not-more-same (head-more x y xs ys l) h
+    go (above l) rests = clash (head-more x y xs ys l) h tt
 
 -- the order of two words the other way round
 abbrev turned : Order → Order
@@ -84,21 +84,21 @@ less-more a b h = ordered-turned a b ∙ ap turned h
 
 pub less-trans : (a b c : List ℕ) → ordered a b ≡ Less → ordered b c ≡ Less → ordered a c ≡ Less
 less-trans [] [] c h l = l
-less-trans [] (y ∷ ys) [] h l = not-less-more l refl
+less-trans [] (y ∷ ys) [] h l = clash l refl tt
 less-trans [] (y ∷ ys) (z ∷ zs) h l = refl
-less-trans (x ∷ xs) [] c h l = not-less-more h refl
-less-trans (x ∷ xs) (y ∷ ys) [] h l = not-less-more l refl
+less-trans (x ∷ xs) [] c h l = clash h refl tt
+less-trans (x ∷ xs) (y ∷ ys) [] h l = clash l refl tt
 less-trans (x ∷ xs) (y ∷ ys) (z ∷ zs) h l = go (tri x y) (tri y z) (less-trans xs ys zs)
   where
     go : Tri x y → Tri y z → (ordered xs ys ≡ Less → ordered ys zs ≡ Less → ordered xs zs ≡ Less) → ordered (x ∷ xs) (z ∷ zs) ≡ Less
     go (below p) (below q) rests = head-less x z xs zs (omega arith)
     go (below p) (equal q) rests = head-less x z xs zs (omega arith)
-    go (below p) (above q) rests = not-less-more l (head-more y z ys zs q)
+    go (below p) (above q) rests = clash l (head-more y z ys zs q) tt
     go (equal p) (below q) rests = head-less x z xs zs (omega arith)
     go (equal p) (equal q) rests =
         head-same x z xs zs (p ∙ q) ∙ rests (sym (head-same x y xs ys p) ∙ h) (sym (head-same y z ys zs q) ∙ l)
-    go (equal p) (above q) rests = not-less-more l (head-more y z ys zs q)
-    go (above p) t rests = not-less-more h (head-more x y xs ys p)
+    go (equal p) (above q) rests = clash l (head-more y z ys zs q) tt
+    go (above p) t rests = clash h (head-more x y xs ys p) tt
 
 -- a comparison that has come to byte j of both: to a and b
 pub opened : (s f : List ℕ) (j a b : ℕ) → j < length s → j < length f → a ≡ getD s j 0 → b ≡ getD f j 0

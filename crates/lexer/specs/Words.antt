@@ -37,7 +37,7 @@ isSame Less = false
 isSame Same = true
 isSame More = false
 
--- `KEYWORDS.get(w)`: the lexeme of the first row that spells w
+-- `KEYWORDS.get(w)`: the lexeme of the first row that spells w (no word of the Rust's map stands twice)
 abbrev pub meaning : List Word → List ℕ → Found
 meaning [] w = Unknown
 meaning (x ∷ xs) w = cond (isSame (ordered (x .spelling) w)) (Lexeme (x .lexeme)) (meaning xs w)

@@ -12,7 +12,7 @@ use Rattle.lexer.specs.Words.{ordered, folded}
 use Rattle.lexer.specs.Table.{sorted, spellingAt}
 use Rattle.lexer.specs.declared.find.Order.the-variants.{Less, Same, More}
 use Rattle.lexer.specs.declared.find.Found.the-variants.{Lexeme}
-use Rattle.lexer.proofs.Order.{Tri, below, equal, above, tri, not-less-same, not-more-same}
+use Rattle.lexer.proofs.Order.{Tri, below, equal, above, tri, clash}
 use Rattle.lexer.proofs.Sorting.{meaning-sorted}
 use Rattle.lexer.proofs.Halves.{all-less, all-more, none-before, absent, present}
 use Rattle.lexer.proofs.Rows.{rows-count, rows-increasing, in-table}
@@ -39,9 +39,9 @@ none-left : (w : List ℕ) (lo hi : ℕ) → hi ≤ lo → Below w lo → Above 
 none-left w lo hi l low high k h = go (tri k lo)
   where
     go : Tri k lo → ordered (spellingAt (sorted keywords) k) (folded w) ≡ Same → ⊥
-    go (below a) = not-less-same (low k a)
-    go (equal a) = not-more-same (high k (omega arith) h)
-    go (above a) = not-more-same (high k (omega arith) h)
+    go (below a) e = clash (low k a) e tt
+    go (equal a) e = clash (high k (omega arith) h) e tt
+    go (above a) e = clash (high k (omega arith) h) e tt
 
 -- the middle row beside the word
 module _ (c : tie.After-compare Inv-loop μ-loop) where
