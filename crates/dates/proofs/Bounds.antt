@@ -8,12 +8,13 @@ use lib.Dec.{eqb}
 use lib.ListN.{length, drop, length-drop}
 use borrow.Author.Tests.{eqb-true}
 use Rattle.lexer.specs.Lexemes as lexeme
-use Rattle.numbers.specs.Slices.{get, within, oneIf}
+use Rattle.numbers.specs.Slices.{get, isAt, within, oneIf}
 use Rattle.numbers.specs.Numbers.{numOf}
-use Rattle.numbers.proofs.Bounds.{within-bounds, num-read}
+use Rattle.numbers.proofs.Bounds.{within-bounds, at-most, there, num-read}
 use Rattle.dates.specs.Parsed.{Parsed, is, nothing, overflow, pick, orElse, ifLet, andThen, parsedNumber, Took}
 use Rattle.dates.specs.Units.{isArticle, unitOf, monthOf, weekdayOf, relativeSpecifierOf}
-use Rattle.dates.proofs.Laws.{number-took, nothing-took, one-took}
+use Rattle.dates.specs.Times.{minuteOf, halfOf, clockOf, timeOf}
+use Rattle.dates.proofs.Laws.{number-took, nothing-took, pick-took, one-took, then-took, if-let-took}
 
 pub num-took : (l : List ℕ) → Took (parsedNumber (numOf l)) 1 (length l)
 num-took l = number-took (num-read l)
@@ -78,3 +79,38 @@ specifier-took l =
     (one-took (eqb (get l 0) lexeme.Next) _ _ (seen l lexeme.Next (omega arith))
     (one-took (eqb (get l 0) lexeme.Last) _ _ (seen l lexeme.Last (omega arith))
     nothing-took))
+
+-- behind t lexemes, where those that are left have been read on
+reach : (l : List ℕ) (t u : ℕ) → t ≤ length l → u ≤ length (drop t l) → t + u ≤ length l
+reach l t u p q = let left = length-drop t l in omega arith
+
+pub minute-took : (l : List ℕ) → Took (minuteOf l) 0 (length l)
+unfolding minuteOf
+minute-took l =
+    pick-took (isAt l 0 lexeme.Colon) _ _
+    (λ e. let room = there (at-most l 0 lexeme.Colon) e in
+    if-let-took _ _ _ (num-took (drop 1 l))
+    (λ min t a b. record { bounds = let h = reach l 1 t (omega arith) b in omega arith })
+    (record { bounds = omega arith }))
+    (λ e. record { bounds = omega arith })
+
+pub half-took : (hour minute t : ℕ) (l : List ℕ) → 1 ≤ t → t ≤ length l → Took (halfOf hour minute t l) 1 (length l)
+unfolding halfOf
+half-took hour minute t l p q =
+    pick-took (isAt l t lexeme.AM) _ _ (λ e. record { bounds = let room = there (at-most l t lexeme.AM) e in omega arith }) (λ e.
+    pick-took (isAt l t lexeme.PM) _ _ (λ e. record { bounds = let room = there (at-most l t lexeme.PM) e in omega arith }) (λ e.
+    record { bounds = omega arith }))
+
+pub clock-took : (l : List ℕ) → Took (clockOf l) 1 (length l)
+unfolding clockOf
+clock-took l =
+    then-took _ _ (num-took l) (λ hour t a b.
+    then-took _ _ (minute-took (drop t l)) (λ minute u e f.
+    half-took hour minute (t + u) l (omega arith) (reach l t u b f)))
+
+pub time-took : (l : List ℕ) → Took (timeOf l) 1 (length l)
+unfolding timeOf
+time-took l =
+    one-took (isAt l 0 lexeme.Midnight) _ _ (there (at-most l 0 lexeme.Midnight))
+    (one-took (isAt l 0 lexeme.Noon) _ _ (there (at-most l 0 lexeme.Noon))
+    (clock-took l))

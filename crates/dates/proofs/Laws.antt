@@ -19,7 +19,11 @@ use Rattle.dates.specs.declared.units.UnitFound.{UnitFound}
 use Rattle.dates.specs.declared.units.UnitFound.the-variants.{Is as IsUnit, Nothing as NoUnit}
 use Rattle.dates.specs.declared.units.SpecifierFound.{SpecifierFound}
 use Rattle.dates.specs.declared.units.SpecifierFound.the-variants.{Is as IsSpecifier, Nothing as NoSpecifier}
+use Rattle.dates.proofs.time.TimeFound.{the-type as time-type}
+use Rattle.dates.specs.declared.time.TimeFound.{TimeFound}
+use Rattle.dates.specs.declared.time.TimeFound.the-variants.{Is as IsTime, Nothing as NoTime, Overflow as TimeOverflow}
 use Rattle.dates.specs.Units.{parsedUnit, parsedSpecifier}
+use Rattle.dates.specs.Times.{parsedTime}
 
 -- the variants of every answer are numbered so
 abbrev pub tag : {A : Type 0} → Parsed A → ℕ
@@ -28,24 +32,31 @@ tag nothing = 1
 tag overflow = 2
 
 -- which arms of a `let .. else` or a `match` an answer may have come by
-abbrev pub Arm : {A : Type 0} → List ℕ → Parsed A → Type 0
-Arm ks p = OneOf ks (tag p)
+pub record Arm {A : Type 0} (ks : List ℕ) (p : Parsed A) : Type 0 where
+  pub tags : OneOf ks (tag p)
 
--- a number reader's answer
-pub number-tag : (w : Found) → tagOf number-type w ≡ tag (parsedNumber w)
-number-tag (Is v t) = refl
-number-tag Nothing = refl
-number-tag Overflow = refl
+module _ {ks : List ℕ} where
+  -- the arm of a number reader's answer
+  pub number-arm : (w : Found) → OneOf ks (tagOf number-type w) → Arm ks (parsedNumber w)
+  number-arm (Is v t) k = record { tags = k }
+  number-arm Nothing k = record { tags = k }
+  number-arm Overflow k = record { tags = k }
 
--- a unit's answer
-pub unit-tag : (w : UnitFound) → tagOf unit-type w ≡ tag (parsedUnit w)
-unit-tag (IsUnit u) = refl
-unit-tag NoUnit = refl
+  -- of a unit's answer
+  pub unit-arm : (w : UnitFound) → OneOf ks (tagOf unit-type w) → Arm ks (parsedUnit w)
+  unit-arm (IsUnit u) k = record { tags = k }
+  unit-arm NoUnit k = record { tags = k }
 
--- a relative specifier's answer
-pub specifier-tag : (w : SpecifierFound) → tagOf specifier-type w ≡ tag (parsedSpecifier w)
-specifier-tag (IsSpecifier s) = refl
-specifier-tag NoSpecifier = refl
+  -- of a relative specifier's answer
+  pub specifier-arm : (w : SpecifierFound) → OneOf ks (tagOf specifier-type w) → Arm ks (parsedSpecifier w)
+  specifier-arm (IsSpecifier s) k = record { tags = k }
+  specifier-arm NoSpecifier k = record { tags = k }
+
+  -- of a time's answer
+  pub time-arm : (w : TimeFound) → OneOf ks (tagOf time-type w) → Arm ks (parsedTime w)
+  time-arm (IsTime x t) k = record { tags = k }
+  time-arm NoTime k = record { tags = k }
+  time-arm TimeOverflow k = record { tags = k }
 
 -- a number is none of two others
 neither : (a b c : ℕ) {A : Type 0} → (a ≡ b → ⊥) → (a ≡ c → ⊥) → OneOf (b ∷ c ∷ []) a → A
@@ -53,26 +64,38 @@ neither a b c p q k = ⊎-elim (λ e. absurd (p e)) (λ e. absurd (q e)) k
 
 module _ {A : Type 0} where
   -- not nothing: the first alternative stays
-  pub kept : (p b : Parsed A) → Arm (0 ∷ 2 ∷ []) p → orElse p b ≡ p
+  pub kept : (p b : Parsed A) → Arm (0 ∷ 2 ∷ []) p → p ≡ orElse p b
   kept (is v t) b k = refl
-  kept nothing b k = neither 1 0 2 (eqb-false 1 0 refl) (eqb-false 1 2 refl) k
+  kept nothing b k = neither 1 0 2 (eqb-false 1 0 refl) (eqb-false 1 2 refl) (k .tags)
   kept overflow b k = refl
 
   -- not found: what would follow is not read
-  pub unread : {B : Type 0} (p : Parsed A) (f : A → ℕ → Parsed B) → Arm (1 ∷ 2 ∷ []) p → andThen p f ≡ stopped p
-  unread (is v t) f k = neither 0 1 2 (eqb-false 0 1 refl) (eqb-false 0 2 refl) k
-  unread nothing f k = refl
-  unread overflow f k = refl
+  pub unread : {B : Type 0} (p : Parsed A) (f : A → ℕ → Parsed B) {r : Parsed B} → Arm (1 ∷ 2 ∷ []) p → r ≡ stopped p → r ≡ andThen p f
+  unread (is v t) f k e = neither 0 1 2 (eqb-false 0 1 refl) (eqb-false 0 2 refl) (k .tags)
+  unread nothing f k e = e
+  unread overflow f k e = e
 
-  -- not found, where it does not overflow
-  pub missing : (p : Parsed A) → Arm (1 ∷ []) p → p ≡ nothing
-  missing (is v t) k = absurd (eqb-false 0 1 refl k)
-  missing nothing k = refl
-  missing overflow k = absurd (eqb-false 2 1 refl k)
+  dropped′ : {B : Type 0} (p : Parsed A) → Arm (0 ∷ 1 ∷ []) p → stopped {B = B} p ≡ nothing
+  dropped′ (is v t) k = refl
+  dropped′ nothing k = refl
+  dropped′ overflow k = neither 2 0 1 (eqb-false 2 0 refl) (eqb-false 2 1 refl) (k .tags)
 
-  -- not found, of a test that never overflows: nothing
+  -- no overflow: where it stops, nothing is left to say
+  pub dropped : {B : Type 0} {p : Parsed A} → Arm (0 ∷ 1 ∷ []) p → stopped {B = B} p ≡ nothing
+  dropped {B} {p} k = dropped′ p k
+
+  missing′ : (p : Parsed A) → Arm (1 ∷ []) p → p ≡ nothing
+  missing′ (is v t) k = absurd (eqb-false 0 1 refl (k .tags))
+  missing′ nothing k = refl
+  missing′ overflow k = absurd (eqb-false 2 1 refl (k .tags))
+
+  -- not found, of an answer that knows no overflow
+  pub missing : {p : Parsed A} → Arm (1 ∷ []) p → p ≡ nothing
+  missing {p} k = missing′ p k
+
+  -- not found, of a test that never overflows
   pub none : (b : Bool) (v : A) (t : ℕ) → Arm (1 ∷ 2 ∷ []) (pick b (is v t) nothing) → pick b (is v t) nothing ≡ nothing
-  none true v t k = neither 0 1 2 (eqb-false 0 1 refl) (eqb-false 0 2 refl) k
+  none true v t k = neither 0 1 2 (eqb-false 0 1 refl) (eqb-false 0 2 refl) (k .tags)
   none false v t k = refl
 
   -- the lexemes taken, once the answer is known

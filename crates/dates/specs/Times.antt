@@ -3,10 +3,9 @@ use Prim.Native.Nat.{ℕ, _+_}
 use mathlib.Core.List.{List}
 use lib.ListN.{drop}
 use Rattle.lexer.specs.Lexemes as lexeme
-use Rattle.numbers.specs.declared.Found.{Found}
 use Rattle.numbers.specs.Slices.{isAt}
 use Rattle.numbers.specs.Numbers.{numOf}
-use Rattle.dates.specs.Parsed.{Parsed, is, nothing, overflow, pick, orElse, ifLet, andThen, parsedNumber}
+use Rattle.dates.specs.Parsed.{Parsed, is, nothing, overflow, pick, ifLet, andThen, parsedNumber}
 use Rattle.dates.specs.declared.time.Time.{Time}
 use Rattle.dates.specs.declared.time.Time.the-variants.{HourMin, HourMinAM, HourMinPM}
 use Rattle.dates.specs.declared.time.TimeFound.{TimeFound}
