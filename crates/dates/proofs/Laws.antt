@@ -1,5 +1,5 @@
 -- Laws of what a reader gives: how bounds pass through the combinators, and what an arm says of the answer that it took apart.
-use mathlib.Core.Path.{_≡_, refl, sym, _∙_}
+use mathlib.Core.Path.{_≡_, refl}
 use mathlib.Core.Bool.{Bool, true, false}
 use mathlib.Core.List.{List, [], _∷_}
 use mathlib.Core.Logic.{⊎-elim}
@@ -19,10 +19,14 @@ use Rattle.dates.specs.declared.units.UnitFound.{UnitFound}
 use Rattle.dates.specs.declared.units.UnitFound.the-variants.{Is as IsUnit, Nothing as NoUnit}
 use Rattle.dates.specs.declared.units.SpecifierFound.{SpecifierFound}
 use Rattle.dates.specs.declared.units.SpecifierFound.the-variants.{Is as IsSpecifier, Nothing as NoSpecifier}
+use Rattle.dates.proofs.date.DateFound.{the-type as date-type}
+use Rattle.dates.specs.declared.date.DateFound.{DateFound}
+use Rattle.dates.specs.declared.date.DateFound.the-variants.{Is as IsDate, Nothing as NoDate, Overflow as DateOverflow}
 use Rattle.dates.proofs.time.TimeFound.{the-type as time-type}
 use Rattle.dates.specs.declared.time.TimeFound.{TimeFound}
 use Rattle.dates.specs.declared.time.TimeFound.the-variants.{Is as IsTime, Nothing as NoTime, Overflow as TimeOverflow}
 use Rattle.dates.specs.Units.{parsedUnit, parsedSpecifier}
+use Rattle.dates.specs.Dates.{parsedDate}
 use Rattle.dates.specs.Times.{parsedTime}
 
 -- the variants of every answer are numbered so
@@ -51,6 +55,12 @@ module _ {ks : List ℕ} where
   pub specifier-arm : (w : SpecifierFound) → OneOf ks (tagOf specifier-type w) → Arm ks (parsedSpecifier w)
   specifier-arm (IsSpecifier s) k = record { tags = k }
   specifier-arm NoSpecifier k = record { tags = k }
+
+  -- of a date's answer
+  pub date-arm : (w : DateFound) → OneOf ks (tagOf date-type w) → Arm ks (parsedDate w)
+  date-arm (IsDate d t) k = record { tags = k }
+  date-arm NoDate k = record { tags = k }
+  date-arm DateOverflow k = record { tags = k }
 
   -- of a time's answer
   pub time-arm : (w : TimeFound) → OneOf ks (tagOf time-type w) → Arm ks (parsedTime w)
