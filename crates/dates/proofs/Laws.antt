@@ -1,5 +1,5 @@
 -- Laws of what a reader gives: how bounds pass through the combinators, and what an arm says of the answer that it took apart.
-use mathlib.Core.Path.{_≡_, refl, sym, _∙_}
+use mathlib.Core.Path.{_≡_, refl}
 use mathlib.Core.Bool.{Bool, true, false}
 use mathlib.Core.List.{List, [], _∷_}
 use mathlib.Core.Logic.{⊎-elim}
@@ -13,16 +13,13 @@ use Rattle.numbers.specs.declared.Found.{Found}
 use Rattle.numbers.specs.declared.Found.the-variants.{Is, Nothing, Overflow}
 use Rattle.numbers.specs.Answers.{Read}
 use Rattle.dates.specs.Parsed.{Parsed, is, nothing, overflow, pick, orElse, ifLet, andThen, stopped, parsedNumber, Took}
-use Rattle.dates.proofs.units.UnitFound.{the-type as unit-type}
-use Rattle.dates.proofs.units.SpecifierFound.{the-type as specifier-type}
-use Rattle.dates.specs.declared.units.UnitFound.{UnitFound}
-use Rattle.dates.specs.declared.units.UnitFound.the-variants.{Is as IsUnit, Nothing as NoUnit}
-use Rattle.dates.specs.declared.units.SpecifierFound.{SpecifierFound}
-use Rattle.dates.specs.declared.units.SpecifierFound.the-variants.{Is as IsSpecifier, Nothing as NoSpecifier}
+use Rattle.dates.proofs.date.DateFound.{the-type as date-type}
+use Rattle.dates.specs.declared.date.DateFound.{DateFound}
+use Rattle.dates.specs.declared.date.DateFound.the-variants.{Is as IsDate, Nothing as NoDate, Overflow as DateOverflow}
 use Rattle.dates.proofs.time.TimeFound.{the-type as time-type}
 use Rattle.dates.specs.declared.time.TimeFound.{TimeFound}
 use Rattle.dates.specs.declared.time.TimeFound.the-variants.{Is as IsTime, Nothing as NoTime, Overflow as TimeOverflow}
-use Rattle.dates.specs.Units.{parsedUnit, parsedSpecifier}
+use Rattle.dates.specs.Dates.{parsedDate}
 use Rattle.dates.specs.Times.{parsedTime}
 
 -- the variants of every answer are numbered so
@@ -42,15 +39,11 @@ module _ {ks : List ℕ} where
   number-arm Nothing k = record { tags = k }
   number-arm Overflow k = record { tags = k }
 
-  -- of a unit's answer
-  pub unit-arm : (w : UnitFound) → OneOf ks (tagOf unit-type w) → Arm ks (parsedUnit w)
-  unit-arm (IsUnit u) k = record { tags = k }
-  unit-arm NoUnit k = record { tags = k }
-
-  -- of a relative specifier's answer
-  pub specifier-arm : (w : SpecifierFound) → OneOf ks (tagOf specifier-type w) → Arm ks (parsedSpecifier w)
-  specifier-arm (IsSpecifier s) k = record { tags = k }
-  specifier-arm NoSpecifier k = record { tags = k }
+  -- of a date's answer
+  pub date-arm : (w : DateFound) → OneOf ks (tagOf date-type w) → Arm ks (parsedDate w)
+  date-arm (IsDate d t) k = record { tags = k }
+  date-arm NoDate k = record { tags = k }
+  date-arm DateOverflow k = record { tags = k }
 
   -- of a time's answer
   pub time-arm : (w : TimeFound) → OneOf ks (tagOf time-type w) → Arm ks (parsedTime w)
@@ -84,15 +77,6 @@ module _ {A : Type 0} where
   pub dropped : {B : Type 0} {p : Parsed A} → Arm (0 ∷ 1 ∷ []) p → stopped {B = B} p ≡ nothing
   dropped {B} {p} k = dropped′ p k
 
-  missing′ : (p : Parsed A) → Arm (1 ∷ []) p → p ≡ nothing
-  missing′ (is v t) k = absurd (eqb-false 0 1 refl (k .tags))
-  missing′ nothing k = refl
-  missing′ overflow k = absurd (eqb-false 2 1 refl (k .tags))
-
-  -- not found, of an answer that knows no overflow
-  pub missing : {p : Parsed A} → Arm (1 ∷ []) p → p ≡ nothing
-  missing {p} k = missing′ p k
-
   -- not found, of a test that never overflows
   pub none : (b : Bool) (v : A) (t : ℕ) → Arm (1 ∷ 2 ∷ []) (pick b (is v t) nothing) → pick b (is v t) nothing ≡ nothing
   none true v t k = neither 0 1 2 (eqb-false 0 1 refl) (eqb-false 0 2 refl) (k .tags)
@@ -118,15 +102,6 @@ module _ {A : Type 0} where
   -- one lexeme, if a test finds it
   pub one-took : (b : Bool) (v : A) (y : Parsed A) {n : ℕ} → (b ≡ true → 0 < n) → Took y 1 n → Took (pick b (is v 1) y) 1 n
   one-took b v y f g = pick-took b (is v 1) y (λ e. record { bounds = let h = f e in omega arith }) (λ e. g)
-
-  wider′ : (p : Parsed A) (k n k′ n′ : ℕ) → (k′ ≤ k) × (n ≤ n′) → Took p k n → Took p k′ n′
-  wider′ (is v t) k n k′ n′ e h = record { bounds = let b = h .bounds in omega arith }
-  wider′ nothing k n k′ n′ e h = nothing-took
-  wider′ overflow k n k′ n′ e h = record { bounds = tt }
-
-  -- bounds that are tighter than those wanted
-  pub wider : {p : Parsed A} {k n k′ n′ : ℕ} → (k′ ≤ k) × (n ≤ n′) → Took p k n → Took p k′ n′
-  wider {p} {k} {n} {k′} {n′} e h = wider′ p k n k′ n′ e h
 
   -- two alternatives
   pub or-took : (a b : Parsed A) {k n : ℕ} → Took a k n → Took b k n → Took (orElse a b) k n

@@ -2,7 +2,7 @@
 use Prim.Native.Nat.{ℕ, _+_}
 use mathlib.Core.Bool.{Bool, true, false, _||_}
 use mathlib.Core.List.{List}
-use lib.Dec.{eqb, leb}
+use lib.Dec.{eqb, leb, ltb}
 use lib.ListN.{length, drop}
 use Rattle.lexer.specs.Lexemes as lexeme
 use Rattle.numbers.specs.Slices.{get, isAt}
@@ -42,20 +42,21 @@ monthDayOf month l =
 unfoldable pub isDelim : ℕ → Bool
 isDelim x = eqb x lexeme.Slash || (eqb x lexeme.Dash || eqb x lexeme.Dot)
 
+-- `if`, of dates
 abbrev pub pickDate : Bool → Date → Date → Date
 pickDate true a b = a
 pickDate false a b = b
 
 -- three numbers: year first if it is above 1000, day first behind a dot, else month first
-unfoldable pub tripleOf : ℕ → ℕ → ℕ → ℕ → Date
-tripleOf delim num1 num2 num3 =
-    pickDate (leb num1 1000)
-    (pickDate (eqb delim lexeme.Dot) (MonthNumDayYear num2 num1 num3) (MonthNumDayYear num1 num2 num3))
-    (YearMonthNumDay num1 num2 num3)
+unfoldable pub threeNumbersOf : ℕ → ℕ → ℕ → ℕ → Date
+threeNumbersOf delim num1 num2 num3 =
+    pickDate (ltb 1000 num1) (YearMonthNumDay num1 num2 num3)
+    (pickDate (eqb delim lexeme.Dot) (MonthNumDayYear num2 num1 num3)
+    (MonthNumDayYear num1 num2 num3))
 
 -- two numbers: day first behind a dot, else month first
-unfoldable pub pairOf : ℕ → ℕ → ℕ → Date
-pairOf delim num1 num2 = pickDate (eqb delim lexeme.Dot) (MonthNumDay num2 num1) (MonthNumDay num1 num2)
+unfoldable pub twoNumbersOf : ℕ → ℕ → ℕ → Date
+twoNumbersOf delim num1 num2 = pickDate (eqb delim lexeme.Dot) (MonthNumDay num2 num1) (MonthNumDay num1 num2)
 
 -- behind the second number, which ends at t: `l.get(tokens)?` leaves where nothing follows ("5/2"),
 -- the same delimiter wants a third number, and behind anything else two numbers are a date
@@ -63,8 +64,8 @@ unfoldable pub behindSecondOf : ℕ → ℕ → ℕ → ℕ → List ℕ → Par
 behindSecondOf delim num1 num2 t l =
     pick (leb (length l) t) nothing
     (pick (isAt l t delim)
-    (andThen (parsedNumber (numOf (drop (t + 1) l))) (λ num3 u. is (tripleOf delim num1 num2 num3) (t + 1 + u)))
-    (is (pairOf delim num1 num2) t))
+    (andThen (parsedNumber (numOf (drop (t + 1) l))) (λ num3 u. is (threeNumbersOf delim num1 num2 num3) (t + 1 + u)))
+    (is (twoNumbersOf delim num1 num2) t))
 
 -- <num> <delim> <num> [<delim> <num>]
 unfoldable pub delimitedOf : List ℕ → Parsed Date

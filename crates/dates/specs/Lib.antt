@@ -4,3 +4,4 @@ pub mod Durations
 pub mod Dates
 pub mod Times
 pub mod DurationCases
+pub mod Cases

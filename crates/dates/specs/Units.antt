@@ -1,6 +1,6 @@
 -- The readers of one lexeme: `Article`, `Unit`, `Month`, `Weekday`, `RelativeSpecifier`.
 use Prim.Native.Nat.{ℕ, _+_, _-_}
-use mathlib.Core.Bool.{Bool, true, false, _||_}
+use mathlib.Core.Bool.{Bool, _||_}
 use mathlib.Core.List.{List}
 use lib.Dec.{eqb}
 use Rattle.lexer.specs.Lexemes as lexeme

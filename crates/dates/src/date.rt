@@ -12,10 +12,10 @@ use numbers::slices::get;
 use numbers::slices::is_at;
 use numbers::slices::rest;
 ghost use mathlib.Core.Path.{_≡_};
-ghost use Prim.Native.Nat.{_+_, _≤_, _<_};
+ghost use Prim.Native.Nat.{_≤_};
 ghost use lib.ListN.{length};
 ghost use Rattle.dates.specs.Parsed.{Took, stopped, parsedNumber};
-ghost use Rattle.dates.specs.Dates.{namedDayOf, dayMonthYearOf, monthDayOf, isDelim, tripleOf, pairOf, behindSecondOf, delimitedOf, dateOf, parsedDate};
+ghost use Rattle.dates.specs.Dates.{namedDayOf, dayMonthYearOf, monthDayOf, isDelim, threeNumbersOf, twoNumbersOf, behindSecondOf, delimitedOf, dateOf, parsedDate};
 
 // `enum Date`; a month is a number from 1 on.
 pub enum Date {
@@ -115,21 +115,21 @@ fn is_delim(x: u64) -> bool
 }
 
 // Three numbers: year first if it is above 1000, day first behind a dot, else month first.
-fn triple(delim: u64, num1: u32, num2: u32, num3: u32) -> Date
-    ensures { λ r. ⌜ r ≡ tripleOf delim num1 num2 num3 ⌝ }
+fn three_numbers(delim: u64, num1: u32, num2: u32, num3: u32) -> Date
+    ensures { λ r. ⌜ r ≡ threeNumbersOf delim num1 num2 num3 ⌝ }
 {
-    if num1 <= 1000 {
-        if delim == DOT {
-            return Date::MonthNumDayYear(num2, num1, num3);
-        }
-        return Date::MonthNumDayYear(num1, num2, num3);
+    if num1 > 1000 {
+        return Date::YearMonthNumDay(num1, num2, num3);
     }
-    Date::YearMonthNumDay(num1, num2, num3)
+    if delim == DOT {
+        return Date::MonthNumDayYear(num2, num1, num3);
+    }
+    Date::MonthNumDayYear(num1, num2, num3)
 }
 
 // Two numbers: day first behind a dot, else month first.
-fn pair(delim: u64, num1: u32, num2: u32) -> Date
-    ensures { λ r. ⌜ r ≡ pairOf delim num1 num2 ⌝ }
+fn two_numbers(delim: u64, num1: u32, num2: u32) -> Date
+    ensures { λ r. ⌜ r ≡ twoNumbersOf delim num1 num2 ⌝ }
 {
     if delim == DOT {
         return Date::MonthNumDay(num2, num1);
@@ -139,7 +139,7 @@ fn pair(delim: u64, num1: u32, num2: u32) -> Date
 
 // Behind the second number, which ends at t.
 fn behind_second(l: &[u64], delim: u64, num1: u32, num2: u32, t: usize) -> DateFound
-    requires { ⌜ (1 ≤ t) × (t ≤ length (now l)) × (0 < delim) ⌝ }
+    requires { ⌜ (1 ≤ t) × (t ≤ length (now l)) ⌝ }
     ensures { λ r. ⌜ parsedDate r ≡ behindSecondOf delim num1 num2 t (now (l .entry)) ⌝ }
     ensures { λ r. ⌜ Took (parsedDate r) 1 (length (now (l .entry))) ⌝ }
 {
@@ -151,9 +151,9 @@ fn behind_second(l: &[u64], delim: u64, num1: u32, num2: u32, t: usize) -> DateF
         let Found::Is(num3, u) = a else {
             return date_stopped(a);
         };
-        return DateFound::Is(triple(delim, num1, num2, num3), t + 1 + u);
+        return DateFound::Is(three_numbers(delim, num1, num2, num3), t + 1 + u);
     }
-    DateFound::Is(pair(delim, num1, num2), t)
+    DateFound::Is(two_numbers(delim, num1, num2), t)
 }
 
 // <num> <delim> <num> [<delim> <num>]
@@ -189,7 +189,7 @@ pub fn read_date(l: &[u64]) -> DateFound
     let DateFound::Nothing = b else {
         return b;
     };
-    let Found::Is(month, t) = read_month(l) else {
+    let Found::Is(month, _) = read_month(l) else {
         return read_delimited(l);
     };
     read_month_day(l, month)

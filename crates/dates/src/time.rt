@@ -9,7 +9,7 @@ use numbers::num;
 use numbers::slices::is_at;
 use numbers::slices::rest;
 ghost use mathlib.Core.Path.{_≡_};
-ghost use Prim.Native.Nat.{_+_, _≤_};
+ghost use Prim.Native.Nat.{_≤_};
 ghost use lib.ListN.{length};
 ghost use Rattle.dates.specs.Parsed.{Took, stopped, parsedNumber};
 ghost use Rattle.dates.specs.Times.{minuteOf, halfOf, clockOf, timeOf, parsedTime};

@@ -1,8 +1,9 @@
 use mathlib.Core.Path.{ap}
 use native.Mathlib.Omega.{arith}
+use Rattle.numbers.proofs.Laws.{found as number-found}
 use Rattle.dates.specs.Parsed.{parsedNumber}
 use Rattle.dates.specs.Times.{clockOf}
-use Rattle.dates.proofs.Laws.{number-arm, unread, found, number-took, promised}
+use Rattle.dates.proofs.Laws.{number-arm, unread, found, promised}
 use Rattle.dates.proofs.Bounds.{clock-took}
 use borrow.Author.Needs.{needs}
 use Rattle.dates.proofs.time.read_clock.Statement.{statement}
@@ -28,7 +29,8 @@ rest-requires : tie.Need-rest-requires
 rest-requires c κs =
     let num = c .before .before .before .num in
     let a = c .before .a in
-    let b = found (ap parsedNumber (a .given .1)) (number-took (num .ensures .1)) in omega arith
+    let b = number-found (a .given .1) (num .ensures .1) in
+    omega arith
 
 read-minute-requires : tie.Need-read-minute-requires
 read-minute-requires c κs = search needs
@@ -58,7 +60,7 @@ add-read-half c =
     let a = c .before .before .before .before .before .before .a in
     let read-minute = c .before .before .before .read-minute in
     let b = c .before .b in
-    let d = found (ap parsedNumber (a .given .1)) (number-took (num .ensures .1)) in
+    let d = number-found (a .given .1) (num .ensures .1) in
     let e = found (ap parsedNumber (b .given .1)) (read-minute .ensures .1) in
     omega arith
 
@@ -68,7 +70,7 @@ read-half-requires c κs =
     let a = c .before .before .before .before .before .before .a in
     let read-minute = c .before .before .before .read-minute in
     let b = c .before .b in
-    let d = found (ap parsedNumber (a .given .1)) (number-took (num .ensures .1)) in
+    let d = number-found (a .given .1) (num .ensures .1) in
     let e = found (ap parsedNumber (b .given .1)) (read-minute .ensures .1) in
     omega arith
 

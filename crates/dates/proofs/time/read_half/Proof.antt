@@ -13,13 +13,15 @@ is-at-requires c κs = search needs
 add-t7 : tie.Need-add-t7
 add-t7 c =
     let is-at = c .before .is-at in
-    let room = there (is-at .ensures .1) (c .if1 .taken) in omega arith
+    let room = there (is-at .ensures .1) (c .if1 .taken) in
+    omega arith
 
 returns : tie.Need-returns
 unfolding halfOf
 returns c =
+    let entry = c .before .before .before in
     let is-at = c .before .is-at in
-    promised (rw (← (is-at .ensures .0), c .if1 .taken)) (half-took _ _ _ _ (c .before .before .before .pre .0) (c .before .before .before .pre .1))
+    promised (rw (← (is-at .ensures .0), c .if1 .taken)) (half-took _ _ _ _ (entry .pre .0) (entry .pre .1))
 
 is-at-requires-2 : tie.Need-is-at-requires-2
 is-at-requires-2 c κs = search needs
@@ -27,27 +29,30 @@ is-at-requires-2 c κs = search needs
 add-t10 : tie.Need-add-t10
 add-t10 c =
     let is-at2 = c .before .is-at2 in
-    let room = there (is-at2 .ensures .1) (c .if2 .taken) in omega arith
+    let room = there (is-at2 .ensures .1) (c .if2 .taken) in
+    omega arith
 
 returns-2 : tie.Need-returns-2
 unfolding halfOf
 returns-2 c =
+    let entry = c .before .before .before .before .before in
     let is-at = c .before .before .before .is-at in
     let if1 = c .before .before .if1 in
     let is-at2 = c .before .is-at2 in
     promised
     (rw (← (is-at .ensures .0), if1 .left, ← (is-at2 .ensures .0), c .if2 .taken))
-    (half-took _ _ _ _ (c .before .before .before .before .before .pre .0) (c .before .before .before .before .before .pre .1))
+    (half-took _ _ _ _ (entry .pre .0) (entry .pre .1))
 
 returns-3 : tie.Need-returns-3
 unfolding halfOf
 returns-3 c =
+    let entry = c .before .before .before .before .before in
     let is-at = c .before .before .before .is-at in
     let if1 = c .before .before .if1 in
     let is-at2 = c .before .is-at2 in
     promised
     (rw (← (is-at .ensures .0), if1 .left, ← (is-at2 .ensures .0), c .if2 .left))
-    (half-took _ _ _ _ (c .before .before .before .before .before .pre .0) (c .before .before .before .before .before .pre .1))
+    (half-took _ _ _ _ (entry .pre .0) (entry .pre .1))
 
 pub read-half-spec : {M : Type 1} → statement M
 read-half-spec =

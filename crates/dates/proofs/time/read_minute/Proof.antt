@@ -1,9 +1,8 @@
-use mathlib.Core.Path.{ap}
 use native.Mathlib.Omega.{arith}
+use Rattle.numbers.proofs.Laws.{found as number-found}
 use Rattle.numbers.proofs.Bounds.{there}
-use Rattle.dates.specs.Parsed.{parsedNumber}
 use Rattle.dates.specs.Times.{minuteOf}
-use Rattle.dates.proofs.Laws.{found, number-took, promised}
+use Rattle.dates.proofs.Laws.{promised}
 use Rattle.dates.proofs.Bounds.{minute-took}
 use borrow.Author.Needs.{needs}
 use Rattle.dates.proofs.time.read_minute.Statement.{statement}
@@ -15,7 +14,8 @@ is-at-requires c κs = search needs
 rest-requires : tie.Need-rest-requires
 rest-requires c κs =
     let is-at = c .before .is-at in
-    let room = there (is-at .ensures .1) (c .if1 .taken) in omega arith
+    let room = there (is-at .ensures .1) (c .if1 .taken) in
+    omega arith
 
 num-requires : tie.Need-num-requires
 num-requires c κs = search needs
@@ -27,7 +27,8 @@ add-t7 : tie.Need-add-t7
 add-t7 c =
     let num = c .before .before .before .num in
     let min = c .before .min in
-    let b = found (ap parsedNumber (min .given .1)) (number-took (num .ensures .1)) in omega arith
+    let b = number-found (min .given .1) (num .ensures .1) in
+    omega arith
 
 returns : tie.Need-returns
 unfolding minuteOf
