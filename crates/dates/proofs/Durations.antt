@@ -84,6 +84,14 @@ pub duration-is : (l : List ℕ) → durationOf l ≡ durationStep durationOf l
 unfolding durationIn durationOf Agree
 duration-is l = step-agree (durationIn (length l)) durationOf l (λ m h. enough (length l) (suc (length m)) m h (omega arith))
 
+-- what the code joins is what `durationStep` has behind an "and"
+pub joined-is : (ps : Parts) (p : Part) (t : ℕ) (w : Parsed Duration)
+    → joinedOf ps p t (durationAnswer (pushed ps p) w)
+    ≡ durationAnswer ps (ifLet w (λ dur2 u. is (concat p dur2) (t + 1 + u)) (is (part p) t))
+joined-is ps p t (is d u) = refl
+joined-is ps p t nothing = refl
+joined-is ps p t overflow = refl
+
 abbrev Sizes : Parsed Duration → ℕ → Type 0
 Sizes (is d t) n = (2 ≤ t) × (t ≤ n) × (3 * size d ≤ t + 1)
 Sizes nothing n = Unit
@@ -161,14 +169,6 @@ counted′ Overflow m k n n′ h e = h
 -- the same within more lexemes
 pub counted-wider : {r : DurationFound} {m n n′ : ℕ} → Counted r m n → n ≤ n′ → Counted r m n′
 counted-wider {r} {m} {n} {n′} h e = record { bounds = counted′ (r .taken) m (r .parts .n) n n′ (h .bounds) e }
-
--- what the code joins is what `durationStep` has behind an "and"
-pub joined-is : (ps : Parts) (p : Part) (t : ℕ) (w : Parsed Duration)
-    → joinedOf ps p t (durationAnswer (pushed ps p) w)
-    ≡ durationAnswer ps (ifLet w (λ dur2 u. is (concat p dur2) (t + 1 + u)) (is (part p) t))
-joined-is ps p t (is d u) = refl
-joined-is ps p t nothing = refl
-joined-is ps p t overflow = refl
 
 -- what an answer of t lexemes with the row qs says: the duration that was read, and that its parts stand in qs behind those of ps
 pub record DurationRead (ps qs : Parts) (w : Parsed Duration) (t : ℕ) (b : Bool) : Type 0 where
