@@ -64,5 +64,7 @@ cases =
 
 -- each row is what `durationOf` gives
 pub read-as-listed : map (λ c. durationOf (c .lexemes)) cases ≡ map (λ c. c .reading) cases
-unfolding cases get isAt within isEnding wordOf literalOf onesOf teensOf tensOf tensOnesOf numDoubleOf sumOf tailOf hundredsOf numTripleOf numTripleUnitOf fitsOf unitsOf numStep numIn numOf isArticle unitOf specificOf articleOf concreteOf durationStep durationIn durationOf
+unfolding cases get isAt within isEnding wordOf literalOf onesOf teensOf tensOf tensOnesOf numDoubleOf sumOf tailOf hundredsOf
+    numTripleOf numTripleUnitOf fitsOf unitsOf numStep numIn numOf
+    isArticle unitOf specificOf articleOf concreteOf durationStep durationIn durationOf
 read-as-listed = refl
