@@ -1,0 +1,7 @@
+pub mod Parsed
+pub mod Units
+pub mod Durations
+pub mod Dates
+pub mod Times
+pub mod DurationCases
+pub mod Cases
