@@ -2,14 +2,15 @@
 use mathlib.Core.Path.{_≡_, refl, _∙_}
 use mathlib.Core.Bool.{Bool, true, false}
 use mathlib.Core.List.{List}
-use Prim.Native.Nat.{ℕ, zero, suc, _+_, _*_, _≤_, _<_}
+use Prim.Native.Nat.{ℕ, suc, _+_, _*_, _≤_, _<_}
 use native.Mathlib.Omega.{arith}
 use lib.ListN.{length, drop, length-drop}
 use types.Run.{OneOf}
 use denote.Enum.Declared.{tagOf}
 use Rattle.lexer.specs.Lexemes as lexeme
 use Rattle.numbers.specs.Slices.{isAt}
-use Rattle.numbers.proofs.Bounds.{at-most, there}
+use Rattle.numbers.proofs.Again.{again-is, again-keeps}
+use Rattle.numbers.proofs.Places.{at-most, there}
 use Rattle.dates.specs.Parsed.{Parsed, is, nothing, overflow, pick, ifLet, andThen, Took}
 use Rattle.dates.specs.Units.{isArticle}
 use Rattle.dates.specs.declared.duration.Part.{Part}
@@ -20,7 +21,7 @@ use Rattle.dates.specs.declared.duration.Taken.{Taken}
 use Rattle.dates.specs.declared.duration.Taken.the-variants.{Is, Nothing, Overflow}
 use Rattle.dates.specs.declared.duration.DurationFound.{DurationFound}
 use Rattle.dates.specs.Durations.{Duration, part, concat, isSubDaily, specificOf, articleOf, concreteOf, parsedPart}
-use Rattle.dates.specs.Durations.{durationStep, durationIn, durationOf, pushed, into, size, durationAnswer, joinedOf, CountedTaken, Counted}
+use Rattle.dates.specs.Durations.{durationStep, durationOf, pushed, into, size, durationAnswer, joinedOf, CountedTaken, Counted}
 use Rattle.dates.proofs.duration.PartFound.{the-type as part-type}
 use Rattle.dates.proofs.Laws.{Arm, nothing-took, pick-took, or-took, then-took}
 use Rattle.dates.proofs.Bounds.{num-took, unit-took, tested-article}
@@ -62,27 +63,16 @@ pub concrete-took : (l : List ℕ) → Took (concreteOf l) 2 (length l)
 unfolding concreteOf
 concrete-took l = or-took _ _ (specific-took l) (article-took l)
 
--- two readers that agree on every list shorter than n
-Agree : (List ℕ → Parsed Duration) → (List ℕ → Parsed Duration) → ℕ → Type 0
-Agree D E n = (l : List ℕ) → length l < n → D l ≡ E l
-
-step-agree : (D E : List ℕ → Parsed Duration) (l : List ℕ) → Agree D E (length l) → durationStep D l ≡ durationStep E l
-unfolding durationStep Agree
+step-agree : (D E : List ℕ → Parsed Duration) (l : List ℕ) → ((m : List ℕ) → length m < length l → D m ≡ E m) → durationStep D l ≡ durationStep E l
+unfolding durationStep
 step-agree D E l agree =
     then-same (concreteOf l) _ _ (concrete-took l) (λ p t a b.
     rw (agree (drop (t + 1) l) (let left = length-drop (t + 1) l in omega arith)))
 
--- more turns than lexemes are all alike
-enough : (f g : ℕ) (l : List ℕ) → length l < f → length l < g → durationIn f l ≡ durationIn g l
-unfolding durationIn Agree
-enough zero g l a b = absurd (omega arith)
-enough (suc f) zero l a b = absurd (omega arith)
-enough (suc f) (suc g) l a b = step-agree (durationIn f) (durationIn g) l (λ m h. enough f g m (omega arith) (omega arith))
-
 -- `Duration::parse` calls itself
 pub duration-is : (l : List ℕ) → durationOf l ≡ durationStep durationOf l
-unfolding durationIn durationOf Agree
-duration-is l = step-agree (durationIn (length l)) durationOf l (λ m h. enough (length l) (suc (length m)) m h (omega arith))
+unfolding durationOf
+duration-is l = again-is nothing durationStep step-agree l
 
 -- what the code joins is what `durationStep` has behind an "and"
 pub joined-is : (ps : Parts) (p : Part) (t : ℕ) (w : Parsed Duration)
@@ -128,15 +118,10 @@ step-sized D sized l =
     joined-sized _ p a (omega arith) (sized (drop (t + 1) l)))
     (λ e. record { sizes = (a, b, omega arith) }))
 
-in-sized : (n : ℕ) (l : List ℕ) → Sized (durationIn n l) (length l)
-unfolding durationIn
-in-sized zero l = record { sizes = tt }
-in-sized (suc n) l = step-sized (durationIn n) (in-sized n) l
-
 -- the bounds of a duration
 pub duration-sized : (l : List ℕ) → Sized (durationOf l) (length l)
 unfolding durationOf
-duration-sized l = in-sized (suc (length l)) l
+duration-sized l = again-keeps nothing durationStep (λ m w. Sized w (length m)) (λ m. record { sizes = tt }) step-sized l
 
 -- the same of a duration that was read
 pub duration-bounds : (l : List ℕ) {d : Duration} {t : ℕ} → durationOf l ≡ is d t → (2 ≤ t) × (t ≤ length l) × (3 * size d ≤ t + 1)

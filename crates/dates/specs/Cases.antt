@@ -8,7 +8,8 @@ use Rattle.lexer.specs.Lexemes as lexeme
 use Rattle.numbers.specs.Slices.{get, isAt, within}
 use Rattle.numbers.specs.Answers.{fitsOf}
 use Rattle.numbers.specs.Numbers.{isEnding, wordOf, literalOf, onesOf, teensOf, tensOf, tensOnesOf, numDoubleOf, sumOf, tailOf, hundredsOf}
-use Rattle.numbers.specs.Numbers.{numTripleOf, numTripleUnitOf, unitsOf, numStep, numIn, numOf}
+use Rattle.numbers.specs.Numbers.{numTripleOf, numTripleUnitOf, unitsOf, numStep, numOf}
+use Rattle.numbers.specs.Again.{turns, again}
 use Rattle.dates.specs.Parsed.{Parsed, is, nothing, overflow}
 use Rattle.dates.specs.declared.units.Unit.{Unit}
 use Rattle.dates.specs.declared.units.Unit.the-variants.{Day, Week, Hour, Minute, Month, Year}
@@ -188,5 +189,9 @@ readWord w =
 
 -- each row and each word is read as listed
 pub read-as-listed : (map readCase cases ≡ cases) × (map readWord words ≡ words)
-unfolding cases words get isAt within isEnding wordOf literalOf onesOf teensOf tensOf tensOnesOf numDoubleOf sumOf tailOf hundredsOf numTripleOf numTripleUnitOf fitsOf unitsOf numStep numIn numOf isArticle unitOf monthOf weekdayOf relativeSpecifierOf namedDayOf dayMonthYearOf monthDayOf isDelim threeNumbersOf twoNumbersOf behindSecondOf delimitedOf dateOf minuteOf halfOf clockOf timeOf
+unfolding cases words get isAt within isEnding wordOf literalOf onesOf teensOf tensOf tensOnesOf numDoubleOf sumOf tailOf hundredsOf
+    numTripleOf numTripleUnitOf fitsOf unitsOf numStep turns again numOf
+    isArticle unitOf monthOf weekdayOf relativeSpecifierOf
+    namedDayOf dayMonthYearOf monthDayOf isDelim threeNumbersOf twoNumbersOf behindSecondOf delimitedOf dateOf
+    minuteOf halfOf clockOf timeOf
 read-as-listed = (refl, refl)

@@ -6,12 +6,13 @@ use Rattle.lexer.specs.Lexemes as lexeme
 use Rattle.numbers.specs.Slices.{get, isAt, within}
 use Rattle.numbers.specs.Answers.{fitsOf}
 use Rattle.numbers.specs.Numbers.{isEnding, wordOf, literalOf, onesOf, teensOf, tensOf, tensOnesOf, numDoubleOf, sumOf, tailOf, hundredsOf}
-use Rattle.numbers.specs.Numbers.{numTripleOf, numTripleUnitOf, unitsOf, numStep, numIn, numOf}
+use Rattle.numbers.specs.Numbers.{numTripleOf, numTripleUnitOf, unitsOf, numStep, numOf}
 use Rattle.dates.specs.Parsed.{Parsed, is, nothing, overflow}
 use Rattle.dates.specs.Units.{isArticle, unitOf}
 use Rattle.dates.specs.declared.units.Unit.the-variants.{Day, Week, Hour, Minute, Month, Year}
 use Rattle.dates.specs.declared.duration.Part.the-variants.{Article, Specific}
-use Rattle.dates.specs.Durations.{Duration, part, concat, specificOf, articleOf, concreteOf, durationStep, durationIn, durationOf}
+use Rattle.dates.specs.Durations.{Duration, part, concat, specificOf, articleOf, concreteOf, durationStep, durationOf}
+use Rattle.numbers.specs.Again.{turns, again}
 
 -- a row: the lexemes, and what is read of them
 pub record Case : Type 0 where
@@ -65,6 +66,6 @@ cases =
 -- each row is what `durationOf` gives
 pub read-as-listed : map (λ c. durationOf (c .lexemes)) cases ≡ map (λ c. c .reading) cases
 unfolding cases get isAt within isEnding wordOf literalOf onesOf teensOf tensOf tensOnesOf numDoubleOf sumOf tailOf hundredsOf
-    numTripleOf numTripleUnitOf fitsOf unitsOf numStep numIn numOf
-    isArticle unitOf specificOf articleOf concreteOf durationStep durationIn durationOf
+    numTripleOf numTripleUnitOf fitsOf unitsOf numStep turns again numOf
+    isArticle unitOf specificOf articleOf concreteOf durationStep durationOf
 read-as-listed = refl

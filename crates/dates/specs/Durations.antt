@@ -1,10 +1,11 @@
 -- `enum Duration` and its parsers. The code keeps a duration as the row of its parts.
-use Prim.Native.Nat.{ℕ, zero, suc, _+_, _*_, _≤_, _<_}
+use Prim.Native.Nat.{ℕ, suc, _+_, _*_, _≤_, _<_}
 use mathlib.Core.Path.{_≡_}
 use mathlib.Core.Bool.{Bool, true, false, _||_}
 use mathlib.Core.List.{List}
-use lib.ListN.{length, drop, set}
+use lib.ListN.{drop, set}
 use Rattle.lexer.specs.Lexemes as lexeme
+use Rattle.numbers.specs.Again.{again}
 use Rattle.numbers.specs.Slices.{isAt}
 use Rattle.numbers.specs.Numbers.{numOf}
 use Rattle.dates.specs.Parsed.{Parsed, is, nothing, overflow, pick, orElse, ifLet, andThen, parsedNumber}
@@ -64,14 +65,9 @@ durationStep D l =
     (ifLet (D (drop (t + 1) l)) (λ dur2 u. is (concat d dur2) (t + 1 + u)) (is (part d) t))
     (is (part d) t))
 
--- at most n turns
-unfoldable pub durationIn : ℕ → List ℕ → Parsed Duration
-durationIn zero l = nothing
-durationIn (suc n) l = durationStep (durationIn n) l
-
--- the lexemes left fall at each turn, so their number is enough: `duration-is` says that durationOf l ≡ durationStep durationOf l
+-- `Duration::parse`, which calls itself behind an "and" (`duration-is`: durationOf l ≡ durationStep durationOf l)
 unfoldable pub durationOf : List ℕ → Parsed Duration
-durationOf l = durationIn (suc (length l)) l
+durationOf l = again nothing durationStep l
 
 -- the code's answer for one part
 abbrev pub parsedPart : PartFound → Parsed Part
