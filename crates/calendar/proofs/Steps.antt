@@ -1,0 +1,161 @@
+-- Steps: what each answers, a step of nothing, and two steps in a row.
+use mathlib.Core.Path.{_≡_, refl, sym, _∙_}
+use mathlib.Core.Bool.{Bool, true, false, cond}
+use mathlib.Core.Logic.{_⊎_, inl, inr, ⊎-elim}
+use Prim.Native.Nat.{ℕ, _+_, _-_, _≤_, _<_}
+use native.Mathlib.Omega.{arith}
+use native.Mathlib.Nat.{add-zero, sub-zero, add-assoc, sub-add-eq}
+use lib.Dec.{leb, ltb}
+use borrow.Author.Tests.{leb-true, leb-false, ltb-true, ltb-false, le-leb, lt-leb, lt-ltb, le-ltb}
+use Rattle.calendar.specs.Gregorian.{leapYear, monthLength, days}
+use Rattle.calendar.specs.Moments.{IsMoment, Outcome, moment, refused, andThen, withDate, dayOfMoment, atDay, onDay}
+use Rattle.calendar.specs.Moments.{minuteNumber, minutes, atMinute, later, earlier, monthNumber, months, inMonth}
+use Rattle.calendar.specs.Moments.{monthsLater, monthsEarlier, inYear, yearsLater, yearsEarlier}
+use Rattle.calendar.specs.declared.Moment.{Moment}
+use Rattle.calendar.proofs.Below.{le-or-lt}
+use Rattle.calendar.proofs.Months.{lost-day}
+use Rattle.calendar.proofs.Places.{at-day-moment, minute-below, at-minute-moment, minute-at, at-own-minute}
+use Rattle.calendar.proofs.Places.{month-below, in-month-moment, in-own-month}
+
+-- an answer is a moment of the calendar, or a refusal of which R speaks
+pub data Answer (R : ℕ → Type 0) : Outcome → Type 0 where
+  answered : {u : Moment} → IsMoment u → Answer R (moment u)
+  refuses : {n : ℕ} → R n → Answer R (refused n)
+
+either : (R : ℕ → Type 0) (b : Bool) (p q : Outcome) → (b ≡ true → Answer R p) → (b ≡ false → Answer R q) → Answer R (cond b p q)
+either R true p q f g = f refl
+either R false p q f g = g refl
+
+-- 12 exactly when C
+abbrev pub Twelve : Type 0 → ℕ → Type 0
+Twelve C n = (n ≡ 12) × C
+
+-- a day is refused with 12 exactly when it is past the last
+pub on-day-answer : (n : ℕ) (t : Moment) → IsMoment t → Answer (Twelve (days ≤ n)) (onDay n t)
+unfolding onDay
+on-day-answer n t v =
+    either _ (ltb n days) _ _ (λ e. answered (at-day-moment n t (ltb-true _ _ e) v)) (λ e. refuses (refl, ltb-false _ _ e))
+
+-- so are minutes on, and minutes back
+pub later-answer : (k : ℕ) (t : Moment) → IsMoment t → Answer (Twelve (minutes ≤ minuteNumber t + k)) (later k t)
+unfolding later
+later-answer k t v =
+    either _ (ltb (minuteNumber t + k) minutes) _ _
+    (λ e. answered (at-minute-moment _ t (ltb-true _ _ e) v)) (λ e. refuses (refl, ltb-false _ _ e))
+
+pub earlier-answer : (k : ℕ) (t : Moment) → IsMoment t → Answer (Twelve (minuteNumber t < k)) (earlier k t)
+unfolding earlier
+earlier-answer k t v =
+    either _ (leb k (minuteNumber t)) _ _
+    (λ e. answered (at-minute-moment _ t (omega (arith, minute-below t v)) v)) (λ e. refuses (refl, leb-false _ _ e))
+
+-- so are months on, and months back
+pub months-later-answer : (k : ℕ) (t : Moment) → IsMoment t → Answer (Twelve (months ≤ monthNumber t + k)) (monthsLater k t)
+unfolding monthsLater
+months-later-answer k t v =
+    either _ (ltb (monthNumber t + k) months) _ _
+    (λ e. answered (in-month-moment _ t (ltb-true _ _ e) v)) (λ e. refuses (refl, ltb-false _ _ e))
+
+pub months-earlier-answer : (k : ℕ) (t : Moment) → IsMoment t → Answer (Twelve (monthNumber t < k)) (monthsEarlier k t)
+unfolding monthsEarlier
+months-earlier-answer k t v =
+    either _ (leb k (monthNumber t)) _ _
+    (λ e. answered (in-month-moment _ t (omega (arith, month-below t v)) v)) (λ e. refuses (refl, leb-false _ _ e))
+
+-- a 29 February that year y has not
+pub record LostDay (t : Moment) (y : ℕ) : Type 0 where
+  pub month : t .month ≡ 2
+  pub day : t .day ≡ 29
+  pub common : leapYear y ≡ false
+
+-- a year step is refused with 12 for the year, or else with 13 for the day
+abbrev pub ForYear : Type 0 → Moment → ℕ → ℕ → Type 0
+ForYear C t y n = Twelve C n ⊎ ((n ≡ 13) × LostDay t y)
+
+in-year-answer : (C : Type 0) (y : ℕ) (t : Moment) → IsMoment t → 1 ≤ y → y ≤ 9999 → Answer (ForYear C t y) (inYear y t)
+in-year-answer C y t v low high =
+    either _ (leb (t .day) (monthLength (leapYear y) (t .month))) _ _
+    (λ e. answered (moved (leb-true _ _ e)))
+    (λ e. refuses (inr (refl, lost (lost-day _ _ _ _ (leb-false _ _ e) (v .date .day-high)))))
+  where
+    moved : t .day ≤ monthLength (leapYear y) (t .month) → IsMoment (withDate y (t .month) (t .day) t)
+    moved h = record {
+      date = record {
+        year-low = low;
+        year-high = high;
+        month-low = v .date .month-low;
+        month-high = v .date .month-high;
+        day-low = v .date .day-low;
+        day-high = h;
+      };
+      time = v .time;
+    }
+
+    lost : (t .month ≡ 2) × (t .day ≡ 29) × (leapYear y ≡ false) → LostDay t y
+    lost l = record { month = l .0; day = l .1; common = l .2 }
+
+pub years-later-answer : (k : ℕ) (t : Moment) → IsMoment t → Answer (ForYear (9999 < t .year + k) t (t .year + k)) (yearsLater k t)
+unfolding yearsLater
+years-later-answer k t v =
+    either _ (leb (t .year + k) 9999) _ _
+    (λ e. in-year-answer _ _ t v (omega (arith, v .date)) (leb-true _ _ e)) (λ e. refuses (inl (refl, leb-false _ _ e)))
+
+pub years-earlier-answer : (k : ℕ) (t : Moment) → IsMoment t → Answer (ForYear (t .year ≤ k) t (t .year - k)) (yearsEarlier k t)
+unfolding yearsEarlier
+years-earlier-answer k t v =
+    either _ (ltb k (t .year)) _ _
+    (λ e. in-year-answer _ _ t v (omega (arith, ltb-true k (t .year) e)) (omega (arith, v .date))) (λ e. refuses (inl (refl, ltb-false _ _ e)))
+
+-- a step of nothing is the moment itself: minutes
+pub later-zero : (t : Moment) → IsMoment t → later 0 t ≡ moment t
+unfolding later
+later-zero t v = rw (add-zero, lt-ltb _ _ (minute-below t v), at-own-minute t v)
+
+pub earlier-zero : (t : Moment) → IsMoment t → earlier 0 t ≡ moment t
+unfolding earlier
+earlier-zero t v = rw (sub-zero, le-leb 0 (minuteNumber t) (omega arith), at-own-minute t v)
+
+-- months
+pub months-later-zero : (t : Moment) → IsMoment t → monthsLater 0 t ≡ moment t
+unfolding monthsLater
+months-later-zero t v = rw (add-zero, lt-ltb _ _ (month-below t v), in-own-month t v)
+
+pub months-earlier-zero : (t : Moment) → IsMoment t → monthsEarlier 0 t ≡ moment t
+unfolding monthsEarlier
+months-earlier-zero t v = rw (sub-zero, le-leb 0 (monthNumber t) (omega arith), in-own-month t v)
+
+-- years
+pub years-later-zero : (t : Moment) → IsMoment t → yearsLater 0 t ≡ moment t
+unfolding yearsLater
+years-later-zero t v = rw (add-zero, le-leb _ _ (v .date .year-high), le-leb _ _ (v .date .day-high))
+
+pub years-earlier-zero : (t : Moment) → IsMoment t → yearsEarlier 0 t ≡ moment t
+unfolding yearsEarlier
+years-earlier-zero t v = rw (lt-ltb 0 (t .year) (v .date .year-low), sub-zero, le-leb _ _ (v .date .day-high))
+
+-- a minutes on and then b is a + b minutes on, with the same refusal
+pub later-later : (a b : ℕ) (t : Moment) → andThen (later a t) (later b) ≡ later (a + b) t
+unfolding later
+later-later a b t = ⊎-elim outside inside (le-or-lt minutes (minuteNumber t + a))
+  where
+    outside : minutes ≤ minuteNumber t + a → andThen (later a t) (later b) ≡ later (a + b) t
+    outside h = rw (le-ltb _ _ h, le-ltb (minuteNumber t + (a + b)) minutes (omega arith))
+
+    inside : minuteNumber t + a < minutes → andThen (later a t) (later b) ≡ later (a + b) t
+    inside h = rw (lt-ltb _ _ h, minute-at (minuteNumber t + a) t, add-assoc)
+
+-- a minutes back and then b is a + b minutes back, with the same refusal
+pub earlier-earlier : (a b : ℕ) (t : Moment) → andThen (earlier a t) (earlier b) ≡ earlier (a + b) t
+unfolding earlier
+earlier-earlier a b t = ⊎-elim inside outside (le-or-lt a (minuteNumber t))
+  where
+    outside : minuteNumber t < a → andThen (earlier a t) (earlier b) ≡ earlier (a + b) t
+    outside h = rw (lt-leb _ _ h, lt-leb (a + b) (minuteNumber t) (omega arith))
+
+    tested : a ≤ minuteNumber t → leb b (minuteNumber t - a) ≡ leb (a + b) (minuteNumber t)
+    tested h =
+        ⊎-elim (λ l. le-leb _ _ l ∙ sym (le-leb (a + b) (minuteNumber t) (omega arith)))
+        (λ l. lt-leb _ _ l ∙ sym (lt-leb (a + b) (minuteNumber t) (omega arith))) (le-or-lt b (minuteNumber t - a))
+
+    inside : a ≤ minuteNumber t → andThen (earlier a t) (earlier b) ≡ earlier (a + b) t
+    inside h = rw (le-leb _ _ h, minute-at (minuteNumber t - a) t, tested h, ← sub-add-eq (minuteNumber t) a b)
