@@ -5,7 +5,7 @@ use mathlib.Core.Logic.{_⊎_, inl, inr, ⊎-elim}
 use Prim.Native.Nat.{ℕ, _+_, _-_, _≤_, _<_}
 use native.Mathlib.Omega.{arith}
 use native.Mathlib.Nat.{add-zero, sub-zero, add-assoc, sub-add-eq}
-use lib.Dec.{leb, ltb}
+use lib.Dec.{leb, ltb, lit<}
 use borrow.Author.Tests.{leb-true, leb-false, ltb-true, ltb-false, le-leb, lt-leb, lt-ltb, le-ltb}
 use Rattle.calendar.specs.Gregorian.{leapYear, monthLength, days}
 use Rattle.calendar.specs.Moments.{IsMoment, Outcome, moment, refused, andThen, withDate, dayOfMoment, atDay, onDay}
@@ -17,66 +17,80 @@ use Rattle.calendar.proofs.Months.{lost-day}
 use Rattle.calendar.proofs.Places.{at-day-moment, minute-below, at-minute-moment, minute-at, at-own-minute}
 use Rattle.calendar.proofs.Places.{month-below, in-month-moment, in-own-month}
 
--- an answer is a moment of the calendar, or a refusal of which R speaks
-pub data Answer (R : ℕ → Type 0) : Outcome → Type 0 where
-  answered : {u : Moment} → IsMoment u → Answer R (moment u)
-  refuses : {n : ℕ} → R n → Answer R (refused n)
+-- an answer is a moment of the calendar where no refusal is due, or a refusal that is due
+pub data Answer (Due : ℕ → Type 0) : Outcome → Type 0 where
+  answered : {u : Moment} → IsMoment u → ((n : ℕ) → Due n → ⊥) → Answer Due (moment u)
+  refuses : {n : ℕ} → Due n → Answer Due (refused n)
 
-either : (R : ℕ → Type 0) (b : Bool) (p q : Outcome) → (b ≡ true → Answer R p) → (b ≡ false → Answer R q) → Answer R (cond b p q)
-either R true p q f g = f refl
-either R false p q f g = g refl
+either : (Due : ℕ → Type 0) (b : Bool) (p q : Outcome) → (b ≡ true → Answer Due p) → (b ≡ false → Answer Due q) → Answer Due (cond b p q)
+either Due true p q f g = f refl
+either Due false p q f g = g refl
 
--- 12 exactly when C
-abbrev pub Twelve : Type 0 → ℕ → Type 0
-Twelve C n = (n ≡ 12) × C
+-- refusal k is due where C holds, and no other
+abbrev pub Only : ℕ → Type 0 → ℕ → Type 0
+Only k C n = (n ≡ k) × C
 
--- a day is refused with 12 exactly when it is past the last
-pub on-day-answer : (n : ℕ) (t : Moment) → IsMoment t → Answer (Twelve (days ≤ n)) (onDay n t)
+-- a day: 12 where it is past the last
+pub on-day-answer : (n : ℕ) (t : Moment) → IsMoment t → Answer (Only 12 (days ≤ n)) (onDay n t)
 unfolding onDay
 on-day-answer n t v =
-    either _ (ltb n days) _ _ (λ e. answered (at-day-moment n t (ltb-true _ _ e) v)) (λ e. refuses (refl, ltb-false _ _ e))
+    either _ (ltb n days) _ _
+    (λ e. let h = ltb-true n days e in answered (at-day-moment n t h v) (λ _ due. omega arith)) (λ e. refuses (refl, ltb-false _ _ e))
 
--- so are minutes on, and minutes back
-pub later-answer : (k : ℕ) (t : Moment) → IsMoment t → Answer (Twelve (minutes ≤ minuteNumber t + k)) (later k t)
+-- minutes on, and minutes back
+pub later-answer : (k : ℕ) (t : Moment) → IsMoment t → Answer (Only 12 (minutes ≤ minuteNumber t + k)) (later k t)
 unfolding later
 later-answer k t v =
     either _ (ltb (minuteNumber t + k) minutes) _ _
-    (λ e. answered (at-minute-moment _ t (ltb-true _ _ e) v)) (λ e. refuses (refl, ltb-false _ _ e))
+    (λ e. let h = ltb-true (minuteNumber t + k) minutes e in answered (at-minute-moment _ t h v) (λ _ due. omega arith))
+    (λ e. refuses (refl, ltb-false _ _ e))
 
-pub earlier-answer : (k : ℕ) (t : Moment) → IsMoment t → Answer (Twelve (minuteNumber t < k)) (earlier k t)
+pub earlier-answer : (k : ℕ) (t : Moment) → IsMoment t → Answer (Only 12 (minuteNumber t < k)) (earlier k t)
 unfolding earlier
 earlier-answer k t v =
     either _ (leb k (minuteNumber t)) _ _
-    (λ e. answered (at-minute-moment _ t (omega (arith, minute-below t v)) v)) (λ e. refuses (refl, leb-false _ _ e))
+    (λ e. let h = leb-true k (minuteNumber t) e in
+    answered (at-minute-moment _ t (omega (arith, minute-below t v)) v) (λ _ due. omega arith))
+    (λ e. refuses (refl, leb-false _ _ e))
 
--- so are months on, and months back
-pub months-later-answer : (k : ℕ) (t : Moment) → IsMoment t → Answer (Twelve (months ≤ monthNumber t + k)) (monthsLater k t)
+-- months on, and months back
+pub months-later-answer : (k : ℕ) (t : Moment) → IsMoment t → Answer (Only 12 (months ≤ monthNumber t + k)) (monthsLater k t)
 unfolding monthsLater
 months-later-answer k t v =
     either _ (ltb (monthNumber t + k) months) _ _
-    (λ e. answered (in-month-moment _ t (ltb-true _ _ e) v)) (λ e. refuses (refl, ltb-false _ _ e))
+    (λ e. let h = ltb-true (monthNumber t + k) months e in answered (in-month-moment _ t h v) (λ _ due. omega arith))
+    (λ e. refuses (refl, ltb-false _ _ e))
 
-pub months-earlier-answer : (k : ℕ) (t : Moment) → IsMoment t → Answer (Twelve (monthNumber t < k)) (monthsEarlier k t)
+pub months-earlier-answer : (k : ℕ) (t : Moment) → IsMoment t → Answer (Only 12 (monthNumber t < k)) (monthsEarlier k t)
 unfolding monthsEarlier
 months-earlier-answer k t v =
     either _ (leb k (monthNumber t)) _ _
-    (λ e. answered (in-month-moment _ t (omega (arith, month-below t v)) v)) (λ e. refuses (refl, leb-false _ _ e))
+    (λ e. let h = leb-true k (monthNumber t) e in
+    answered (in-month-moment _ t (omega (arith, month-below t v)) v) (λ _ due. omega arith))
+    (λ e. refuses (refl, leb-false _ _ e))
 
--- a 29 February that year y has not
+-- a 29 February that year y does not have
 pub record LostDay (t : Moment) (y : ℕ) : Type 0 where
   pub month : t .month ≡ 2
   pub day : t .day ≡ 29
   pub common : leapYear y ≡ false
 
--- a year step is refused with 12 for the year, or else with 13 for the day
+-- years: 12 where the year is outside, else 13 where the day is lost
 abbrev pub ForYear : Type 0 → Moment → ℕ → ℕ → Type 0
-ForYear C t y n = Twelve C n ⊎ ((n ≡ 13) × LostDay t y)
+ForYear Outside t y n = Only 12 Outside n ⊎ Only 13 ((Outside → ⊥) × LostDay t y) n
 
-in-year-answer : (C : Type 0) (y : ℕ) (t : Moment) → IsMoment t → 1 ≤ y → y ≤ 9999 → Answer (ForYear C t y) (inYear y t)
-in-year-answer C y t v low high =
+-- the other way round: a lost day is past its month's end
+lost-past : {t : Moment} {y : ℕ} → LostDay t y → monthLength (leapYear y) (t .month) < t .day
+unfolding monthLength
+lost-past l = rw (l .month, l .day, l .common) (lit< tt)
+
+in-year-answer : (Outside : Type 0) (y : ℕ) (t : Moment) → IsMoment t → 1 ≤ y → y ≤ 9999 → (Outside → ⊥) →
+    Answer (ForYear Outside t y) (inYear y t)
+in-year-answer Outside y t v low high inside =
     either _ (leb (t .day) (monthLength (leapYear y) (t .month))) _ _
-    (λ e. answered (moved (leb-true _ _ e)))
-    (λ e. refuses (inr (refl, lost (lost-day _ _ _ _ (leb-false _ _ e) (v .date .day-high)))))
+    (λ e. let h = leb-true (t .day) (monthLength (leapYear y) (t .month)) e in
+    answered (moved h) (λ _. ⊎-elim (λ due. inside (due .1)) (λ due. omega (arith, lost-past (due .1 .1)))))
+    (λ e. refuses (inr (refl, (inside, lost (lost-day _ _ _ _ (leb-false _ _ e) (v .date .day-high))))))
   where
     moved : t .day ≤ monthLength (leapYear y) (t .month) → IsMoment (withDate y (t .month) (t .day) t)
     moved h = record {
@@ -98,13 +112,15 @@ pub years-later-answer : (k : ℕ) (t : Moment) → IsMoment t → Answer (ForYe
 unfolding yearsLater
 years-later-answer k t v =
     either _ (leb (t .year + k) 9999) _ _
-    (λ e. in-year-answer _ _ t v (omega (arith, v .date)) (leb-true _ _ e)) (λ e. refuses (inl (refl, leb-false _ _ e)))
+    (λ e. let h = leb-true (t .year + k) 9999 e in in-year-answer _ _ t v (omega (arith, v .date)) h (λ out. omega arith))
+    (λ e. refuses (inl (refl, leb-false _ _ e)))
 
 pub years-earlier-answer : (k : ℕ) (t : Moment) → IsMoment t → Answer (ForYear (t .year ≤ k) t (t .year - k)) (yearsEarlier k t)
 unfolding yearsEarlier
 years-earlier-answer k t v =
     either _ (ltb k (t .year)) _ _
-    (λ e. in-year-answer _ _ t v (omega (arith, ltb-true k (t .year) e)) (omega (arith, v .date))) (λ e. refuses (inl (refl, ltb-false _ _ e)))
+    (λ e. let h = ltb-true k (t .year) e in in-year-answer _ _ t v (omega arith) (omega (arith, v .date)) (λ out. omega arith))
+    (λ e. refuses (inl (refl, ltb-false _ _ e)))
 
 -- a step of nothing is the moment itself: minutes
 pub later-zero : (t : Moment) → IsMoment t → later 0 t ≡ moment t

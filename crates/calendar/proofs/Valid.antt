@@ -1,42 +1,47 @@
 -- The tests of dates, times and moments are true exactly where the records hold.
 use mathlib.Core.Path.{_≡_}
 use mathlib.Core.Bool.{Bool, true, and-eq-true-iff}
-use Prim.Native.Nat.{ℕ}
+use Prim.Native.Nat.{ℕ, _≤_}
 use lib.Dec.{leb, ltb}
 use borrow.Author.Tests.{le-leb, lt-ltb, leb-true, ltb-true}
-use Rattle.calendar.specs.Gregorian.{IsDate}
-use Rattle.calendar.specs.Moments.{IsTime, IsMoment, isDate, isTime, isMoment}
+use Rattle.calendar.specs.Gregorian.{leapYear, monthLength, IsDate}
+use Rattle.calendar.specs.Moments.{IsTime, IsMoment, inRange, isDate, isTime, isMoment}
 use Rattle.calendar.specs.declared.Moment.{Moment}
+
+-- a number in a range passes its test
+range-test : (n low high : ℕ) → low ≤ n → n ≤ high → inRange n low high ≡ true
+range-test n low high h i = simp (le-leb _ _ h, le-leb _ _ i)
+
+-- and what passes is in the range
+pub test-range : (n low high : ℕ) → inRange n low high ≡ true → (low ≤ n) × (n ≤ high)
+test-range n low high e = let b = and-eq-true-iff (leb low n) (leb n high) .0 e in (leb-true _ _ (b .0), leb-true _ _ (b .1))
 
 -- a date passes the test
 pub date-test : (y m d : ℕ) → IsDate y m d → isDate y m d ≡ true
 unfolding isDate
 date-test y m d v =
-    simp (
-      le-leb _ _ (v .year-low),
-      le-leb _ _ (v .year-high),
-      le-leb _ _ (v .month-low),
-      le-leb _ _ (v .month-high),
-      le-leb _ _ (v .day-low),
-      le-leb _ _ (v .day-high),
+    rw (
+      range-test y 1 9999 (v .year-low) (v .year-high),
+      range-test m 1 12 (v .month-low) (v .month-high),
+      range-test d 1 (monthLength (leapYear y) m) (v .day-low) (v .day-high),
     )
 
 -- and what passes is a date
 pub test-date : (y m d : ℕ) → isDate y m d ≡ true → IsDate y m d
 unfolding isDate
 test-date y m d e =
-    let a = and-eq-true-iff (leb 1 y) _ .0 e in
-    let b = and-eq-true-iff (leb y 9999) _ .0 (a .1) in
-    let c = and-eq-true-iff (leb 1 m) _ .0 (b .1) in
-    let f = and-eq-true-iff (leb m 12) _ .0 (c .1) in
-    let g = and-eq-true-iff (leb 1 d) _ .0 (f .1) in
+    let a = and-eq-true-iff (inRange y 1 9999) _ .0 e in
+    let b = and-eq-true-iff (inRange m 1 12) _ .0 (a .1) in
+    let year = test-range y 1 9999 (a .0) in
+    let month = test-range m 1 12 (b .0) in
+    let day = test-range d 1 (monthLength (leapYear y) m) (b .1) in
     record {
-      year-low = leb-true _ _ (a .0);
-      year-high = leb-true _ _ (b .0);
-      month-low = leb-true _ _ (c .0);
-      month-high = leb-true _ _ (f .0);
-      day-low = leb-true _ _ (g .0);
-      day-high = leb-true _ _ (g .1);
+      year-low = year .0;
+      year-high = year .1;
+      month-low = month .0;
+      month-high = month .1;
+      day-low = day .0;
+      day-high = day .1;
     }
 
 -- a time of day passes the test
