@@ -1,5 +1,5 @@
 -- Steps: what each answers, a step of nothing, and two steps in a row.
-use mathlib.Core.Path.{_≡_, refl, sym, _∙_}
+use mathlib.Core.Path.{_≡_, refl, sym, subst, _∙_}
 use mathlib.Core.Bool.{Bool, true, false, cond}
 use mathlib.Core.Logic.{_⊎_, inl, inr, ⊎-elim}
 use Prim.Native.Nat.{ℕ, _+_, _-_, _≤_, _<_}
@@ -21,6 +21,16 @@ use Rattle.calendar.proofs.Places.{month-below, in-month-moment, in-own
 pub data Answer (Due : ℕ → Type 0) : Outcome → Type 0 where
   answered : {u : Moment} → IsMoment u → ((n : ℕ) → Due n → ⊥) → Answer Due (moment u)
   refuses : {n : ℕ} → Due n → Answer Due (refused n)
+
+-- a moment that is answered is one of the calendar
+pub answer-moment : {Due : ℕ → Type 0} {o : Outcome} {u : Moment} → Answer Due o → o ≡ moment u → IsMoment u
+answer-moment {u = u} (answered {u = w} v free) e = let same : w ≡ u = cc in subst IsMoment same v
+answer-moment (refuses due) e = let z : _≡_ {A = ℕ} 0 1 = cc in absurd (omega arith)
+
+-- a refusal that is answered is due
+pub answer-refused : {Due : ℕ → Type 0} {o : Outcome} {n : ℕ} → Answer Due o → o ≡ refused n → Due n
+answer-refused (answered v free) e = let z : _≡_ {A = ℕ} 0 1 = cc in absurd (omega arith)
+answer-refused {Due} {n = n} (refuses {n = k} due) e = let same : k ≡ n = cc in subst Due same due
 
 either : (Due : ℕ → Type 0) (b : Bool) (p q : Outcome) → (b ≡ true → Answer Due p) → (b ≡ false → Answer Due q) → Answer Due (cond b p q)
 either Due true p q f g = f refl

@@ -1,11 +1,11 @@
 -- The tests of dates, times and moments are true exactly where the records hold.
-use mathlib.Core.Path.{_≡_}
+use mathlib.Core.Path.{_≡_, refl}
 use mathlib.Core.Bool.{Bool, true, and-eq-true-iff}
 use Prim.Native.Nat.{ℕ, _≤_}
 use lib.Dec.{leb, ltb}
 use borrow.Author.Tests.{le-leb, lt-ltb, leb-true, ltb-true}
 use Rattle.calendar.specs.Gregorian.{leapYear, monthLength, IsDate}
-use Rattle.calendar.specs.Moments.{IsTime, IsMoment, inRange, isDate, isTime, isMoment}
+use Rattle.calendar.specs.Moments.{IsTime, IsMoment, inRange, isDate, isTime, isMoment, firstMoment, lastMoment}
 use Rattle.calendar.specs.declared.Moment.{Moment}
 
 -- a number in a range passes its test
@@ -68,3 +68,12 @@ unfolding isMoment
 test-moment t e =
     let a = and-eq-true-iff (isDate (t .year) (t .month) (t .day)) _ .0 e in
     record { date = test-date _ _ _ (a .0); time = test-time _ _ _ (a .1) }
+
+-- the first and the last moment are moments
+pub first-moment : IsMoment firstMoment
+unfolding isMoment isDate isTime monthLength leapYear
+first-moment = test-moment firstMoment refl
+
+pub last-moment : IsMoment lastMoment
+unfolding isMoment isDate isTime monthLength leapYear
+last-moment = test-moment lastMoment refl
