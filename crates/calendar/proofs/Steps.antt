@@ -8,7 +8,7 @@ use native.Mathlib.Nat.{add-zero, sub-zero, add-assoc, sub-add-eq}
 use lib.Dec.{leb, ltb, lit<}
 use borrow.Author.Tests.{leb-true, leb-false, ltb-true, ltb-false, le-leb, lt-leb, lt-ltb, le-ltb}
 use Rattle.calendar.specs.Gregorian.{leapYear, monthLength, days}
-use Rattle.calendar.specs.Moments.{IsMoment, Outcome, moment, refused, andThen, withDate, dayOfMoment, atDay, onDay}
+use Rattle.calendar.specs.Moments.{IsMoment, Outcome, moment, refused, inside, andThen, withDate, dayOfMoment, atDay, onDay}
 use Rattle.calendar.specs.Moments.{minuteNumber, minutes, atMinute, later, earlier, monthNumber, months, inMonth}
 use Rattle.calendar.specs.Moments.{monthsLater, monthsEarlier, inYear, yearsLater, yearsEarlier}
 use Rattle.calendar.specs.declared.Moment.{Moment}
@@ -32,7 +32,9 @@ pub answer-refused : {Due : ℕ → Type 0} {o : Outcome} {n : ℕ} → Answer D
 answer-refused (answered v free) e = let z : _≡_ {A = ℕ} 0 1 = cc in absurd (omega arith)
 answer-refused {Due} {n = n} (refuses {n = k} due) e = let same : k ≡ n = cc in subst Due same due
 
-either : (Due : ℕ → Type 0) (b : Bool) (p q : Outcome) → (b ≡ true → Answer Due p) → (b ≡ false → Answer Due q) → Answer Due (cond b p q)
+-- an answer by a test
+either : (Due : ℕ → Type 0) (b : Bool) (p q : Outcome) → (b ≡ true → Answer Due p) → (b ≡ false → Answer Due q) →
+    Answer Due (cond b p q)
 either Due true p q f g = f refl
 either Due false p q f g = g refl
 
@@ -40,44 +42,40 @@ either Due false p q f g = g refl
 abbrev pub Only : ℕ → Type 0 → ℕ → Type 0
 Only k C n = (n ≡ k) × C
 
--- a day: 12 where it is past the last
+-- 12 where n reaches the limit
+below-answer : (n limit : ℕ) (u : Moment) → (n < limit → IsMoment u) → Answer (Only 12 (limit ≤ n)) (inside (ltb n limit) u)
+below-answer n limit u f =
+    either _ (ltb n limit) _ _
+    (λ e. let h = ltb-true n limit e in answered (f h) (λ _ due. omega arith)) (λ e. refuses (refl, ltb-false _ _ e))
+
+-- 12 where k is more than there is
+within-answer : (k n : ℕ) (u : Moment) → (k ≤ n → IsMoment u) → Answer (Only 12 (n < k)) (inside (leb k n) u)
+within-answer k n u f =
+    either _ (leb k n) _ _
+    (λ e. let h = leb-true k n e in answered (f h) (λ _ due. omega arith)) (λ e. refuses (refl, leb-false _ _ e))
+
+-- a day
 pub on-day-answer : (n : ℕ) (t : Moment) → IsMoment t → Answer (Only 12 (days ≤ n)) (onDay n t)
 unfolding onDay
-on-day-answer n t v =
-    either _ (ltb n days) _ _
-    (λ e. let h = ltb-true n days e in answered (at-day-moment n t h v) (λ _ due. omega arith)) (λ e. refuses (refl, ltb-false _ _ e))
+on-day-answer n t v = below-answer n days _ (λ h. at-day-moment n t h v)
 
 -- minutes on, and minutes back
 pub later-answer : (k : ℕ) (t : Moment) → IsMoment t → Answer (Only 12 (minutes ≤ minuteNumber t + k)) (later k t)
 unfolding later
-later-answer k t v =
-    either _ (ltb (minuteNumber t + k) minutes) _ _
-    (λ e. let h = ltb-true (minuteNumber t + k) minutes e in answered (at-minute-moment _ t h v) (λ _ due. omega arith))
-    (λ e. refuses (refl, ltb-false _ _ e))
+later-answer k t v = below-answer (minuteNumber t + k) minutes _ (λ h. at-minute-moment _ t h v)
 
 pub earlier-answer : (k : ℕ) (t : Moment) → IsMoment t → Answer (Only 12 (minuteNumber t < k)) (earlier k t)
 unfolding earlier
-earlier-answer k t v =
-    either _ (leb k (minuteNumber t)) _ _
-    (λ e. let h = leb-true k (minuteNumber t) e in
-    answered (at-minute-moment _ t (omega (arith, minute-below t v)) v) (λ _ due. omega arith))
-    (λ e. refuses (refl, leb-false _ _ e))
+earlier-answer k t v = within-answer k (minuteNumber t) _ (λ h. at-minute-moment _ t (omega (arith, minute-below t v)) v)
 
 -- months on, and months back
 pub months-later-answer : (k : ℕ) (t : Moment) → IsMoment t → Answer (Only 12 (months ≤ monthNumber t + k)) (monthsLater k t)
 unfolding monthsLater
-months-later-answer k t v =
-    either _ (ltb (monthNumber t + k) months) _ _
-    (λ e. let h = ltb-true (monthNumber t + k) months e in answered (in-month-moment _ t h v) (λ _ due. omega arith))
-    (λ e. refuses (refl, ltb-false _ _ e))
+months-later-answer k t v = below-answer (monthNumber t + k) months _ (λ h. in-month-moment _ t h v)
 
 pub months-earlier-answer : (k : ℕ) (t : Moment) → IsMoment t → Answer (Only 12 (monthNumber t < k)) (monthsEarlier k t)
 unfolding monthsEarlier
-months-earlier-answer k t v =
-    either _ (leb k (monthNumber t)) _ _
-    (λ e. let h = leb-true k (monthNumber t) e in
-    answered (in-month-moment _ t (omega (arith, month-below t v)) v) (λ _ due. omega arith))
-    (λ e. refuses (refl, leb-false _ _ e))
+months-earlier-answer k t v = within-answer k (monthNumber t) _ (λ h. in-month-moment _ t (omega (arith, month-below t v)) v)
 
 -- a 29 February that year y does not have
 pub record LostDay (t : Moment) (y : ℕ) : Type 0 where
@@ -96,11 +94,11 @@ lost-past l = rw (l .month, l .day, l .common) (lit< tt)
 
 in-year-answer : (Outside : Type 0) (y : ℕ) (t : Moment) → IsMoment t → 1 ≤ y → y ≤ 9999 → (Outside → ⊥) →
     Answer (ForYear Outside t y) (inYear y t)
-in-year-answer Outside y t v low high inside =
+in-year-answer Outside y t v low high not-out =
     either _ (leb (t .day) (monthLength (leapYear y) (t .month))) _ _
     (λ e. let h = leb-true (t .day) (monthLength (leapYear y) (t .month)) e in
-    answered (moved h) (λ _. ⊎-elim (λ due. inside (due .1)) (λ due. omega (arith, lost-past (due .1 .1)))))
-    (λ e. refuses (inr (refl, (inside, lost (lost-day _ _ _ _ (leb-false _ _ e) (v .date .day-high))))))
+    answered (moved h) (λ _. ⊎-elim (λ due. not-out (due .1)) (λ due. omega (arith, lost-past (due .1 .1)))))
+    (λ e. refuses (inr (refl, (not-out, lost (lost-day _ _ _ _ (leb-false _ _ e) (v .date .day-high))))))
   where
     moved : t .day ≤ monthLength (leapYear y) (t .month) → IsMoment (withDate y (t .month) (t .day) t)
     moved h = record {
@@ -162,26 +160,26 @@ years-earlier-zero t v = rw (lt-ltb 0 (t .year) (v .date .year-low), sub-zero, l
 -- a minutes on and then b is a + b minutes on, with the same refusal
 pub later-later : (a b : ℕ) (t : Moment) → andThen (later a t) (later b) ≡ later (a + b) t
 unfolding later
-later-later a b t = ⊎-elim outside inside (le-or-lt minutes (minuteNumber t + a))
+later-later a b t = ⊎-elim out in-reach (le-or-lt minutes (minuteNumber t + a))
   where
-    outside : minutes ≤ minuteNumber t + a → andThen (later a t) (later b) ≡ later (a + b) t
-    outside h = rw (le-ltb _ _ h, le-ltb (minuteNumber t + (a + b)) minutes (omega arith))
+    out : minutes ≤ minuteNumber t + a → andThen (later a t) (later b) ≡ later (a + b) t
+    out h = rw (le-ltb _ _ h, le-ltb (minuteNumber t + (a + b)) minutes (omega arith))
 
-    inside : minuteNumber t + a < minutes → andThen (later a t) (later b) ≡ later (a + b) t
-    inside h = rw (lt-ltb _ _ h, minute-at (minuteNumber t + a) t, add-assoc)
+    in-reach : minuteNumber t + a < minutes → andThen (later a t) (later b) ≡ later (a + b) t
+    in-reach h = rw (lt-ltb _ _ h, minute-at (minuteNumber t + a) t, add-assoc)
 
 -- a minutes back and then b is a + b minutes back, with the same refusal
 pub earlier-earlier : (a b : ℕ) (t : Moment) → andThen (earlier a t) (earlier b) ≡ earlier (a + b) t
 unfolding earlier
-earlier-earlier a b t = ⊎-elim inside outside (le-or-lt a (minuteNumber t))
+earlier-earlier a b t = ⊎-elim in-reach out (le-or-lt a (minuteNumber t))
   where
-    outside : minuteNumber t < a → andThen (earlier a t) (earlier b) ≡ earlier (a + b) t
-    outside h = rw (lt-leb _ _ h, lt-leb (a + b) (minuteNumber t) (omega arith))
+    out : minuteNumber t < a → andThen (earlier a t) (earlier b) ≡ earlier (a + b) t
+    out h = rw (lt-leb _ _ h, lt-leb (a + b) (minuteNumber t) (omega arith))
 
     tested : a ≤ minuteNumber t → leb b (minuteNumber t - a) ≡ leb (a + b) (minuteNumber t)
     tested h =
         ⊎-elim (λ l. le-leb _ _ l ∙ sym (le-leb (a + b) (minuteNumber t) (omega arith)))
         (λ l. lt-leb _ _ l ∙ sym (lt-leb (a + b) (minuteNumber t) (omega arith))) (le-or-lt b (minuteNumber t - a))
 
-    inside : a ≤ minuteNumber t → andThen (earlier a t) (earlier b) ≡ earlier (a + b) t
-    inside h = rw (le-leb _ _ h, minute-at (minuteNumber t - a) t, tested h, ← sub-add-eq (minuteNumber t) a b)
+    in-reach : a ≤ minuteNumber t → andThen (earlier a t) (earlier b) ≡ earlier (a + b) t
+    in-reach h = rw (le-leb _ _ h, minute-at (minuteNumber t - a) t, tested h, ← sub-add-eq (minuteNumber t) a b)
