@@ -1,10 +1,9 @@
 -- The calendar as one would count it: the day after has the next number, and what comes again after 400 years.
 use mathlib.Core.Path.{_≡_, refl}
-use mathlib.Core.Bool.{Bool, true, false}
-use Prim.Native.Nat.{ℕ, zero, suc, _+_, _-_, _≤_}
+use Prim.Native.Nat.{ℕ, _+_, _-_, _≤_}
 use native.Mathlib.Omega.{arith}
 use native.Mathlib.Numerals.{add-one}
-use Rattle.calendar.specs.Gregorian.{leapYear, leapDay, monthLength, daysBeforeMonth, daysOfYears, dayNumber, weekday}
+use Rattle.calendar.specs.Gregorian.{leapYear, monthLength, daysBeforeMonth, daysOfYears, dayNumber, weekday}
 use Rattle.calendar.proofs.Leap.{year-step, cycle-days, cycle-leap}
 use Rattle.calendar.proofs.Months.{month-step, months-year}
 

@@ -1,6 +1,6 @@
 -- The moments that steps lead to, at a day, a minute and a month: they are moments, and a moment's own place is itself.
 use mathlib.Core.Path.{_≡_}
-use Prim.Native.Nat.{ℕ, _+_, _-_, _*_, _/_, _%_, _≤_, _<_, min}
+use Prim.Native.Nat.{ℕ, _+_, _*_, _/_, _%_, _<_, min}
 use native.Mathlib.Omega.{arith}
 use Rattle.calendar.specs.Gregorian.{leapYear, monthLength, days}
 use Rattle.calendar.specs.Moments.{IsMoment, dayOfMoment, atDay, minuteNumber, minutes, atMinute, monthNumber, months, inMonth}

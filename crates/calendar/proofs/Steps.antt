@@ -8,8 +8,8 @@ use native.Mathlib.Nat.{add-zero, sub-zero, add-assoc, sub-add-eq}
 use lib.Dec.{leb, ltb, lit<}
 use borrow.Author.Tests.{leb-true, leb-false, ltb-true, ltb-false, le-leb, lt-leb, lt-ltb, le-ltb}
 use Rattle.calendar.specs.Gregorian.{leapYear, monthLength, days}
-use Rattle.calendar.specs.Moments.{IsMoment, Outcome, moment, refused, inside, andThen, withDate, dayOfMoment, atDay, onDay}
-use Rattle.calendar.specs.Moments.{minuteNumber, minutes, atMinute, later, earlier, monthNumber, months, inMonth}
+use Rattle.calendar.specs.Moments.{IsMoment, Outcome, moment, refused, inside, andThen, withDate, onDay}
+use Rattle.calendar.specs.Moments.{minuteNumber, minutes, later, earlier, monthNumber, months}
 use Rattle.calendar.specs.Moments.{monthsLater, monthsEarlier, inYear, yearsLater, yearsEarlier}
 use Rattle.calendar.specs.declared.Moment.{Moment}
 use Rattle.calendar.proofs.Below.{le-or-lt}
