@@ -5,17 +5,30 @@ use mathlib.Core.Logic.{_⊎_, inl, inr, ⊎-elim}
 use Prim.Native.Nat.{ℕ, _+_, _-_, _≤_, _<_}
 use native.Mathlib.Omega.{arith}
 use native.Mathlib.Nat.{add-zero, sub-zero, add-assoc, sub-add-eq}
+use mathlib.Core.List.{[], _∷_}
 use lib.Dec.{leb, ltb, lit<}
-use borrow.Author.Tests.{leb-true, leb-false, ltb-true, ltb-false, le-leb, lt-leb, lt-ltb, le-ltb}
+use types.Run.{OneOf}
+use denote.Enum.Declared.{tagOf}
+use borrow.Author.Tests.{eqb-false, leb-true, leb-false, ltb-true, ltb-false, le-leb, lt-leb, lt-ltb, le-ltb}
 use Rattle.calendar.specs.Gregorian.{leapYear, monthLength, days}
-use Rattle.calendar.specs.Moments.{IsMoment, Outcome, moment, refused, inside, andThen, withDate, onDay}
+use Rattle.calendar.specs.Moments.{IsMoment, Outcome, moment, refused, outcomeOf, inside, andThen, withDate, onDay}
 use Rattle.calendar.specs.Moments.{minuteNumber, minutes, later, earlier, monthNumber, months}
 use Rattle.calendar.specs.Moments.{monthsLater, monthsEarlier, inYear, yearsLater, yearsEarlier}
 use Rattle.calendar.specs.declared.Moment.{Moment}
+use Rattle.calendar.specs.declared.Step.{Step}
+use Rattle.calendar.specs.declared.Step.the-variants.{At, Outside, NoDay}
+use Rattle.calendar.proofs.Step.{the-type}
 use Rattle.calendar.proofs.Below.{le-or-lt}
 use Rattle.calendar.proofs.Months.{lost-day}
 use Rattle.calendar.proofs.Places.{at-day-moment, minute-below, at-minute-moment, minute-at, at-own-minute}
 use Rattle.calendar.proofs.Places.{month-below, in-month-moment, in-own-month}
+
+-- a step that led to no moment stays refused, whatever step comes after
+pub stays-refused : (s : Step) (f : Moment → Outcome) → OneOf (1 ∷ (2 ∷ [])) (tagOf the-type s) → outcomeOf s ≡ andThen (outcomeOf s) f
+stays-refused (At u) f (inl e) = absurd (eqb-false 0 1 refl e)
+stays-refused (At u) f (inr e) = absurd (eqb-false 0 2 refl e)
+stays-refused Outside f e = refl
+stays-refused NoDay f e = refl
 
 -- an answer is a moment of the calendar where no refusal is due, or a refusal that is due
 pub data Answer (Due : ℕ → Type 0) : Outcome → Type 0 where
@@ -54,25 +67,27 @@ within-answer k n u f =
     either _ (leb k n) _ _
     (λ e. let h = leb-true k n e in answered (f h) (λ _ due. omega arith)) (λ e. refuses (refl, leb-false _ _ e))
 
--- a day
+-- a day: 12 exactly where it is past the last
 pub on-day-answer : (n : ℕ) (t : Moment) → IsMoment t → Answer (Only 12 (days ≤ n)) (onDay n t)
 unfolding onDay
 on-day-answer n t v = below-answer n days _ (λ h. at-day-moment n t h v)
 
--- minutes on, and minutes back
+-- minutes on: 12 exactly where they pass the last minute
 pub later-answer : (k : ℕ) (t : Moment) → IsMoment t → Answer (Only 12 (minutes ≤ minuteNumber t + k)) (later k t)
 unfolding later
 later-answer k t v = below-answer (minuteNumber t + k) minutes _ (λ h. at-minute-moment _ t h v)
 
+-- minutes back: 12 exactly where they are more than have passed
 pub earlier-answer : (k : ℕ) (t : Moment) → IsMoment t → Answer (Only 12 (minuteNumber t < k)) (earlier k t)
 unfolding earlier
 earlier-answer k t v = within-answer k (minuteNumber t) _ (λ h. at-minute-moment _ t (omega (arith, minute-below t v)) v)
 
--- months on, and months back
+-- months on: 12 exactly where they pass the last month
 pub months-later-answer : (k : ℕ) (t : Moment) → IsMoment t → Answer (Only 12 (months ≤ monthNumber t + k)) (monthsLater k t)
 unfolding monthsLater
 months-later-answer k t v = below-answer (monthNumber t + k) months _ (λ h. in-month-moment _ t h v)
 
+-- months back: 12 exactly where they are more than have passed
 pub months-earlier-answer : (k : ℕ) (t : Moment) → IsMoment t → Answer (Only 12 (monthNumber t < k)) (monthsEarlier k t)
 unfolding monthsEarlier
 months-earlier-answer k t v = within-answer k (monthNumber t) _ (λ h. in-month-moment _ t (omega (arith, month-below t v)) v)
@@ -83,18 +98,18 @@ pub record LostDay (t : Moment) (y : ℕ) : Type 0 where
   pub day : t .day ≡ 29
   pub common : leapYear y ≡ false
 
--- years: 12 where the year is outside, else 13 where the day is lost
+-- what a year step is refused for: 12 where the year is outside, else 13 where the day is lost
 abbrev pub ForYear : Type 0 → Moment → ℕ → ℕ → Type 0
-ForYear Outside t y n = Only 12 Outside n ⊎ Only 13 ((Outside → ⊥) × LostDay t y) n
+ForYear C t y n = Only 12 C n ⊎ Only 13 ((C → ⊥) × LostDay t y) n
 
--- the other way round: a lost day is past its month's end
+-- a lost day is past its month's end
 lost-past : {t : Moment} {y : ℕ} → LostDay t y → monthLength (leapYear y) (t .month) < t .day
 unfolding monthLength
 lost-past l = rw (l .month, l .day, l .common) (lit< tt)
 
-in-year-answer : (Outside : Type 0) (y : ℕ) (t : Moment) → IsMoment t → 1 ≤ y → y ≤ 9999 → (Outside → ⊥) →
-    Answer (ForYear Outside t y) (inYear y t)
-in-year-answer Outside y t v low high not-out =
+-- the same month and day in a year of the calendar
+in-year-answer : (C : Type 0) (y : ℕ) (t : Moment) → IsMoment t → 1 ≤ y → y ≤ 9999 → (C → ⊥) → Answer (ForYear C t y) (inYear y t)
+in-year-answer C y t v low high not-out =
     either _ (leb (t .day) (monthLength (leapYear y) (t .month))) _ _
     (λ e. let h = leb-true (t .day) (monthLength (leapYear y) (t .month)) e in
     answered (moved h) (λ _. ⊎-elim (λ due. not-out (due .1)) (λ due. omega (arith, lost-past (due .1 .1)))))
@@ -116,6 +131,7 @@ in-year-answer Outside y t v low high not-out =
     lost : (t .month ≡ 2) × (t .day ≡ 29) × (leapYear y ≡ false) → LostDay t y
     lost l = record { month = l .0; day = l .1; common = l .2 }
 
+-- years on: 12 exactly where the year is past 9999, else 13 exactly for 29 February into a common year
 pub years-later-answer : (k : ℕ) (t : Moment) → IsMoment t → Answer (ForYear (9999 < t .year + k) t (t .year + k)) (yearsLater k t)
 unfolding yearsLater
 years-later-answer k t v =
@@ -123,6 +139,7 @@ years-later-answer k t v =
     (λ e. let h = leb-true (t .year + k) 9999 e in in-year-answer _ _ t v (omega (arith, v .date)) h (λ out. omega arith))
     (λ e. refuses (inl (refl, leb-false _ _ e)))
 
+-- years back: the same, with 12 where the year is before 1
 pub years-earlier-answer : (k : ℕ) (t : Moment) → IsMoment t → Answer (ForYear (t .year ≤ k) t (t .year - k)) (yearsEarlier k t)
 unfolding yearsEarlier
 years-earlier-answer k t v =
@@ -130,29 +147,32 @@ years-earlier-answer k t v =
     (λ e. let h = ltb-true k (t .year) e in in-year-answer _ _ t v (omega arith) (omega (arith, v .date)) (λ out. omega arith))
     (λ e. refuses (inl (refl, ltb-false _ _ e)))
 
--- a step of nothing is the moment itself: minutes
+-- a step of nothing is the moment itself: minutes on
 pub later-zero : (t : Moment) → IsMoment t → later 0 t ≡ moment t
 unfolding later
 later-zero t v = rw (add-zero, lt-ltb _ _ (minute-below t v), at-own-minute t v)
 
+-- minutes back
 pub earlier-zero : (t : Moment) → IsMoment t → earlier 0 t ≡ moment t
 unfolding earlier
 earlier-zero t v = rw (sub-zero, le-leb 0 (minuteNumber t) (omega arith), at-own-minute t v)
 
--- months
+-- months on
 pub months-later-zero : (t : Moment) → IsMoment t → monthsLater 0 t ≡ moment t
 unfolding monthsLater
 months-later-zero t v = rw (add-zero, lt-ltb _ _ (month-below t v), in-own-month t v)
 
+-- months back
 pub months-earlier-zero : (t : Moment) → IsMoment t → monthsEarlier 0 t ≡ moment t
 unfolding monthsEarlier
 months-earlier-zero t v = rw (sub-zero, le-leb 0 (monthNumber t) (omega arith), in-own-month t v)
 
--- years
+-- years on
 pub years-later-zero : (t : Moment) → IsMoment t → yearsLater 0 t ≡ moment t
 unfolding yearsLater
 years-later-zero t v = rw (add-zero, le-leb _ _ (v .date .year-high), le-leb _ _ (v .date .day-high))
 
+-- years back
 pub years-earlier-zero : (t : Moment) → IsMoment t → yearsEarlier 0 t ≡ moment t
 unfolding yearsEarlier
 years-earlier-zero t v = rw (lt-ltb 0 (t .year) (v .date .year-low), sub-zero, le-leb _ _ (v .date .day-high))
