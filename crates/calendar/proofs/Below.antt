@@ -16,10 +16,11 @@ le-or-lt (suc a) (suc b) = ⊎-elim (λ p. inl (omega arith)) (λ q. inr (omega 
 pub trichotomy : (a b : ℕ) → (a < b) ⊎ ((a ≡ b) ⊎ (b < a))
 trichotomy a b = ⊎-elim (λ p. ⊎-elim (λ e. inr (inl e)) inl (eq-or-lt-of-le p)) (λ q. inr (inr q)) (le-or-lt a b)
 
--- k more than n are below m where k is below the room that is left, and only there
+-- what is below the room that is left can be added
 pub room : (n k m : ℕ) → k < m - n → n + k < m
 room n k m h = omega arith
 
+-- and nothing more
 pub no-room : (n k m : ℕ) → m - n ≤ k → m ≤ n + k
 no-room n k m h = omega arith
 

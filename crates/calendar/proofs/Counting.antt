@@ -3,16 +3,17 @@ use mathlib.Core.Path.{_≡_, refl}
 use Prim.Native.Nat.{ℕ, _+_, _-_, _≤_}
 use native.Mathlib.Omega.{arith}
 use native.Mathlib.Numerals.{add-one}
-use Rattle.calendar.specs.Gregorian.{leapYear, monthLength, daysBeforeMonth, daysOfYears, dayNumber, weekday}
+use Rattle.calendar.specs.Gregorian.{leapYear, monthLength, daysBeforeMonth, daysOfYears, dayNumber, days, weekday}
 use Rattle.calendar.proofs.Leap.{year-step, cycle-days, cycle-leap}
 use Rattle.calendar.proofs.Months.{month-step, months-year}
 
--- the first and the last day
+-- the first day is day 0
 pub first-day : dayNumber 1 1 1 ≡ 0
 unfolding dayNumber daysOfYears daysBeforeMonth monthLength leapYear
 first-day = refl
 
-pub last-day : dayNumber 9999 12 31 ≡ 3652058
+-- and the last is the last of `days`
+pub last-day : dayNumber 9999 12 31 + 1 ≡ days
 unfolding dayNumber daysOfYears daysBeforeMonth monthLength leapYear
 last-day = refl
 
@@ -22,17 +23,17 @@ unfolding dayNumber
 next-day y m d h = omega arith
 
 -- the day after a month's last is the first of the next month
-pub next-month : (y m : ℕ) → 1 ≤ monthLength (leapYear y) m → dayNumber y (m + 1) 1 ≡ dayNumber y m (monthLength (leapYear y) m) + 1
+pub next-month : (y m : ℕ) → 1 ≤ monthLength (leapYear y) m →
+    dayNumber y (m + 1) 1 ≡ dayNumber y m (monthLength (leapYear y) m) + 1
 unfolding dayNumber
 next-month y m h = rw (add-one m) (omega (arith, month-step (leapYear y) m))
 
+-- a year begins after the days of those before it
 year-begins : (x : ℕ) → dayNumber (x + 1) 1 1 ≡ daysOfYears x
 unfolding dayNumber daysBeforeMonth monthLength
-year-begins x = rw (back x) (omega arith)
-  where
-    back : (x : ℕ) → x + 1 - 1 ≡ x
-    back x = omega arith
+year-begins x = let back : x + 1 - 1 ≡ x = omega arith in rw back (omega arith)
 
+-- and ends with the days up to it
 year-ends : (y : ℕ) → 1 ≤ y → dayNumber y 12 31 + 1 ≡ daysOfYears y
 unfolding dayNumber monthLength
 year-ends y h =

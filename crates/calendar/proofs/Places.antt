@@ -3,34 +3,40 @@ use mathlib.Core.Path.{_≡_}
 use Prim.Native.Nat.{ℕ, _+_, _*_, _/_, _%_, _<_, min}
 use native.Mathlib.Omega.{arith}
 use Rattle.calendar.specs.Gregorian.{leapYear, monthLength, days}
-use Rattle.calendar.specs.Moments.{IsMoment, dayOfMoment, atDay, minuteNumber, minutes, atMinute, monthNumber, months, inMonth}
+use Rattle.calendar.specs.Moments.{IsMoment, dayOfMoment, atDay, minuteNumber, minutes, atMinute}
+use Rattle.calendar.specs.Moments.{monthNumber, months, inMonth}
 use Rattle.calendar.specs.declared.Moment.{Moment}
 use Rattle.calendar.proofs.Months.{month}
 use Rattle.calendar.proofs.Dates.{is-date, in-days, day-date, date-day}
 
--- the same time on a day of the calendar
+-- the same time on a day of the calendar is a moment
 pub at-day-moment : (n : ℕ) (t : Moment) → n < days → IsMoment t → IsMoment (atDay n t)
 at-day-moment n t h v = record { date = is-date n h; time = v .time }
 
+-- of that day
 pub day-at : (n : ℕ) (t : Moment) → dayOfMoment (atDay n t) ≡ n
 day-at n t = day-date n
 
+-- and on the moment's own day it is the moment itself
 pub at-own-day : (t : Moment) → IsMoment t → atDay (dayOfMoment t) t ≡ t
 at-own-day t v = let s = date-day (v .date) in rw (s .year, s .month, s .day)
 
--- a minute of the calendar
+-- a moment's minute is one of the calendar's
 pub minute-below : (t : Moment) → IsMoment t → minuteNumber t < minutes
 minute-below t v = omega (arith, in-days (v .date))
 
+-- a minute of the calendar is a moment
 pub at-minute-moment : (n : ℕ) (t : Moment) → n < minutes → IsMoment t → IsMoment (atMinute n t)
 at-minute-moment n t h v = record {
   date = is-date (n / 1440) (omega arith);
   time = record { hour = omega arith; minute = omega arith; second = v .time .second };
 }
 
+-- of that minute
 pub minute-at : (n : ℕ) (t : Moment) → minuteNumber (atMinute n t) ≡ n
 minute-at n t = rw (day-date (n / 1440)) (omega arith)
 
+-- a number of minutes, taken apart
 module _ (n h m : ℕ) (hour : h < 24) (minute : m < 60) where
   day-of : (1440 * n + 60 * h + m) / 1440 ≡ n
   day-of = omega arith
@@ -41,6 +47,7 @@ module _ (n h m : ℕ) (hour : h < 24) (minute : m < 60) where
   minute-of : (1440 * n + 60 * h + m) % 60 ≡ m
   minute-of = omega arith
 
+-- and at the moment's own minute it is the moment itself
 pub at-own-minute : (t : Moment) → IsMoment t → atMinute (minuteNumber t) t ≡ t
 at-own-minute t v =
     let n = dayOfMoment t in
@@ -48,10 +55,11 @@ at-own-minute t v =
     let m = v .time .minute in
     rw (day-of n _ _ h m, hour-of n _ _ h m, minute-of n _ _ h m) (at-own-day t v)
 
--- a month of the calendar
+-- a moment's month is one of the calendar's
 pub month-below : (t : Moment) → IsMoment t → monthNumber t < months
 month-below t v = omega (arith, v .date)
 
+-- the same day and time in a month of the calendar, or its last day, is a moment
 pub in-month-moment : (n : ℕ) (t : Moment) → n < months → IsMoment t → IsMoment (inMonth n t)
 in-month-moment n t h v =
     let l = month (leapYear (n / 12 + 1)) (n % 12 + 1) (omega arith) (omega arith) .least in
@@ -67,6 +75,7 @@ in-month-moment n t h v =
       time = v .time;
     }
 
+-- and in the moment's own month it is the moment itself
 pub in-own-month : (t : Moment) → IsMoment t → inMonth (monthNumber t) t ≡ t
 in-own-month t v =
     let d = v .date in

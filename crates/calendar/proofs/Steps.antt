@@ -1,5 +1,5 @@
 -- Steps: what each answers, a step of nothing, and two steps in a row.
-use mathlib.Core.Path.{_≡_, refl, sym, subst, _∙_}
+use mathlib.Core.Path.{_≡_, refl, sym, ap, subst, _∙_}
 use mathlib.Core.Bool.{Bool, true, false, cond}
 use mathlib.Core.Logic.{_⊎_, inl, inr, ⊎-elim}
 use Prim.Native.Nat.{ℕ, _+_, _-_, _≤_, _<_}
@@ -39,6 +39,10 @@ pub data Answer (Due : ℕ → Type 0) : Outcome → Type 0 where
 pub answer-moment : {Due : ℕ → Type 0} {o : Outcome} {u : Moment} → Answer Due o → o ≡ moment u → IsMoment u
 answer-moment {u = u} (answered {u = w} v free) e = let same : w ≡ u = cc in subst IsMoment same v
 answer-moment (refuses due) e = let z : _≡_ {A = ℕ} 0 1 = cc in absurd (omega arith)
+
+-- and so is one that code got from a step
+pub step-moment : {Due : ℕ → Type 0} {o : Outcome} {s : Step} {u : Moment} → Answer Due o → outcomeOf s ≡ o → s ≡ At u → IsMoment u
+step-moment a p e = answer-moment a (sym p ∙ ap outcomeOf e)
 
 -- a refusal that is answered is due
 pub answer-refused : {Due : ℕ → Type 0} {o : Outcome} {n : ℕ} → Answer Due o → o ≡ refused n → Due n

@@ -48,11 +48,11 @@ def years(t, k):
 
 for n in range(0, 997 * 3664, 997):
     print(day(n))
+print(day(date.max.toordinal() - 1))
 print(day(date.max.toordinal()))
 for i in range(101):
     print(leap_day(100 * i))
-    print(leap_day(1895 + 2 * i))
-    print(leap_day(1896 + 2 * i))
+    print(leap_day(1700 + 4 * i))
 for t in [datetime.min] + [datetime(*d, 23, 59, 59) for d in STARTS]:
     for k in SIZES:
         for name, step in (("minutes", minutes), ("months", months), ("years", years)):

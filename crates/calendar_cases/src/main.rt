@@ -120,20 +120,20 @@ fn start(t: Moment) {
     }
 }
 
-// Every 997th day, and the first past the last.
+// Every 997th day, the last, and the first past it.
 fn days() {
     for i in 0..3664 {
         day(997 * i);
     }
+    day(Moment::DAYS - 1);
     day(Moment::DAYS);
 }
 
-// 29 February of the years that divide by 100, and of every year near 2000.
+// 29 February of the years that divide by 100, and of every fourth year of four centuries.
 fn leap_days() {
     for i in 0..101 {
         leap_day(100 * i);
-        leap_day(1895 + 2 * i);
-        leap_day(1896 + 2 * i);
+        leap_day(1700 + 4 * i);
     }
 }
 

@@ -1,7 +1,5 @@
-use mathlib.Core.Path.{sym, ap, _∙_}
 use borrow.Author.Needs.{needs}
-use Rattle.calendar.specs.Moments.{outcomeOf}
-use Rattle.calendar.proofs.Steps.{answer-moment, on-day-answer}
+use Rattle.calendar.proofs.Steps.{step-moment, on-day-answer}
 use Rattle.calendar.proofs.Valid.{first-moment}
 use Rattle.calendar_cases.proofs.day.Statement.{statement}
 use Rattle.calendar_cases.proofs.day.Tie as tie
@@ -23,7 +21,7 @@ returns c = search needs
 
 day-line-requires : tie.Need-day-line-requires
 day-line-requires c κs =
-    answer-moment (on-day-answer _ _ first-moment) (sym (c .before .before .before .from-day .ensures) ∙ ap outcomeOf (c .before .s .given .1))
+    step-moment (on-day-answer _ _ first-moment) (c .before .before .before .from-day .ensures) (c .before .s .given .1)
 
 returns-2 : tie.Need-returns-2
 returns-2 c = search needs

@@ -27,8 +27,14 @@ loop-less c = search needs
 loop-again : tie.Need-loop-again Inv-loop μ-loop
 loop-again c = search needs
 
+sub-day : tie.Need-sub-day Inv-loop μ-loop
+sub-day c = search needs
+
 day-requires-2 : tie.Need-day-requires-2 Inv-loop μ-loop
 day-requires-2 c κs = search needs
+
+day-requires-3 : tie.Need-day-requires-3 Inv-loop μ-loop
+day-requires-3 c κs = search needs
 
 returns : tie.Need-returns Inv-loop μ-loop
 returns c = search needs
@@ -45,5 +51,7 @@ days-spec =
     add-i
     loop-less
     loop-again
+    sub-day
     day-requires-2
+    day-requires-3
     returns)

@@ -27,15 +27,6 @@ add-leap-day c = search needs
 leap-day-requires-2 : tie.Need-leap-day-requires-2 Inv-loop μ-loop
 leap-day-requires-2 c κs = search needs
 
-mul-leap-day-3 : tie.Need-mul-leap-day-3 Inv-loop μ-loop
-mul-leap-day-3 c = search needs
-
-add-leap-day-2 : tie.Need-add-leap-day-2 Inv-loop μ-loop
-add-leap-day-2 c = search needs
-
-leap-day-requires-3 : tie.Need-leap-day-requires-3 Inv-loop μ-loop
-leap-day-requires-3 c κs = search needs
-
 add-i : tie.Need-add-i Inv-loop μ-loop
 add-i c = search needs
 
@@ -60,9 +51,6 @@ leap-days-spec =
     mul-leap-day-2
     add-leap-day
     leap-day-requires-2
-    mul-leap-day-3
-    add-leap-day-2
-    leap-day-requires-3
     add-i
     loop-less
     loop-again
