@@ -6,7 +6,7 @@ use Prim.Native.Nat.{ℕ, _+_, _-_, _≤_, _<_}
 use native.Mathlib.Omega.{arith}
 use native.Mathlib.Nat.{add-zero, sub-zero, add-assoc, sub-add-eq}
 use mathlib.Core.List.{[], _∷_}
-use lib.Dec.{leb, ltb, lit<}
+use lib.Dec.{eqb, leb, ltb, lit<}
 use types.Run.{OneOf}
 use denote.Enum.Declared.{tagOf}
 use borrow.Author.Tests.{eqb-false, leb-true, leb-false, ltb-true, ltb-false, le-leb, lt-leb, lt-ltb, le-ltb}
@@ -22,6 +22,21 @@ use Rattle.calendar.proofs.Below.{le-or-lt}
 use Rattle.calendar.proofs.Months.{lost-day}
 use Rattle.calendar.proofs.Places.{at-day-moment, minute-below, at-minute-moment, minute-at, at-own-minute}
 use Rattle.calendar.proofs.Places.{month-below, in-month-moment, in-own-month}
+
+-- the step that an outcome stands for
+stepOf : Outcome → Step
+stepOf (moment t) = At t
+stepOf (refused n) = cond (eqb n 12) Outside NoDay
+
+step-of : (s : Step) → stepOf (outcomeOf s) ≡ s
+unfolding stepOf
+step-of (At t) = refl
+step-of Outside = refl
+step-of NoDay = refl
+
+-- a step is determined by its outcome, and so by a promise of its outcome
+pub determined : (r s : Step) → outcomeOf r ≡ outcomeOf s → r ≡ s
+determined r s e = sym (step-of r) ∙ ap stepOf e ∙ step-of s
 
 -- a step that led to no moment stays refused, whatever step comes after
 pub stays-refused : (s : Step) (f : Moment → Outcome) → OneOf (1 ∷ (2 ∷ [])) (tagOf the-type s) → outcomeOf s ≡ andThen (outcomeOf s) f
