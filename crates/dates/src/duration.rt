@@ -54,7 +54,7 @@ pub struct DurationFound {
 }
 
 // Duration::is_sub_daily, of a unit
-fn is_sub_daily_unit(u: Unit) -> bool
+pub fn is_sub_daily_unit(u: Unit) -> bool
     ensures { λ r. ⌜ r ≡ isSubDailyUnit u ⌝ }
 {
     match u {

@@ -72,5 +72,6 @@ cases =
 
 -- each row is what `numOf` gives
 pub read-as-listed : map (λ c. numOf (c .lexemes)) cases ≡ map (λ c. c .reading) cases
-unfolding cases get isAt within isEnding wordOf literalOf onesOf teensOf tensOf tensOnesOf numDoubleOf sumOf tailOf hundredsOf numTripleOf numTripleUnitOf fitsOf unitsOf numStep turns again numOf
+unfolding cases get isAt within isEnding wordOf literalOf onesOf teensOf tensOf tensOnesOf numDoubleOf sumOf tailOf hundredsOf
+    numTripleOf numTripleUnitOf fitsOf unitsOf numStep turns again numOf
 read-as-listed = refl
