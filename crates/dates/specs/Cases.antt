@@ -188,5 +188,9 @@ readWord w =
 
 -- each row and each word is read as listed
 pub read-as-listed : (map readCase cases ≡ cases) × (map readWord words ≡ words)
-unfolding cases words get isAt within isEnding wordOf literalOf onesOf teensOf tensOf tensOnesOf numDoubleOf sumOf tailOf hundredsOf numTripleOf numTripleUnitOf fitsOf unitsOf numStep numIn numOf isArticle unitOf monthOf weekdayOf relativeSpecifierOf namedDayOf dayMonthYearOf monthDayOf isDelim threeNumbersOf twoNumbersOf behindSecondOf delimitedOf dateOf minuteOf halfOf clockOf timeOf
+unfolding cases words get isAt within isEnding wordOf literalOf onesOf teensOf tensOf tensOnesOf numDoubleOf sumOf tailOf hundredsOf
+    numTripleOf numTripleUnitOf fitsOf unitsOf numStep numIn numOf
+    isArticle unitOf monthOf weekdayOf relativeSpecifierOf
+    namedDayOf dayMonthYearOf monthDayOf isDelim threeNumbersOf twoNumbersOf behindSecondOf delimitedOf dateOf
+    minuteOf halfOf clockOf timeOf
 read-as-listed = (refl, refl)
