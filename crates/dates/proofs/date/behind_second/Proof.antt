@@ -1,4 +1,5 @@
 use native.Mathlib.Omega.{arith}
+use lib.ListN.{length}
 use borrow.Author.Tests.{le-leb, lt-leb}
 use Rattle.numbers.proofs.Laws.{found as number-found}
 use Rattle.dates.specs.Dates.{behindSecondOf}
@@ -12,7 +13,8 @@ returns : tie.Need-returns
 unfolding behindSecondOf
 returns c =
     let entry = c .before .before in
-    promised (rw (le-leb _ _ (c .if1 .taken))) (behind-second-took _ _ _ _ (entry .args .l .now) (entry .pre .0) (entry .pre .1))
+    let l = entry .args .l .now in
+    promised (rw (le-leb (length l) (entry .args .t) (omega arith))) (behind-second-took _ _ _ _ l (entry .pre .0) (entry .pre .1))
 
 is-at-requires : tie.Need-is-at-requires
 is-at-requires c κs = search needs
@@ -36,16 +38,16 @@ returns-2 : tie.Need-returns-2
 unfolding behindSecondOf
 returns-2 c =
     let entry = c .before .before .before .before .before .before .before .before in
-    let if1 = c .before .before .before .before .before .before .if1 in
+    let l = entry .args .l .now in
     let is-at = c .before .before .before .before .before .is-at in
     let if2 = c .before .before .before .before .if2 in
     let rest = c .before .before .before .rest in
     let num = c .before .before .num in
     let arm = c .before .match in
     promised
-    (rw (lt-leb _ _ (if1 .left), ← (is-at .ensures .0), if2 .taken, ← (rest .ensures .0), ← (num .ensures .0))
+    (rw (lt-leb (length l) (entry .args .t) (omega arith), ← (is-at .ensures .0), if2 .taken, ← (rest .ensures .0), ← (num .ensures .0))
     (unread _ _ (number-arm (num .result) (arm .keys2)) (c .date-stopped .ensures)))
-    (behind-second-took _ _ _ _ (entry .args .l .now) (entry .pre .0) (entry .pre .1))
+    (behind-second-took _ _ _ _ l (entry .pre .0) (entry .pre .1))
 
 three-numbers-requires : tie.Need-three-numbers-requires
 three-numbers-requires c κs = search needs
@@ -64,7 +66,7 @@ returns-3 : tie.Need-returns-3
 unfolding behindSecondOf
 returns-3 c =
     let entry = c .before .before .before .before .before .before .before .before .before .before in
-    let if1 = c .before .before .before .before .before .before .before .before .if1 in
+    let l = entry .args .l .now in
     let is-at = c .before .before .before .before .before .before .before .is-at in
     let if2 = c .before .before .before .before .before .before .if2 in
     let rest = c .before .before .before .before .before .rest in
@@ -72,7 +74,7 @@ returns-3 c =
     let a = c .before .before .a in
     promised
     (rw (
-      lt-leb _ _ (if1 .left),
+      lt-leb (length l) (entry .args .t) (omega arith),
       ← (is-at .ensures .0),
       if2 .taken,
       ← (rest .ensures .0),
@@ -80,7 +82,7 @@ returns-3 c =
       a .given .1,
       ← (c .three-numbers .ensures),
     ))
-    (behind-second-took _ _ _ _ (entry .args .l .now) (entry .pre .0) (entry .pre .1))
+    (behind-second-took _ _ _ _ l (entry .pre .0) (entry .pre .1))
 
 two-numbers-requires : tie.Need-two-numbers-requires
 two-numbers-requires c κs = search needs
@@ -89,12 +91,12 @@ returns-4 : tie.Need-returns-4
 unfolding behindSecondOf
 returns-4 c =
     let entry = c .before .before .before .before .before in
-    let if1 = c .before .before .before .if1 in
+    let l = entry .args .l .now in
     let is-at = c .before .before .is-at in
     let if2 = c .before .if2 in
     promised
-    (rw (lt-leb _ _ (if1 .left), ← (is-at .ensures .0), if2 .left, ← (c .two-numbers .ensures)))
-    (behind-second-took _ _ _ _ (entry .args .l .now) (entry .pre .0) (entry .pre .1))
+    (rw (lt-leb (length l) (entry .args .t) (omega arith), ← (is-at .ensures .0), if2 .left, ← (c .two-numbers .ensures)))
+    (behind-second-took _ _ _ _ l (entry .pre .0) (entry .pre .1))
 
 pub behind-second-spec : {M : Type 1} → statement M
 behind-second-spec =

@@ -57,16 +57,6 @@ returns-2 c =
     ))
     (day-month-year-took _)
 
-add-rest : tie.Need-add-rest
-add-rest c =
-    let num = c .before .before .before .before .before .before .before .before .num in
-    let a = c .before .before .before .before .before .before .a in
-    let read-month = c .before .before .before .read-month in
-    let month = c .before .month in
-    let e = number-found (a .given .1) (num .ensures .1) in
-    let f = found (ap parsedNumber (month .given .1)) (read-month .ensures .1) in
-    omega arith
-
 rest-requires-2 : tie.Need-rest-requires-2
 rest-requires-2 c κs =
     let num = c .before .before .before .before .before .before .before .before .num in
@@ -75,6 +65,12 @@ rest-requires-2 c κs =
     let month = c .before .month in
     let e = number-found (a .given .1) (num .ensures .1) in
     let f = found (ap parsedNumber (month .given .1)) (read-month .ensures .1) in
+    omega arith
+
+add-rest : tie.Need-add-rest
+add-rest c =
+    let entry = c .before .before .before .before .before .before .before .before .before .before in
+    let room = rest-requires-2 c (entry .κs) in
     omega arith
 
 num-requires-2 : tie.Need-num-requires-2
@@ -116,17 +112,9 @@ add-t13 c = search needs
 add-t15 : tie.Need-add-t15
 add-t15 c =
     let entry = c .before .before .before .before .before .before .before .before .before .before .before .before .before .before .before in
-    let num = c .before .before .before .before .before .before .before .before .before .before .before .before .before .num in
-    let a = c .before .before .before .before .before .before .before .before .before .before .before .a in
-    let read-month = c .before .before .before .before .before .before .before .before .read-month in
-    let month = c .before .before .before .before .before .before .month in
-    let rest2 = c .before .before .before .before .rest2 in
-    let num2 = c .before .before .before .num2 in
-    let b = c .before .b in
-    let e = number-found (a .given .1) (num .ensures .1) in
-    let f = found (ap parsedNumber (month .given .1)) (read-month .ensures .1) in
-    let g = number-found (b .given .1) (num2 .ensures .1) in
-    let left = rest2 .ensures .1 in
+    let room = rest-requires-2 (c .before .before .before .before .before) (entry .κs) in
+    let left = c .before .before .before .before .rest2 .ensures .1 in
+    let e = number-found (c .before .b .given .1) (c .before .before .before .num2 .ensures .1) in
     let whole = entry .good in
     omega arith
 

@@ -31,18 +31,17 @@ get-requires c κs = search needs
 is-delim-requires : tie.Need-is-delim-requires
 is-delim-requires c κs = search needs
 
-add-rest : tie.Need-add-rest
-add-rest c =
-    let get = c .before .before .get in
-    let is-delim = c .before .is-delim in
-    let room = delim-there _ _ (get .ensures .0) (is-delim .ensures) (c .if1 .taken) in
-    omega arith
-
 rest-requires : tie.Need-rest-requires
 rest-requires c κs =
     let get = c .before .before .get in
     let is-delim = c .before .is-delim in
     let room = delim-there _ _ (get .ensures .0) (is-delim .ensures) (c .if1 .taken) in
+    omega arith
+
+add-rest : tie.Need-add-rest
+add-rest c =
+    let entry = c .before .before .before .before .before .before .before .before in
+    let room = rest-requires c (entry .κs) in
     omega arith
 
 num-requires-2 : tie.Need-num-requires-2
@@ -81,18 +80,17 @@ returns-2 c =
 add-behind-second : tie.Need-add-behind-second
 add-behind-second c = search needs
 
-add-behind-second-2 : tie.Need-add-behind-second-2
-add-behind-second-2 c =
-    let num2 = c .before .before .before .num2 in
-    let b = c .before .b in
-    let e = number-found (b .given .1) (num2 .ensures .1) in
-    omega arith
-
 behind-second-requires : tie.Need-behind-second-requires
 behind-second-requires c κs =
     let num2 = c .before .before .before .num2 in
     let b = c .before .b in
     let e = number-found (b .given .1) (num2 .ensures .1) in
+    omega arith
+
+add-behind-second-2 : tie.Need-add-behind-second-2
+add-behind-second-2 c =
+    let entry = c .before .before .before .before .before .before .before .before .before .before .before .before .before in
+    let room = behind-second-requires c (entry .κs) in
     omega arith
 
 returns-3 : tie.Need-returns-3

@@ -30,18 +30,17 @@ returns c =
     (rw (← (rest .ensures .0), ← (num .ensures .0)) (unread _ _ (number-arm (num .result) (arm .keys2)) (c .date-stopped .ensures)))
     (month-day-took _ (entry .args .l .now) (entry .pre))
 
-add-rest : tie.Need-add-rest
-add-rest c =
-    let num = c .before .before .before .num in
-    let a = c .before .a in
-    let e = number-found (a .given .1) (num .ensures .1) in
-    omega arith
-
 rest-requires-2 : tie.Need-rest-requires-2
 rest-requires-2 c κs =
     let num = c .before .before .before .num in
     let a = c .before .a in
     let e = number-found (a .given .1) (num .ensures .1) in
+    omega arith
+
+add-rest : tie.Need-add-rest
+add-rest c =
+    let entry = c .before .before .before .before .before .before in
+    let room = rest-requires-2 c (entry .κs) in
     omega arith
 
 num-requires-2 : tie.Need-num-requires-2
@@ -55,12 +54,9 @@ add-t14 c = search needs
 
 add-t15 : tie.Need-add-t15
 add-t15 c =
-    let num = c .before .before .before .before .before .before .before .before .num in
-    let a = c .before .before .before .before .before .before .a in
-    let num2 = c .before .before .before .num2 in
-    let year = c .before .year in
-    let e = number-found (a .given .1) (num .ensures .1) in
-    let f = number-found (year .given .1) (num2 .ensures .1) in
+    let entry = c .before .before .before .before .before .before .before .before .before .before .before in
+    let room = rest-requires-2 (c .before .before .before .before .before) (entry .κs) in
+    let e = number-found (c .before .year .given .1) (c .before .before .before .num2 .ensures .1) in
     omega arith
 
 enum-told : tie.Need-enum-told

@@ -54,16 +54,6 @@ returns-2 c =
     (unread _ _ (number-arm (read-minute .result) (arm2 .keys2)) (c .time-stopped2 .ensures)))
     (clock-took _)
 
-add-read-half : tie.Need-add-read-half
-add-read-half c =
-    let num = c .before .before .before .before .before .before .before .before .num in
-    let a = c .before .before .before .before .before .before .a in
-    let read-minute = c .before .before .before .read-minute in
-    let b = c .before .b in
-    let d = number-found (a .given .1) (num .ensures .1) in
-    let e = found (ap parsedNumber (b .given .1)) (read-minute .ensures .1) in
-    omega arith
-
 read-half-requires : tie.Need-read-half-requires
 read-half-requires c κs =
     let num = c .before .before .before .before .before .before .before .before .num in
@@ -72,6 +62,12 @@ read-half-requires c κs =
     let b = c .before .b in
     let d = number-found (a .given .1) (num .ensures .1) in
     let e = found (ap parsedNumber (b .given .1)) (read-minute .ensures .1) in
+    omega arith
+
+add-read-half : tie.Need-add-read-half
+add-read-half c =
+    let entry = c .before .before .before .before .before .before .before .before .before .before in
+    let room = read-half-requires c (entry .κs) in
     omega arith
 
 returns-3 : tie.Need-returns-3
