@@ -94,7 +94,7 @@ fn word_or_literal(l: &[u64], first: u32, lo: u32, hi: u32, tokens: usize) -> Fo
 }
 
 // `Ones::parse`
-pub fn ones(l: &[u64]) -> Found
+fn ones(l: &[u64]) -> Found
     ensures { λ r. ⌜ r ≡ onesOf (now (l .entry)) ⌝ }
     ensures { λ r. ⌜ Taken r 1 9 (length (now (l .entry))) ⌝ }
 {
@@ -102,7 +102,7 @@ pub fn ones(l: &[u64]) -> Found
 }
 
 // `Teens::parse`
-pub fn teens(l: &[u64]) -> Found
+fn teens(l: &[u64]) -> Found
     ensures { λ r. ⌜ r ≡ teensOf (now (l .entry)) ⌝ }
     ensures { λ r. ⌜ Taken r 1 19 (length (now (l .entry))) ⌝ }
 {
@@ -110,7 +110,7 @@ pub fn teens(l: &[u64]) -> Found
 }
 
 // `Tens::parse`
-pub fn tens(l: &[u64]) -> Found
+fn tens(l: &[u64]) -> Found
     ensures { λ r. ⌜ r ≡ tensOf (now (l .entry)) ⌝ }
     ensures { λ r. ⌜ Taken r 1 90 (length (now (l .entry))) ⌝ }
 {
@@ -141,7 +141,7 @@ fn tens_ones(l: &[u64]) -> Found
 }
 
 // `NumDouble::parse`
-pub fn num_double(l: &[u64]) -> Found
+fn num_double(l: &[u64]) -> Found
     ensures { λ r. ⌜ r ≡ numDoubleOf (now (l .entry)) ⌝ }
     ensures { λ r. ⌜ Taken r 1 99 (length (now (l .entry))) ⌝ }
 {
@@ -209,7 +209,7 @@ fn hundreds(l: &[u64], ones: Found) -> Found
 }
 
 // `NumTriple::parse`
-pub fn num_triple(l: &[u64]) -> Found
+fn num_triple(l: &[u64]) -> Found
     ensures { λ r. ⌜ r ≡ numTripleOf (now (l .entry)) ⌝ }
     ensures { λ r. ⌜ Taken r 1 999 (length (now (l .entry))) ⌝ }
 {
@@ -229,7 +229,7 @@ pub fn num_triple(l: &[u64]) -> Found
 }
 
 // `NumTripleUnit::parse`
-pub fn num_triple_unit(l: &[u64]) -> Found
+fn num_triple_unit(l: &[u64]) -> Found
     ensures { λ r. ⌜ r ≡ numTripleUnitOf (now (l .entry)) ⌝ }
     ensures { λ r. ⌜ Taken r 1 1000000000 (length (now (l .entry))) ⌝ }
 {
