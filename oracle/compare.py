@@ -257,26 +257,17 @@ def representatives():
     return list(words.values()) + list(model.MARKS) + ["0", "5", "12", "25", "100", "1000", "2024", "4294967295"]
 
 
-def close_up(parts):
-    """The parts as one phrase, with blanks only where two words or two numbers would run together."""
-    phrase = parts[0]
-    for part in parts[1:]:
-        together = phrase[-1].isalpha() and part[0].isalpha() or phrase[-1].isdigit() and part[0].isdigit()
-        phrase += " " + part if together else part
-    return phrase
-
-
 def batches(lines, size=50_000):
     while batch := list(itertools.islice(lines, size)):
         yield batch
 
 
 def random_lines(count, seed):
-    """Grammar-made phrases, damaged copies, word soup and raw bytes, half of all by the grammar."""
+    """Grammar-made phrases (half of all), damaged copies, word soup, long chains and raw bytes."""
     dice = phrases.Dice(seed)
     known = phrases.QUIRKS + phrases.AT_EVERY_NOW
-    makers = [dice.phrase, dice.phrase, dice.phrase, lambda: dice.damaged(dice.phrase()), lambda: dice.damaged(dice.pick(known)),
-              dice.soup, dice.raw]
+    makers = [*[dice.phrase] * 5, lambda: dice.damaged(dice.phrase()), lambda: dice.damaged(dice.pick(known)),
+              dice.soup, dice.chain, dice.raw]
     for _ in range(count):
         phrase = dice.pick(makers)()
         yield f"{dice.now()}|{model.escape(phrase if isinstance(phrase, bytes) else phrase.encode())}"
@@ -284,7 +275,7 @@ def random_lines(count, seed):
 
 def exhaustive_lines(lexemes):
     for parts in itertools.product(representatives(), repeat=lexemes):
-        yield f"{phrases.A}|{close_up(parts)}"
+        yield f"{phrases.A}|{phrases.close_up(parts)}"
 
 
 def compare(*sources):

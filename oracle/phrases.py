@@ -165,12 +165,22 @@ QUIRKS = [
     "tuesday in two weeks", "tuesday two weeks ago", "tuesday two weeks", "tuesday in two", "tuesday at 5 in two weeks",
     "a year from now and a day", "a year and a day from now", "5 pm a day ago", "5 pm 3 days ago", "5 3 days ago",
     "5 days ago 5", "5 days ago, 5 pm", "5 days ago at", "5 hours ago at 5", "today today", "monday tuesday",
-    "1may0", "may1 0", "1may1", "1may9999", "1may10000", "5 years from 2/29/2024", "4 years from 2/29/2024", "9999 years from today", "0 years from now", "0 months ago",
+    "1may0", "may1 0", "1may1", "1may9999", "1may10000", "5 years from 2/29/2024", "4 years from 2/29/2024",
+    "9999 years from today", "0 years from now", "0 months ago",
 ]
 
 
 def joined(*parts):
     return " ".join(part for part in parts if part)
+
+
+def close_up(parts):
+    """The parts as one phrase, with blanks only where two words or two numbers would run together."""
+    phrase = parts[0]
+    for part in parts[1:]:
+        together = phrase[-1].isalpha() and part[0].isalpha() or phrase[-1].isdigit() and part[0].isdigit()
+        phrase += " " + part if together else part
+    return phrase
 
 
 def words_section():
@@ -209,6 +219,7 @@ def limits_section():
         yield from (". " * count, "-" * count, "5 " * count, "thousand " * count, "th " * (count - 1) + "now")
         yield from ("." * count + "foo", "." * count + "4294967296", "." * count + "?", "." * (count - 3) + "a day ago")
         yield from ("," * count + "  5", "," * count + "12 days", "," * count + "monday", "," * count + "\\")
+    yield "1st day and " * 2 + "1day and " * 18 + "1day ago"
     for digits in (1, 9, 10, 11, 19, 20, 21, 22, 40):
         yield from ("5".rjust(digits, "0") + " days ago", "9" * digits, "march " + "3".rjust(digits, "0") + "rd")
     for letters in (11, 12, 19, 20, 21, 40):
@@ -246,6 +257,7 @@ def fixed_list():
     lines += [(dice.pick(NOWS), dice.damaged(dice.pick(QUIRKS + AT_EVERY_NOW))) for _ in range(600)]
     lines += [(dice.pick(NOWS), dice.phrase()) for _ in range(600)]
     lines += [(dice.pick(NOWS), dice.soup()) for _ in range(300)]
+    lines += [(dice.pick(NOWS), dice.chain()) for _ in range(300)]
     made = (f"{now}|{escape(phrase if isinstance(phrase, bytes) else phrase.encode())}" for now, phrase in lines)
     return list(dict.fromkeys(made))
 
@@ -398,6 +410,20 @@ class Dice:
         words = list(KEYWORDS) + ["-", "/", ".", ",", ":"] * 3 + ["5", "12", "24", "2024", "31", "0", "1000"] * 3
         return "".join(self.pick(words) + self.pick([" ", " ", " ", "", "  ", "\t"]) for _ in range(1 + self.below(12)))
 
+    def chain(self):
+        """A long chain of short parts, about 64 lexemes or 256 bytes"""
+        most = 10 + self.below(16)
+        if self.one_in(4):
+            return close_up([self.pick(SHORT) for _ in range(3 * most)])
+        link = self.pick(["and", "after", "from", "before"])
+        parts = []
+        for _ in range(most):
+            parts += [self.pick(["a", "1", "1st", "2", "9"]), self.pick(["day", "min", "week", "hour", "year"]), link]
+            if self.one_in(12):
+                link = self.pick(["and", "after", "from", "before"])
+        head = self.pick(["", "", "friday", "5/2/2022in", "may1", "noon"])
+        return joined(head, close_up(parts[:-1]), self.pick(["ago", "ago", "from now", "before today at 5", "", "and", "foo"]))
+
     def damaged(self, phrase):
         """A copy with words dropped, doubled, swapped, put in, or single characters changed"""
         words = phrase.split(" ")
@@ -430,8 +456,10 @@ class Dice:
         return bytes(phrase)
 
     def now(self):
-        """A now at random, or one of the list's, at the calendar's ends, or on 29 February"""
+        """A now at random, or one of the list's, at the calendar's ends, or on 29 February; seldom none"""
         kind = self.below(6)
+        if self.one_in(200):
+            return self.pick(NO_NOWS)
         if kind == 0:
             return self.pick(NOWS)
         year = self.pick([1, 9999, 1 + self.below(3), 9997 + self.below(3)]) if kind == 1 else 1 + self.below(9999)
@@ -448,6 +476,9 @@ SMALL = ["zero", "one first", "two second", "three third", "four fourth", "five 
          "fourteen fourteenth", "fifteen fifteenth", "sixteen sixteenth", "seventeen seventeenth", "eighteen eighteenth",
          "nineteen nineteenth"]
 SMALL_TENS = ["", "", "twenty", "thirty", "fourty", "fifty", "sixty", "seventy", "eighty", "ninety"]
+
+# Short words, marks and digits
+SHORT = [word for word in KEYWORDS if len(word) < 4] + ["-", "/", ".", ",", ":", "1", "5", "12"] * 2
 
 # White space and letters outside ASCII, pieces of UTF-8, control bytes
 STRANGE = [text.encode() for text in ("\u212a", "\u00a0", "\u2003", "\u3000", "\u0130", "\u00e9", "\u0663", "\u200b", "\x0b", "\r")] + [
