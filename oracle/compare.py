@@ -29,7 +29,7 @@ HALF_DAY = "am or pm with an hour outside 1 to 12"
 OUTSIDE = "outside years 1 to 9999"
 YEAR_CAST = "year count above 2,147,483,647"
 LONG_RUN = "run of more than 20 characters"
-TEXT = "white space or letters outside ASCII"
+TEXT = "white space besides space and tab, or letters outside ASCII"
 SIZE = "more than 256 bytes or 64 lexemes"
 NEW_YEAR_WEEK = "ISO week across a new year (chrono 0.4.23)"
 YEAR_0_NOW = "now in year 0"
@@ -95,10 +95,9 @@ class Like(model.Evaluation):
         return self.inside(day)
 
     def same_week(self, day):
-        """`day.iso_week() == this_week` in chrono 0.4.23: its weeks also carry the flags of the day's own calendar year."""
-        weeks = ((d - 1) // 7 for d in (day, self.today))
-        years = (self.civil(d)[0] for d in (day, self.today))
-        return len(set(weeks)) == 1 and len(set(years)) == 1
+        """`day.iso_week() == this_week` in chrono 0.4.23, whose weeks also hold the flags of the day's own calendar year."""
+        same_days = (day - 1) // 7 == (self.today - 1) // 7
+        return same_days and self.civil(day)[0] == self.civil(self.today)[0]
 
 
 def lex_like(phrase, classes):
@@ -158,7 +157,7 @@ def answer_like(now, phrase, classes):
     return "|".join(fields)
 
 
-# The words that the Rust may answer where the model refuses: lexing is an error, 5 an error, 6 a panic, and so on
+# What the Rust answers where the model refuses: only an overflow in a number panics in the reading, and only steps after it
 RUST_FAILS = {1: ["error"], 2: ["error"], 3: ["error"], 4: ["error"], 5: ["error"], 6: ["panic"], 7: ["error"], 8: ["no now"],
               9: ["error"], 10: ["error"], 11: ["error"], 12: ["error", "panic"], 13: ["error", "panic"]}
 
@@ -198,7 +197,7 @@ def difference(line, rust):
 def run_rust(lines):
     text = "".join(line + "\n" for line in lines)
     done = subprocess.run([ORACLE], input=text.encode("latin-1"), stdout=subprocess.PIPE, check=True)
-    answers = done.stdout.decode("latin-1").splitlines()
+    answers = done.stdout.decode("latin-1").removesuffix("\n").split("\n")
     assert len(answers) == len(lines)
     return answers
 
@@ -288,7 +287,7 @@ def compare(*sources):
 
 
 def shrink(line, name):
-    """The shortest phrase reached by leaving out parts of this one, with the same class and one answer at most."""
+    """The shortest phrase reached by leaving out parts of this one, of the same class and not refused by both."""
     now, phrase = split_line(line)
     while True:
         ends = itertools.combinations(range(len(phrase) + 1), 2)
@@ -314,7 +313,7 @@ def smallest():
 
 
 def read_lines(name):
-    return (HERE / name).read_text(encoding="latin-1").splitlines()
+    return (HERE / name).read_text(encoding="latin-1").removesuffix("\n").split("\n")
 
 
 def expected_lines():
