@@ -77,7 +77,8 @@ DATES = [
     "february 29 2000", "february 29 2023", "february 29 2024", "feb 29 0", "feb 30 0", "feb 29 10000", "feb 30 10000",
     "feb 29 9996", "jan 1 1", "dec 31 9999", "jan 1 10000", "dec 31 0", "march 3 22", "march 3 99", "march 3 100",
     "march march", "march 3 march", "5 march", "5 march 2024", "5 march 24", "5th of march", "5th march 2024",
-    "32 march 2024", "29 february 2023", "29 february 2024", "5 march 2024 5", "twenty-march 2024", "5/2", "5/2/2022",
+    "32 march 2024", "29 february 2023", "29 february 2024", "5 march 2024 5",
+    "101st march 2024", "102nd march 2024", "103rd march 2024", "104 st march 2024", "twenty-march 2024", "5/2", "5/2/2022",
     "5-2-2022", "5.2.2022", "2022/5/2", "2022-5-2", "2022.5.2", "1000/1/1", "1001/1/1", "1000-1-1", "1001.1.1",
     "13/1/2022", "1/32/2022", "0/1/2022", "1/0/2022", "1/1/0", "1/1/1", "1/1/99", "1/1/100", "1/1/22", "1/1/36", "1/1/37",
     "1/1/2036", "2/29/2023", "2/29/2024", "2/29/1900", "2/29/0", "2/30/0", "2/29/4", "2/29/96", "2/29/99", "13/1/10000",
@@ -247,6 +248,8 @@ def fixed_list():
         lines += [(A, phrase) for phrase in section()]
     lines += [(A, place.format(number)) for number in NUMBERS for place in NUMBER_PLACES]
     lines += [(now, date) for date in DATES for now in (A, B)]
+    lines += [(now, f"{month} {day}") for month in MONTHS for day in range(28, 33) for now in (A, B)]
+    lines += [(A, f"{count} months after jan 31") for count in range(25)]
     lines += [(A, joined(date, tail)) for tail in TAILS for date in ("march 31", "5/2", "2/29/2024", "today", "friday", "5 march 2024")]
     lines += [(A, place.format(time)) for time in TIMES for place in TIME_PLACES]
     lines += [(A, place.format(duration)) for duration in DURATIONS for place in DURATION_PLACES]
