@@ -1,0 +1,29 @@
+//! The oracle: one line `NOW|PHRASE` in, one line `LEXEMES|READING|TAKEN|MOMENT` out, by the Rust's own lexer.rs and ast.rs.
+//! A line ends at the stage that answers an error or panics, with `error` or `panic` in that stage's field.
+
+#[allow(dead_code)]
+mod ast;
+#[allow(dead_code)]
+mod lexer;
+mod lines;
+
+use std::io::{self, BufRead, BufWriter, Write};
+
+/// What lexer.rs and ast.rs answer on failure, as in the Rust's lib.rs
+#[derive(Debug, Clone, PartialEq, Eq)]
+pub enum Error {
+    InvalidDate(String),
+    UnrecognizedToken(String),
+    ParseError,
+}
+
+fn main() -> io::Result<()> {
+    // a panic is an answer here, and is not printed besides
+    std::panic::set_hook(Box::new(|_| {}));
+    let mut out = BufWriter::new(io::stdout().lock());
+
+    for line in io::stdin().lock().split(b'\n') {
+        writeln!(out, "{}", lines::answer(&line?))?;
+    }
+    out.flush()
+}
