@@ -1,1 +1,4 @@
 pub mod Answers
+pub mod Few
+pub mod Turns
+pub mod Decoded
