@@ -1,0 +1,50 @@
+-- A number that begins again is read as `numOf` reads it, since the lexemes left fall at each turn.
+use mathlib.Core.Path.{_≡_}
+use mathlib.Core.List.{List}
+use Prim.Native.Nat.{ℕ, zero, suc, _+_, _*_, _≤_, _<_}
+use native.Mathlib.Omega.{arith}
+use lib.ListN.{length, drop, length-drop}
+use Rattle.lexer.specs.Lexemes.{And}
+use Rattle.numbers.specs.declared.Found.{Found}
+use Rattle.numbers.specs.declared.Found.the-variants.{Is}
+use Rattle.numbers.specs.Slices.{isAt, oneIf}
+use Rattle.numbers.specs.Answers.{Taken}
+use Rattle.numbers.specs.Numbers.{numTripleOf, numTripleUnitOf, tailOf, unitsOf, numStep, numIn, numOf}
+use Rattle.numbers.proofs.Laws.{wider, then-same}
+use Rattle.numbers.proofs.Bounds.{num-triple-taken, num-triple-unit-taken}
+
+-- two readers that agree on every list shorter than n
+Agree : (List ℕ → Found) → (List ℕ → Found) → ℕ → Type 0
+Agree N M n = (l : List ℕ) → length l < n → N l ≡ M l
+
+module _ (N M : List ℕ → Found) (l : List ℕ) (agree : Agree N M (length l)) where
+  tail-agree : (head t : ℕ) → 0 < t → t ≤ length l → tailOf N l head t ≡ tailOf M l head t
+  unfolding tailOf Agree
+  tail-agree head t p q =
+      let tokens = t + oneIf (isAt l t And) in
+      rw (agree (drop tokens l) (simp length-drop (omega arith)))
+
+  units-agree : (triple : Found) → Taken triple 0 999 (length l) → unitsOf N l triple ≡ unitsOf M l triple
+  unfolding unitsOf
+  units-agree triple h =
+      then-same triple _ _ h (λ v t a b d.
+      then-same (numTripleUnitOf (drop t l)) _ _ (num-triple-unit-taken (drop t l)) (λ unit u e f g.
+      let left = length-drop t l in
+      tail-agree (v * unit) (t + u) (omega arith) (omega arith)))
+
+  step-agree : numStep N l ≡ numStep M l
+  unfolding numStep
+  step-agree =
+      rw (units-agree (numTripleOf l) (wider (omega arith) (num-triple-taken l)), units-agree (Is 1 0) (record { bounds = omega arith }))
+
+-- more turns than lexemes are all alike
+enough : (f g : ℕ) (l : List ℕ) → length l < f → length l < g → numIn f l ≡ numIn g l
+unfolding numIn Agree
+enough zero g l a b = absurd (omega arith)
+enough (suc f) zero l a b = absurd (omega arith)
+enough (suc f) (suc g) l a b = step-agree (numIn f) (numIn g) l (λ m h. enough f g m (omega arith) (omega arith))
+
+-- `Num::parse` calls itself
+pub num-is : (l : List ℕ) → numOf l ≡ numStep numOf l
+unfolding numIn numOf Agree
+num-is l = step-agree (numIn (length l)) numOf l (λ m h. enough (length l) (suc (length m)) m h (omega arith))

@@ -1,0 +1,72 @@
+-- Worked cases: what `Num::parse` gives for each row of lexemes, computed.
+use mathlib.Core.Path.{_≡_, refl}
+use mathlib.Core.List.{List, [], _∷_, map}
+use Prim.Native.Nat.{ℕ, _+_}
+use Rattle.lexer.specs.Lexemes.{One, Two, Three, Four, Five, Six, Seven, Nine, Twenty, Sixty, Ninety, Dash, And, Zero, Hundred, Thousand, Million, Billion, RD, TH, NUM}
+use Rattle.numbers.specs.declared.Found.{Found}
+use Rattle.numbers.specs.declared.Found.the-variants.{Is, Nothing, Overflow}
+use Rattle.numbers.specs.Slices.{get, isAt, within}
+use Rattle.numbers.specs.Answers.{fitsOf}
+use Rattle.numbers.specs.Numbers.{isEnding, wordOf, literalOf, onesOf, teensOf, tensOf, tensOnesOf, numDoubleOf, sumOf, tailOf, hundredsOf, numTripleOf, numTripleUnitOf, unitsOf, numStep, numIn, numOf}
+
+-- a row: the lexemes, and what is read of them
+pub record Case : Type 0 where
+  pub lexemes : List ℕ
+  pub reading : Found
+
+-- the literal n
+abbrev Num : ℕ → ℕ
+Num n = NUM + n
+
+-- four billion two hundred ninety four million nine hundred sixty seven thousand two hundred ninety, and ones
+abbrev nearMAX : ℕ → List ℕ
+nearMAX ones =
+    Four ∷ Billion
+    ∷ Two ∷ Hundred ∷ Ninety ∷ Four ∷ Million
+    ∷ Nine ∷ Hundred ∷ Sixty ∷ Seven ∷ Thousand
+    ∷ Two ∷ Hundred ∷ Ninety ∷ ones ∷ []
+
+-- the lexemes of a row and its reading
+abbrev row : List ℕ → Found → Case
+row l r = record { lexemes = l; reading = r }
+
+-- the table
+unfoldable pub cases : List Case
+cases =
+    -- words
+    row (Twenty ∷ Dash ∷ Two ∷ Thousand ∷ And ∷ Three ∷ Hundred ∷ Five ∷ []) (Is 22305 8)
+    ∷ row (Ninety ∷ Dash ∷ Nine ∷ []) (Is 99 3)
+    ∷ row (Hundred ∷ And ∷ Five ∷ []) (Is 105 3)
+    ∷ row (Thousand ∷ []) (Is 1000 1)
+    -- a dash is taken though no ones follow
+    ∷ row (Ninety ∷ Dash ∷ []) (Is 90 2)
+    -- after an `and` a number has to follow
+    ∷ row (One ∷ Hundred ∷ And ∷ []) (Is 1 1)
+    ∷ row (Hundred ∷ And ∷ []) Nothing
+    -- `Zero` is never a number, the digit 0 is
+    ∷ row (Zero ∷ []) Nothing
+    ∷ row (Num 0 ∷ []) (Is 0 1)
+    -- an ending is taken with some numbers only
+    ∷ row (Num 4 ∷ RD ∷ []) (Is 4 2)
+    ∷ row (Num 12 ∷ TH ∷ []) (Is 12 2)
+    ∷ row (Num 24 ∷ TH ∷ []) (Is 24 1)
+    ∷ row (Num 100 ∷ TH ∷ []) (Is 100 2)
+    ∷ row (Num 1000 ∷ []) (Is 1000 1)
+    ∷ row (Num 1000 ∷ TH ∷ []) (Is 1000 1)
+    -- the largest u32, and one more
+    ∷ row (Num 4294967295 ∷ []) (Is 4294967295 1)
+    ∷ row (nearMAX Five) (Is 4294967295 16)
+    ∷ row (nearMAX Six) Overflow
+    ∷ row (Thousand ∷ And ∷ Num 4294966296 ∷ []) Overflow
+    -- the product is made only once the tail has been read and not given up
+    ∷ row (Four ∷ Billion ∷ []) (Is 4000000000 2)
+    ∷ row (Five ∷ Billion ∷ []) Overflow
+    ∷ row (Five ∷ Billion ∷ And ∷ []) (Is 5 1)
+    -- an overflow in the number that begins again stops the reading
+    ∷ row (One ∷ Thousand ∷ And ∷ Five ∷ Billion ∷ []) Overflow
+    ∷ []
+
+-- each row is what `numOf` gives
+pub read-as-listed : map (λ c. numOf (c .lexemes)) cases ≡ map (λ c. c .reading) cases
+unfolding cases get isAt within isEnding wordOf literalOf onesOf teensOf tensOf tensOnesOf numDoubleOf sumOf tailOf hundredsOf numTripleOf numTripleUnitOf fitsOf unitsOf numStep numIn numOf
+read-as-listed = refl

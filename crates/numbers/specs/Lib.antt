@@ -1,0 +1,4 @@
+pub mod Slices
+pub mod Answers
+pub mod Numbers
+pub mod Cases

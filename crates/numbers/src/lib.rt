@@ -1,0 +1,285 @@
+// The number readers of ast.rs, `Ones` to `Num`: a reader takes the lexemes from where it stands, as in the Rust.
+ghost use mathlib.Core.Path.{_≡_};
+ghost use Prim.Native.Nat.{_+_, _≤_, _<_, max};
+ghost use lib.ListN.{length};
+ghost use Rattle.numbers.specs.Slices.{get, oneIf};
+ghost use Rattle.numbers.specs.Answers.{MAX, USIZE, Taken, Read, orElse, takenOf, fitsOf};
+ghost use Rattle.numbers.specs.Numbers.{isEnding, wordOf, literalOf, onesOf, teensOf, tensOf, tensOnesOf, numDoubleOf, sumOf, hundredsOf, numTripleOf, numTripleUnitOf, unitsOf, numOf};
+use lexer::lexeme::AND;
+use lexer::lexeme::BILLION;
+use lexer::lexeme::DASH;
+use lexer::lexeme::HUNDRED;
+use lexer::lexeme::MILLION;
+use lexer::lexeme::ND;
+use lexer::lexeme::NUM;
+use lexer::lexeme::RD;
+use lexer::lexeme::ST;
+use lexer::lexeme::TH;
+use lexer::lexeme::THOUSAND;
+use slices::get;
+use slices::is_at;
+use slices::is_within;
+use slices::one_if;
+use slices::rest;
+use slices::take_if;
+
+pub mod slices;
+
+// The largest u32.
+const MAX: u32 = 4294967295;
+
+// What a number reader answers: the value and the count of lexemes taken, nothing, or a sum or product past the largest u32.
+pub enum Found {
+    Is(u32, usize),
+    Nothing,
+    Overflow,
+}
+
+// `ST | RD | ND | TH`
+fn is_ending(x: u64) -> bool
+    ensures { λ r. ⌜ r ≡ isEnding x ⌝ }
+    ensures { λ r. ⌜ oneIf r ≤ x ⌝ }
+{
+    if x == ST {
+        return true;
+    }
+    if x == RD {
+        return true;
+    }
+    if x == ND {
+        return true;
+    }
+    x == TH
+}
+
+// 1 for an ordinal's ending at i, which is taken then, and else 0.
+fn take_ending(l: &[u64], i: usize) -> usize
+    ensures { λ r. ⌜ r ≡ oneIf (isEnding (get (now (l .entry)) i)) ⌝ }
+    ensures { λ r. ⌜ (r ≤ 1) × (i + r ≤ max i (length (now (l .entry)))) ⌝ }
+{
+    one_if(is_ending(get(l, i)))
+}
+
+// A number word from lo to hi, whose code is its value.
+fn word(l: &[u64], lo: u32, hi: u32, tokens: usize) -> Found
+    ensures { λ r. ⌜ r ≡ wordOf (now (l .entry)) lo hi tokens ⌝ }
+{
+    let x = get(l, 0);
+    if is_within(lo as u64, x, hi as u64) {
+        return Found::Is(x as u32, tokens);
+    }
+    Found::Nothing
+}
+
+// `Num(n)` with lo <= n <= hi.
+fn literal(l: &[u64], lo: u32, hi: u32, tokens: usize) -> Found
+    ensures { λ r. ⌜ r ≡ literalOf (now (l .entry)) lo hi tokens ⌝ }
+{
+    let x = get(l, 0);
+    if is_within(NUM + lo as u64, x, NUM + hi as u64) {
+        return Found::Is((x - NUM) as u32, tokens);
+    }
+    Found::Nothing
+}
+
+// A number word from `first` to hi, or a literal from lo to hi.
+fn word_or_literal(l: &[u64], first: u32, lo: u32, hi: u32, tokens: usize) -> Found
+    ensures { λ r. ⌜ r ≡ orElse (wordOf (now (l .entry)) first hi tokens) (literalOf (now (l .entry)) lo hi tokens) ⌝ }
+{
+    let a = word(l, first, hi, tokens);
+    let Found::Nothing = a else {
+        return a;
+    };
+    literal(l, lo, hi, tokens)
+}
+
+// `Ones::parse`
+pub fn ones(l: &[u64]) -> Found
+    ensures { λ r. ⌜ r ≡ onesOf (now (l .entry)) ⌝ }
+    ensures { λ r. ⌜ Taken r 1 9 (length (now (l .entry))) ⌝ }
+{
+    word_or_literal(l, 1, 0, 9, 1 + take_ending(l, 1))
+}
+
+// `Teens::parse`
+pub fn teens(l: &[u64]) -> Found
+    ensures { λ r. ⌜ r ≡ teensOf (now (l .entry)) ⌝ }
+    ensures { λ r. ⌜ Taken r 1 19 (length (now (l .entry))) ⌝ }
+{
+    word_or_literal(l, 10, 10, 19, 1 + take_if(l, 1, TH))
+}
+
+// `Tens::parse`
+pub fn tens(l: &[u64]) -> Found
+    ensures { λ r. ⌜ r ≡ tensOf (now (l .entry)) ⌝ }
+    ensures { λ r. ⌜ Taken r 1 90 (length (now (l .entry))) ⌝ }
+{
+    let tokens = 1 + take_if(l, 1, TH);
+    let a = word(l, 20, 90, tokens);
+    let Found::Is(n, _) = a else {
+        return a;
+    };
+    if n % 10 == 0 {
+        return a;
+    }
+    Found::Nothing
+}
+
+// The first alternative of `NumDouble::parse`: tens, a dash that may be missing, ones that may be missing.
+fn tens_ones(l: &[u64]) -> Found
+    ensures { λ r. ⌜ r ≡ tensOnesOf (now (l .entry)) ⌝ }
+    ensures { λ r. ⌜ Taken r 1 99 (length (now (l .entry))) ⌝ }
+{
+    let Found::Is(n, t) = tens(l) else {
+        return Found::Nothing;
+    };
+    let tokens = t + take_if(l, t, DASH);
+    let Found::Is(m, u) = ones(rest(l, tokens)) else {
+        return Found::Is(n, tokens);
+    };
+    Found::Is(n + m, tokens + u)
+}
+
+// `NumDouble::parse`
+pub fn num_double(l: &[u64]) -> Found
+    ensures { λ r. ⌜ r ≡ numDoubleOf (now (l .entry)) ⌝ }
+    ensures { λ r. ⌜ Taken r 1 99 (length (now (l .entry))) ⌝ }
+{
+    let a = tens_ones(l);
+    let Found::Nothing = a else {
+        return a;
+    };
+    let b = teens(l);
+    let Found::Nothing = b else {
+        return b;
+    };
+    let c = ones(l);
+    let Found::Nothing = c else {
+        return c;
+    };
+    literal(l, 20, 99, 1)
+}
+
+// A value that passes the largest u32 is an overflow.
+fn fits(v: u64, t: usize) -> Found
+    ensures { λ r. ⌜ r ≡ fitsOf v t ⌝ }
+{
+    if v <= MAX as u64 {
+        Found::Is(v as u32, t)
+    } else {
+        Found::Overflow
+    }
+}
+
+// A head and the number behind it, which may be missing unless it is required.
+fn sum(required: bool, head: u64, tokens: usize, num: Found) -> Found
+    requires { ⌜ (head ≤ 999000000000) × (tokens + takenOf num ≤ USIZE) ⌝ }
+    ensures { λ r. ⌜ r ≡ sumOf required head tokens num ⌝ }
+{
+    match num {
+        Found::Is(n, t) => fits(head + n as u64, tokens + t),
+        Found::Nothing => {
+            if required {
+                Found::Nothing
+            } else {
+                fits(head, tokens)
+            }
+        }
+        Found::Overflow => Found::Overflow,
+    }
+}
+
+// `<ones> hundred [[and] <num_double>]` for the ones that were read.
+fn hundreds(l: &[u64], ones: Found) -> Found
+    requires { ⌜ Taken ones 0 9 (length (now l)) ⌝ }
+    ensures { λ r. ⌜ r ≡ hundredsOf (now (l .entry)) ones ⌝ }
+    ensures { λ r. ⌜ Taken r 1 999 (length (now (l .entry))) ⌝ }
+{
+    let Found::Is(v, t) = ones else {
+        return Found::Nothing;
+    };
+    if is_at(l, t, HUNDRED) {
+        let head = v as u64 * 100;
+        let s = t + 1;
+        let required = is_at(l, s, AND);
+        let tokens = s + one_if(required);
+        return sum(required, head, tokens, num_double(rest(l, tokens)));
+    }
+    Found::Nothing
+}
+
+// `NumTriple::parse`
+pub fn num_triple(l: &[u64]) -> Found
+    ensures { λ r. ⌜ r ≡ numTripleOf (now (l .entry)) ⌝ }
+    ensures { λ r. ⌜ Taken r 1 999 (length (now (l .entry))) ⌝ }
+{
+    let a = hundreds(l, ones(l));
+    let Found::Nothing = a else {
+        return a;
+    };
+    let b = hundreds(l, Found::Is(1, 0));
+    let Found::Nothing = b else {
+        return b;
+    };
+    let c = num_double(l);
+    let Found::Nothing = c else {
+        return c;
+    };
+    literal(l, 100, 999, 1 + take_ending(l, 1))
+}
+
+// `NumTripleUnit::parse`
+pub fn num_triple_unit(l: &[u64]) -> Found
+    ensures { λ r. ⌜ r ≡ numTripleUnitOf (now (l .entry)) ⌝ }
+    ensures { λ r. ⌜ Taken r 1 1000000000 (length (now (l .entry))) ⌝ }
+{
+    if is_at(l, 0, THOUSAND) {
+        return Found::Is(1000, 1);
+    }
+    if is_at(l, 0, MILLION) {
+        return Found::Is(1000000, 1);
+    }
+    if is_at(l, 0, BILLION) {
+        return Found::Is(1000000000, 1);
+    }
+    Found::Nothing
+}
+
+// `<num_triple> <num_triple_unit> [[and] <num>]` for the triple that was read: the tail behind it, in which a number begins again.
+fn units(l: &[u64], triple: Found) -> Found
+    requires { ⌜ Taken triple 0 999 (length (now l)) ⌝ }
+    ensures { λ r. ⌜ r ≡ unitsOf numOf (now (l .entry)) triple ⌝ }
+    ensures { λ r. ⌜ Read r 1 (length (now (l .entry))) ⌝ }
+{
+    let Found::Is(v, t) = triple else {
+        return Found::Nothing;
+    };
+    let Found::Is(unit, u) = num_triple_unit(rest(l, t)) else {
+        return Found::Nothing;
+    };
+    let head = v as u64 * unit as u64;
+    let s = t + u;
+    let required = is_at(l, s, AND);
+    let tokens = s + one_if(required);
+    sum(required, head, tokens, num(rest(l, tokens)))
+}
+
+// `Num::parse`; the triple is read once for both alternatives that begin with it.
+pub fn num(l: &[u64]) -> Found
+    ensures { λ r. ⌜ r ≡ numOf (now (l .entry)) ⌝ }
+    ensures { λ r. ⌜ Read r 1 (length (now (l .entry))) ⌝ }
+{
+    let triple = num_triple(l);
+    let scaled = units(l, triple);
+    let Found::Nothing = scaled else {
+        return scaled;
+    };
+    let unit = units(l, Found::Is(1, 0));
+    let Found::Nothing = unit else {
+        return unit;
+    };
+    let Found::Nothing = triple else {
+        return triple;
+    };
+    literal(l, 1000, MAX, 1)
+}
