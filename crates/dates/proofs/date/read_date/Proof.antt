@@ -1,0 +1,115 @@
+use mathlib.Core.Path.{ap}
+use native.Mathlib.Omega.{arith}
+use Rattle.dates.specs.Parsed.{parsedNumber}
+use Rattle.dates.specs.Dates.{dateOf}
+use Rattle.dates.proofs.Laws.{number-arm, date-arm, kept, found, promised}
+use Rattle.dates.proofs.Bounds.{month-none, date-took}
+use borrow.Author.Needs.{needs}
+use Rattle.dates.proofs.date.read_date.Statement.{statement}
+use Rattle.dates.proofs.date.read_date.Tie as tie
+
+read-named-day-requires : tie.Need-read-named-day-requires
+read-named-day-requires c κs = search needs
+
+enum-told : tie.Need-enum-told
+enum-told c = search needs
+
+returns : tie.Need-returns
+unfolding dateOf
+returns c =
+    let read-named-day = c .before .read-named-day in
+    promised
+    (rw (← (read-named-day .ensures .0)) (kept _ _ (date-arm (read-named-day .result) (c .match .keys2))))
+    (date-took _)
+
+read-day-month-year-requires : tie.Need-read-day-month-year-requires
+read-day-month-year-requires c κs = search needs
+
+enum-told-2 : tie.Need-enum-told-2
+enum-told-2 c = search needs
+
+returns-2 : tie.Need-returns-2
+unfolding dateOf
+returns-2 c =
+    let read-named-day = c .before .before .before .before .read-named-day in
+    let enum-told = c .before .before .enum-told in
+    let read-day-month-year = c .before .read-day-month-year in
+    promised
+    (rw (← (read-named-day .ensures .0), enum-told .given .1, ← (read-day-month-year .ensures .0))
+    (kept _ _ (date-arm (read-day-month-year .result) (c .match2 .keys2))))
+    (date-took _)
+
+read-month-requires : tie.Need-read-month-requires
+read-month-requires c κs = search needs
+
+enum-known-month : tie.Need-enum-known-month
+enum-known-month c = search needs
+
+read-delimited-requires : tie.Need-read-delimited-requires
+read-delimited-requires c κs = search needs
+
+returns-3 : tie.Need-returns-3
+unfolding dateOf
+returns-3 c =
+    let read-named-day = c .before .before .before .before .before .before .before .before .read-named-day in
+    let enum-told = c .before .before .before .before .before .before .enum-told in
+    let read-day-month-year = c .before .before .before .before .before .read-day-month-year in
+    let enum-told2 = c .before .before .before .enum-told2 in
+    let read-month = c .before .before .read-month in
+    let arm3 = c .before .match3 in
+    promised
+    (rw (
+      ← (read-named-day .ensures .0),
+      enum-told .given .1,
+      ← (read-day-month-year .ensures .0),
+      enum-told2 .given .1,
+      ← (read-month .ensures .0),
+      month-none _ (read-month .ensures .0) (number-arm (read-month .result) (arm3 .keys2)),
+      ← (c .read-delimited .ensures .0),
+    ))
+    (date-took _)
+
+read-month-day-requires : tie.Need-read-month-day-requires
+read-month-day-requires c κs =
+    let read-month = c .before .before .before .read-month in
+    let month = c .before .month in
+    let b = found (ap parsedNumber (month .given .1)) (read-month .ensures .1) in
+    omega arith
+
+returns-4 : tie.Need-returns-4
+unfolding dateOf
+returns-4 c =
+    let read-named-day = c .before .before .before .before .before .before .before .before .before .before .read-named-day in
+    let enum-told = c .before .before .before .before .before .before .before .before .enum-told in
+    let read-day-month-year = c .before .before .before .before .before .before .before .read-day-month-year in
+    let enum-told2 = c .before .before .before .before .before .enum-told2 in
+    let read-month = c .before .before .before .before .read-month in
+    let month = c .before .before .month in
+    promised
+    (rw (
+      ← (read-named-day .ensures .0),
+      enum-told .given .1,
+      ← (read-day-month-year .ensures .0),
+      enum-told2 .given .1,
+      ← (read-month .ensures .0),
+      month .given .1,
+      ← (c .read-month-day .ensures .0),
+    ))
+    (date-took _)
+
+pub read-date-spec : {M : Type 1} → statement M
+read-date-spec =
+    tie.close
+    (tie.spec
+    read-named-day-requires
+    enum-told
+    returns
+    read-day-month-year-requires
+    enum-told-2
+    returns-2
+    read-month-requires
+    enum-known-month
+    read-delimited-requires
+    returns-3
+    read-month-day-requires
+    returns-4)

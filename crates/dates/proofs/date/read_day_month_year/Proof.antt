@@ -1,0 +1,177 @@
+use mathlib.Core.Path.{ap}
+use native.Mathlib.Omega.{arith}
+use Rattle.numbers.proofs.Laws.{found as number-found}
+use Rattle.dates.specs.Parsed.{parsedNumber}
+use Rattle.dates.specs.Dates.{dayMonthYearOf}
+use Rattle.dates.proofs.Laws.{number-arm, unread, found, promised}
+use Rattle.dates.proofs.Bounds.{month-none, day-month-year-took}
+use borrow.Author.Needs.{needs}
+use Rattle.dates.proofs.date.read_day_month_year.Statement.{statement}
+use Rattle.dates.proofs.date.read_day_month_year.Tie as tie
+
+num-requires : tie.Need-num-requires
+num-requires c κs = search needs
+
+enum-known-a : tie.Need-enum-known-a
+enum-known-a c = search needs
+
+date-stopped-requires : tie.Need-date-stopped-requires
+date-stopped-requires c κs = search needs
+
+returns : tie.Need-returns
+unfolding dayMonthYearOf
+returns c =
+    let num = c .before .before .num in
+    let arm = c .before .match in
+    promised
+    (rw (← (num .ensures .0)) (unread _ _ (number-arm (num .result) (arm .keys2)) (c .date-stopped .ensures)))
+    (day-month-year-took _)
+
+rest-requires : tie.Need-rest-requires
+rest-requires c κs =
+    let num = c .before .before .before .num in
+    let a = c .before .a in
+    let e = number-found (a .given .1) (num .ensures .1) in
+    omega arith
+
+read-month-requires : tie.Need-read-month-requires
+read-month-requires c κs = search needs
+
+enum-known-month : tie.Need-enum-known-month
+enum-known-month c = search needs
+
+returns-2 : tie.Need-returns-2
+unfolding dayMonthYearOf
+returns-2 c =
+    let num = c .before .before .before .before .before .before .num in
+    let a = c .before .before .before .before .a in
+    let rest = c .before .before .rest in
+    let read-month = c .before .read-month in
+    promised
+    (rw (
+      ← (num .ensures .0),
+      a .given .1,
+      ← (rest .ensures .0),
+      ← (read-month .ensures .0),
+      month-none _ (read-month .ensures .0) (number-arm (read-month .result) (c .match2 .keys2)),
+    ))
+    (day-month-year-took _)
+
+add-rest : tie.Need-add-rest
+add-rest c =
+    let num = c .before .before .before .before .before .before .before .before .num in
+    let a = c .before .before .before .before .before .before .a in
+    let read-month = c .before .before .before .read-month in
+    let month = c .before .month in
+    let e = number-found (a .given .1) (num .ensures .1) in
+    let f = found (ap parsedNumber (month .given .1)) (read-month .ensures .1) in
+    omega arith
+
+rest-requires-2 : tie.Need-rest-requires-2
+rest-requires-2 c κs =
+    let num = c .before .before .before .before .before .before .before .before .num in
+    let a = c .before .before .before .before .before .before .a in
+    let read-month = c .before .before .before .read-month in
+    let month = c .before .month in
+    let e = number-found (a .given .1) (num .ensures .1) in
+    let f = found (ap parsedNumber (month .given .1)) (read-month .ensures .1) in
+    omega arith
+
+num-requires-2 : tie.Need-num-requires-2
+num-requires-2 c κs = search needs
+
+enum-known-b : tie.Need-enum-known-b
+enum-known-b c = search needs
+
+date-stopped-requires-2 : tie.Need-date-stopped-requires-2
+date-stopped-requires-2 c κs = search needs
+
+returns-3 : tie.Need-returns-3
+unfolding dayMonthYearOf
+returns-3 c =
+    let num = c .before .before .before .before .before .before .before .before .before .before .before .before .num in
+    let a = c .before .before .before .before .before .before .before .before .before .before .a in
+    let rest = c .before .before .before .before .before .before .before .before .rest in
+    let read-month = c .before .before .before .before .before .before .before .read-month in
+    let month = c .before .before .before .before .before .month in
+    let rest2 = c .before .before .before .rest2 in
+    let num2 = c .before .before .num2 in
+    let arm3 = c .before .match3 in
+    promised
+    (rw (
+      ← (num .ensures .0),
+      a .given .1,
+      ← (rest .ensures .0),
+      ← (read-month .ensures .0),
+      month .given .1,
+      ← (rest2 .ensures .0),
+      ← (num2 .ensures .0),
+    )
+    (unread _ _ (number-arm (num2 .result) (arm3 .keys2)) (c .date-stopped2 .ensures)))
+    (day-month-year-took _)
+
+add-t13 : tie.Need-add-t13
+add-t13 c = search needs
+
+add-t15 : tie.Need-add-t15
+add-t15 c =
+    let entry = c .before .before .before .before .before .before .before .before .before .before .before .before .before .before .before in
+    let num = c .before .before .before .before .before .before .before .before .before .before .before .before .before .num in
+    let a = c .before .before .before .before .before .before .before .before .before .before .before .a in
+    let read-month = c .before .before .before .before .before .before .before .before .read-month in
+    let month = c .before .before .before .before .before .before .month in
+    let rest2 = c .before .before .before .before .rest2 in
+    let num2 = c .before .before .before .num2 in
+    let b = c .before .b in
+    let e = number-found (a .given .1) (num .ensures .1) in
+    let f = found (ap parsedNumber (month .given .1)) (read-month .ensures .1) in
+    let g = number-found (b .given .1) (num2 .ensures .1) in
+    let left = rest2 .ensures .1 in
+    let whole = entry .good in
+    omega arith
+
+returns-4 : tie.Need-returns-4
+unfolding dayMonthYearOf
+returns-4 c =
+    let num = c .before .before .before .before .before .before .before .before .before .before .before .before .before .num in
+    let a = c .before .before .before .before .before .before .before .before .before .before .before .a in
+    let rest = c .before .before .before .before .before .before .before .before .before .rest in
+    let read-month = c .before .before .before .before .before .before .before .before .read-month in
+    let month = c .before .before .before .before .before .before .month in
+    let rest2 = c .before .before .before .before .rest2 in
+    let num2 = c .before .before .before .num2 in
+    let b = c .before .b in
+    promised
+    (rw (
+      ← (num .ensures .0),
+      a .given .1,
+      ← (rest .ensures .0),
+      ← (read-month .ensures .0),
+      month .given .1,
+      ← (rest2 .ensures .0),
+      ← (num2 .ensures .0),
+      b .given .1,
+    ))
+    (day-month-year-took _)
+
+pub read-day-month-year-spec : {M : Type 1} → statement M
+read-day-month-year-spec =
+    tie.close
+    (tie.spec
+    num-requires
+    enum-known-a
+    date-stopped-requires
+    returns
+    rest-requires
+    read-month-requires
+    enum-known-month
+    returns-2
+    add-rest
+    rest-requires-2
+    num-requires-2
+    enum-known-b
+    date-stopped-requires-2
+    returns-3
+    add-t13
+    add-t15
+    returns-4)

@@ -1,0 +1,111 @@
+use mathlib.Core.Path.{ap}
+use native.Mathlib.Omega.{arith}
+use Rattle.numbers.proofs.Laws.{found as number-found}
+use Rattle.dates.specs.Parsed.{parsedNumber}
+use Rattle.dates.specs.Times.{clockOf}
+use Rattle.dates.proofs.Laws.{number-arm, unread, found, promised}
+use Rattle.dates.proofs.Bounds.{clock-took}
+use borrow.Author.Needs.{needs}
+use Rattle.dates.proofs.time.read_clock.Statement.{statement}
+use Rattle.dates.proofs.time.read_clock.Tie as tie
+
+num-requires : tie.Need-num-requires
+num-requires c κs = search needs
+
+enum-known-a : tie.Need-enum-known-a
+enum-known-a c = search needs
+
+time-stopped-requires : tie.Need-time-stopped-requires
+time-stopped-requires c κs = search needs
+
+returns : tie.Need-returns
+unfolding clockOf
+returns c =
+    let num = c .before .before .num in
+    let arm = c .before .match in
+    promised (rw (← (num .ensures .0)) (unread _ _ (number-arm (num .result) (arm .keys2)) (c .time-stopped .ensures))) (clock-took _)
+
+rest-requires : tie.Need-rest-requires
+rest-requires c κs =
+    let num = c .before .before .before .num in
+    let a = c .before .a in
+    let b = number-found (a .given .1) (num .ensures .1) in
+    omega arith
+
+read-minute-requires : tie.Need-read-minute-requires
+read-minute-requires c κs = search needs
+
+enum-known-b : tie.Need-enum-known-b
+enum-known-b c = search needs
+
+time-stopped-requires-2 : tie.Need-time-stopped-requires-2
+time-stopped-requires-2 c κs = search needs
+
+returns-2 : tie.Need-returns-2
+unfolding clockOf
+returns-2 c =
+    let num = c .before .before .before .before .before .before .before .num in
+    let a = c .before .before .before .before .before .a in
+    let rest = c .before .before .before .rest in
+    let read-minute = c .before .before .read-minute in
+    let arm2 = c .before .match2 in
+    promised
+    (rw (← (num .ensures .0), a .given .1, ← (rest .ensures .0), ← (read-minute .ensures .0))
+    (unread _ _ (number-arm (read-minute .result) (arm2 .keys2)) (c .time-stopped2 .ensures)))
+    (clock-took _)
+
+add-read-half : tie.Need-add-read-half
+add-read-half c =
+    let num = c .before .before .before .before .before .before .before .before .num in
+    let a = c .before .before .before .before .before .before .a in
+    let read-minute = c .before .before .before .read-minute in
+    let b = c .before .b in
+    let d = number-found (a .given .1) (num .ensures .1) in
+    let e = found (ap parsedNumber (b .given .1)) (read-minute .ensures .1) in
+    omega arith
+
+read-half-requires : tie.Need-read-half-requires
+read-half-requires c κs =
+    let num = c .before .before .before .before .before .before .before .before .num in
+    let a = c .before .before .before .before .before .before .a in
+    let read-minute = c .before .before .before .read-minute in
+    let b = c .before .b in
+    let d = number-found (a .given .1) (num .ensures .1) in
+    let e = found (ap parsedNumber (b .given .1)) (read-minute .ensures .1) in
+    omega arith
+
+returns-3 : tie.Need-returns-3
+unfolding clockOf
+returns-3 c =
+    let num = c .before .before .before .before .before .before .before .before .before .num in
+    let a = c .before .before .before .before .before .before .before .a in
+    let rest = c .before .before .before .before .before .rest in
+    let read-minute = c .before .before .before .before .read-minute in
+    let b = c .before .before .b in
+    promised
+    (rw (
+      ← (num .ensures .0),
+      a .given .1,
+      ← (rest .ensures .0),
+      ← (read-minute .ensures .0),
+      b .given .1,
+      ← (c .read-half .ensures .0),
+    ))
+    (clock-took _)
+
+pub read-clock-spec : {M : Type 1} → statement M
+read-clock-spec =
+    tie.close
+    (tie.spec
+    num-requires
+    enum-known-a
+    time-stopped-requires
+    returns
+    rest-requires
+    read-minute-requires
+    enum-known-b
+    time-stopped-requires-2
+    returns-2
+    add-read-half
+    read-half-requires
+    returns-3)

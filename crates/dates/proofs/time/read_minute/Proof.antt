@@ -1,0 +1,87 @@
+use native.Mathlib.Omega.{arith}
+use Rattle.numbers.proofs.Laws.{found as number-found}
+use Rattle.numbers.proofs.Bounds.{there}
+use Rattle.dates.specs.Times.{minuteOf}
+use Rattle.dates.proofs.Laws.{promised}
+use Rattle.dates.proofs.Bounds.{minute-took}
+use borrow.Author.Needs.{needs}
+use Rattle.dates.proofs.time.read_minute.Statement.{statement}
+use Rattle.dates.proofs.time.read_minute.Tie as tie
+
+is-at-requires : tie.Need-is-at-requires
+is-at-requires c κs = search needs
+
+rest-requires : tie.Need-rest-requires
+rest-requires c κs =
+    let is-at = c .before .is-at in
+    let room = there (is-at .ensures .1) (c .if1 .taken) in
+    omega arith
+
+num-requires : tie.Need-num-requires
+num-requires c κs = search needs
+
+enum-known-min : tie.Need-enum-known-min
+enum-known-min c = search needs
+
+add-t7 : tie.Need-add-t7
+add-t7 c =
+    let num = c .before .before .before .num in
+    let min = c .before .min in
+    let b = number-found (min .given .1) (num .ensures .1) in
+    omega arith
+
+returns : tie.Need-returns
+unfolding minuteOf
+returns c =
+    let is-at = c .before .before .before .before .before .before .is-at in
+    let if1 = c .before .before .before .before .before .if1 in
+    let rest = c .before .before .before .before .rest in
+    let num = c .before .before .before .num in
+    let min = c .before .min in
+    promised (rw (← (is-at .ensures .0), if1 .taken, ← (rest .ensures .0), ← (num .ensures .0), min .given .1)) (minute-took _)
+
+enum-told : tie.Need-enum-told
+enum-told c = search needs
+
+returns-2 : tie.Need-returns-2
+unfolding minuteOf
+returns-2 c =
+    let is-at = c .before .before .before .before .before .is-at in
+    let if1 = c .before .before .before .before .if1 in
+    let rest = c .before .before .before .rest in
+    let num = c .before .before .num in
+    promised (rw (← (is-at .ensures .0), if1 .taken, ← (rest .ensures .0), ← (num .ensures .0), c .enum-told .given .1)) (minute-took _)
+
+enum-told-2 : tie.Need-enum-told-2
+enum-told-2 c = search needs
+
+returns-3 : tie.Need-returns-3
+unfolding minuteOf
+returns-3 c =
+    let is-at = c .before .before .before .before .before .is-at in
+    let if1 = c .before .before .before .before .if1 in
+    let rest = c .before .before .before .rest in
+    let num = c .before .before .num in
+    promised (rw (← (is-at .ensures .0), if1 .taken, ← (rest .ensures .0), ← (num .ensures .0), c .enum-told2 .given .1)) (minute-took _)
+
+returns-4 : tie.Need-returns-4
+unfolding minuteOf
+returns-4 c =
+    let is-at = c .before .is-at in
+    promised (rw (← (is-at .ensures .0), c .if1 .left)) (minute-took _)
+
+pub read-minute-spec : {M : Type 1} → statement M
+read-minute-spec =
+    tie.close
+    (tie.spec
+    is-at-requires
+    rest-requires
+    num-requires
+    enum-known-min
+    add-t7
+    returns
+    enum-told
+    returns-2
+    enum-told-2
+    returns-3
+    returns-4)

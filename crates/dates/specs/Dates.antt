@@ -1,0 +1,90 @@
+-- `Date::parse`, alternatives in the text's order.
+use Prim.Native.Nat.{ℕ, _+_}
+use mathlib.Core.Bool.{Bool, true, false, _||_}
+use mathlib.Core.List.{List}
+use lib.Dec.{eqb, leb, ltb}
+use lib.ListN.{length, drop}
+use Rattle.lexer.specs.Lexemes as lexeme
+use Rattle.numbers.specs.Slices.{get, isAt}
+use Rattle.numbers.specs.Numbers.{numOf}
+use Rattle.dates.specs.Parsed.{Parsed, is, nothing, overflow, pick, orElse, ifLet, andThen, parsedNumber}
+use Rattle.dates.specs.Units.{monthOf}
+use Rattle.dates.specs.declared.date.Date.{Date}
+use Rattle.dates.specs.declared.date.Date.the-variants.{YearMonthNumDay, MonthNumDayYear, DayMonthYear, MonthDayYear, MonthNumDay, MonthDay, Today, Tomorrow, Yesterday}
+use Rattle.dates.specs.declared.date.DateFound.{DateFound}
+use Rattle.dates.specs.declared.date.DateFound.the-variants.{Is, Nothing, Overflow}
+
+-- today, tomorrow, yesterday
+unfoldable pub namedDayOf : List ℕ → Parsed Date
+namedDayOf l =
+    pick (isAt l 0 lexeme.Today) (is Today 1)
+    (pick (isAt l 0 lexeme.Tomorrow) (is Tomorrow 1)
+    (pick (isAt l 0 lexeme.Yesterday) (is Yesterday 1)
+    nothing))
+
+-- <num> <month> <num>
+unfoldable pub dayMonthYearOf : List ℕ → Parsed Date
+dayMonthYearOf l =
+    andThen (parsedNumber (numOf l)) (λ day t.
+    andThen (monthOf (drop t l)) (λ month u.
+    andThen (parsedNumber (numOf (drop (t + u) l))) (λ year v.
+    is (DayMonthYear day month year) (t + u + v))))
+
+-- <month> <num> [<num>]: behind a month with no number the whole of `Date::parse` leaves at once
+unfoldable pub monthDayOf : ℕ → List ℕ → Parsed Date
+monthDayOf month l =
+    andThen (parsedNumber (numOf (drop 1 l))) (λ num t.
+    ifLet (parsedNumber (numOf (drop (1 + t) l)))
+    (λ year u. is (MonthDayYear month num year) (1 + t + u))
+    (is (MonthDay month num) (1 + t)))
+
+-- `delim == &Lexeme::Slash || delim == &Lexeme::Dash || delim == &Lexeme::Dot`
+unfoldable pub isDelim : ℕ → Bool
+isDelim x = eqb x lexeme.Slash || (eqb x lexeme.Dash || eqb x lexeme.Dot)
+
+-- `if`, of dates
+abbrev pub pickDate : Bool → Date → Date → Date
+pickDate true a b = a
+pickDate false a b = b
+
+-- three numbers: year first if it is above 1000, day first behind a dot, else month first
+unfoldable pub threeNumbersOf : ℕ → ℕ → ℕ → ℕ → Date
+threeNumbersOf delim num1 num2 num3 =
+    pickDate (ltb 1000 num1) (YearMonthNumDay num1 num2 num3)
+    (pickDate (eqb delim lexeme.Dot) (MonthNumDayYear num2 num1 num3)
+    (MonthNumDayYear num1 num2 num3))
+
+-- two numbers: day first behind a dot, else month first
+unfoldable pub twoNumbersOf : ℕ → ℕ → ℕ → Date
+twoNumbersOf delim num1 num2 = pickDate (eqb delim lexeme.Dot) (MonthNumDay num2 num1) (MonthNumDay num1 num2)
+
+-- behind the second number, which ends at t: `l.get(tokens)?` leaves where nothing follows ("5/2"),
+-- the same delimiter wants a third number, and behind anything else two numbers are a date
+unfoldable pub behindSecondOf : ℕ → ℕ → ℕ → ℕ → List ℕ → Parsed Date
+behindSecondOf delim num1 num2 t l =
+    pick (leb (length l) t) nothing
+    (pick (isAt l t delim)
+    (andThen (parsedNumber (numOf (drop (t + 1) l))) (λ num3 u. is (threeNumbersOf delim num1 num2 num3) (t + 1 + u)))
+    (is (twoNumbersOf delim num1 num2) t))
+
+-- <num> <delim> <num> [<delim> <num>]
+unfoldable pub delimitedOf : List ℕ → Parsed Date
+delimitedOf l =
+    andThen (parsedNumber (numOf l)) (λ num1 t.
+    pick (isDelim (get l t))
+    (andThen (parsedNumber (numOf (drop (t + 1) l))) (λ num2 u. behindSecondOf (get l t) num1 num2 (t + 1 + u) l))
+    nothing)
+
+-- `Date::parse`
+unfoldable pub dateOf : List ℕ → Parsed Date
+dateOf l =
+    orElse (namedDayOf l)
+    (orElse (dayMonthYearOf l)
+    (ifLet (monthOf l) (λ month t. monthDayOf month l)
+    (delimitedOf l)))
+
+-- the code's answer
+abbrev pub parsedDate : DateFound → Parsed Date
+parsedDate (Is d t) = is d t
+parsedDate Nothing = nothing
+parsedDate Overflow = overflow

@@ -1,0 +1,122 @@
+-- `enum Duration` and its parsers. The code keeps a duration as the row of its parts.
+use Prim.Native.Nat.{ℕ, zero, suc, _+_, _*_, _≤_, _<_}
+use mathlib.Core.Path.{_≡_}
+use mathlib.Core.Bool.{Bool, true, false, _||_}
+use mathlib.Core.List.{List}
+use lib.ListN.{length, drop, set}
+use Rattle.lexer.specs.Lexemes as lexeme
+use Rattle.numbers.specs.Slices.{isAt}
+use Rattle.numbers.specs.Numbers.{numOf}
+use Rattle.dates.specs.Parsed.{Parsed, is, nothing, overflow, pick, orElse, ifLet, andThen, parsedNumber}
+use Rattle.dates.specs.Units.{isArticle, unitOf}
+use Rattle.dates.specs.declared.units.Unit.{Unit}
+use Rattle.dates.specs.declared.units.Unit.the-variants.{Day, Week, Hour, Minute, Month, Year}
+use Rattle.dates.specs.declared.duration.Part.{Part}
+use Rattle.dates.specs.declared.duration.Part.the-variants.{Article, Specific}
+use Rattle.dates.specs.declared.duration.PartFound.{PartFound}
+use Rattle.dates.specs.declared.duration.PartFound.the-variants.{Is as IsPart, Nothing as NoPart, Overflow as PartOverflow}
+use Rattle.dates.specs.declared.duration.Parts.{Parts}
+use Rattle.dates.specs.declared.duration.Taken.{Taken}
+use Rattle.dates.specs.declared.duration.Taken.the-variants.{Is, Nothing, Overflow}
+use Rattle.dates.specs.declared.duration.DurationFound.{DurationFound}
+
+-- `enum Duration`: `Article` and `Specific` are parts, and the first of a `Concat` is always one, since `parse_concrete` reads it
+pub data Duration : Type 0 where
+  part : Part → Duration
+  concat : Part → Duration → Duration
+
+-- `Duration::is_sub_daily`, of a unit
+abbrev pub isSubDailyUnit : Unit → Bool
+isSubDailyUnit Day = false
+isSubDailyUnit Week = false
+isSubDailyUnit Month = false
+isSubDailyUnit Year = false
+isSubDailyUnit Hour = true
+isSubDailyUnit Minute = true
+
+-- of a part
+abbrev pub isSubDailyPart : Part → Bool
+isSubDailyPart (Article u) = isSubDailyUnit u
+isSubDailyPart (Specific n u) = isSubDailyUnit u
+
+-- of a duration
+abbrev pub isSubDaily : Duration → Bool
+isSubDaily (part p) = isSubDailyPart p
+isSubDaily (concat p d) = isSubDailyPart p || isSubDaily d
+
+-- <num> <unit>
+unfoldable pub specificOf : List ℕ → Parsed Part
+specificOf l = andThen (parsedNumber (numOf l)) (λ num t. andThen (unitOf (drop t l)) (λ u k. is (Specific num u) (t + k)))
+
+-- <article> <unit>
+unfoldable pub articleOf : List ℕ → Parsed Part
+articleOf l = pick (isArticle l) (andThen (unitOf (drop 1 l)) (λ u k. is (Article u) (1 + k))) nothing
+
+-- `Duration::parse_concrete`
+unfoldable pub concreteOf : List ℕ → Parsed Part
+concreteOf l = orElse (specificOf l) (articleOf l)
+
+-- `Duration::parse`, with D for the duration behind an "and"; an "and" with none behind it is not taken
+unfoldable pub durationStep : (List ℕ → Parsed Duration) → List ℕ → Parsed Duration
+durationStep D l =
+    andThen (concreteOf l) (λ d t.
+    pick (isAt l t lexeme.And)
+    (ifLet (D (drop (t + 1) l)) (λ dur2 u. is (concat d dur2) (t + 1 + u)) (is (part d) t))
+    (is (part d) t))
+
+-- at most n turns
+unfoldable pub durationIn : ℕ → List ℕ → Parsed Duration
+durationIn zero l = nothing
+durationIn (suc n) l = durationStep (durationIn n) l
+
+-- the lexemes left fall at each turn, so their number is enough: `duration-is` says that durationOf l ≡ durationStep durationOf l
+unfoldable pub durationOf : List ℕ → Parsed Duration
+durationOf l = durationIn (suc (length l)) l
+
+-- the code's answer for one part
+abbrev pub parsedPart : PartFound → Parsed Part
+parsedPart (IsPart p t) = is p t
+parsedPart NoPart = nothing
+parsedPart PartOverflow = overflow
+
+-- one part more in a row of parts
+abbrev pub pushed : Parts → Part → Parts
+pushed ps p = record { n = ps .n + 1; items = set (ps .items) (ps .n) (record { part = p }) }
+
+-- the parts of a duration behind those of a row, first to last
+abbrev pub into : Duration → Parts → Parts
+into (part p) ps = pushed ps p
+into (concat p d) ps = into d (pushed ps p)
+
+-- how many they are
+abbrev pub size : Duration → ℕ
+size (part p) = 1
+size (concat p d) = suc (size d)
+
+-- the code's answer: the lexemes taken, whether the duration is sub-daily, and its parts behind those that were there
+abbrev pub durationAnswer : Parts → Parsed Duration → DurationFound
+durationAnswer ps (is d t) = record { taken = Is t (isSubDaily d); parts = into d ps }
+durationAnswer ps nothing = record { taken = Nothing; parts = ps }
+durationAnswer ps overflow = record { taken = Overflow; parts = ps }
+
+-- the code's answer for one part of t lexemes
+abbrev pub onePart : Parts → Part → ℕ → DurationFound
+onePart ps p t = record { taken = Is t (isSubDailyPart p); parts = pushed ps p }
+
+abbrev joinedTaken : Taken → Parts → Part → ℕ → Parts → DurationFound
+joinedTaken (Is u b) ps p t qs = record { taken = Is (t + 1 + u) (isSubDailyPart p || b); parts = qs }
+joinedTaken Nothing ps p t qs = onePart ps p t
+joinedTaken Overflow ps p t qs = record { taken = Overflow; parts = ps }
+
+-- a part of t lexemes, and what was read behind its "and": `joined-is` says that it is what `durationStep` has there
+abbrev pub joinedOf : Parts → Part → ℕ → DurationFound → DurationFound
+joinedOf ps p t next = joinedTaken (next .taken) ps p t (next .parts)
+
+abbrev CountedTaken : Taken → ℕ → ℕ → ℕ → Type 0
+CountedTaken (Is t b) m k n = (2 ≤ t) × (t ≤ n) × (m < k) × (3 * k ≤ 3 * m + t + 1)
+CountedTaken Nothing m k n = k ≡ m
+CountedTaken Overflow m k n = k ≡ m
+
+-- behind m parts: at least two and at most n lexemes, and three for each part but for the last one's connection
+pub record Counted (r : DurationFound) (m n : ℕ) : Type 0 where
+  pub bounds : CountedTaken (r .taken) m (r .parts .n) n

@@ -1,0 +1,5 @@
+pub mod Parsed
+pub mod Units
+pub mod Durations
+pub mod Dates
+pub mod Times

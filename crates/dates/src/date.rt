@@ -1,0 +1,196 @@
+// The readers of dates.
+use super::units::read_month;
+use lexer::lexeme::DASH;
+use lexer::lexeme::DOT;
+use lexer::lexeme::SLASH;
+use lexer::lexeme::TODAY;
+use lexer::lexeme::TOMORROW;
+use lexer::lexeme::YESTERDAY;
+use numbers::Found;
+use numbers::num;
+use numbers::slices::get;
+use numbers::slices::is_at;
+use numbers::slices::rest;
+ghost use mathlib.Core.Path.{_≡_};
+ghost use Prim.Native.Nat.{_≤_};
+ghost use lib.ListN.{length};
+ghost use Rattle.dates.specs.Parsed.{Took, stopped, parsedNumber};
+ghost use Rattle.dates.specs.Dates.{namedDayOf, dayMonthYearOf, monthDayOf, isDelim, threeNumbersOf, twoNumbersOf, behindSecondOf, delimitedOf, dateOf, parsedDate};
+
+// `enum Date`; a month is a number from 1 on.
+pub enum Date {
+    YearMonthNumDay(u32, u32, u32),
+    MonthNumDayYear(u32, u32, u32),
+    DayMonthYear(u32, u32, u32),
+    MonthDayYear(u32, u32, u32),
+    MonthNumDay(u32, u32),
+    MonthDay(u32, u32),
+    Today,
+    Tomorrow,
+    Yesterday,
+    Empty,
+}
+
+// A date and the lexemes taken.
+pub enum DateFound {
+    Is(Date, usize),
+    Nothing,
+    Overflow,
+}
+
+// Where no number is found: nothing, or the overflow.
+fn date_stopped(a: Found) -> DateFound
+    ensures { λ r. ⌜ parsedDate r ≡ stopped (parsedNumber a) ⌝ }
+{
+    let Found::Overflow = a else {
+        return DateFound::Nothing;
+    };
+    DateFound::Overflow
+}
+
+// today, tomorrow, yesterday
+fn read_named_day(l: &[u64]) -> DateFound
+    ensures { λ r. ⌜ parsedDate r ≡ namedDayOf (now (l .entry)) ⌝ }
+    ensures { λ r. ⌜ Took (parsedDate r) 1 (length (now (l .entry))) ⌝ }
+{
+    if is_at(l, 0, TODAY) {
+        return DateFound::Is(Date::Today, 1);
+    }
+    if is_at(l, 0, TOMORROW) {
+        return DateFound::Is(Date::Tomorrow, 1);
+    }
+    if is_at(l, 0, YESTERDAY) {
+        return DateFound::Is(Date::Yesterday, 1);
+    }
+    DateFound::Nothing
+}
+
+// <num> <month> <num>
+fn read_day_month_year(l: &[u64]) -> DateFound
+    ensures { λ r. ⌜ parsedDate r ≡ dayMonthYearOf (now (l .entry)) ⌝ }
+    ensures { λ r. ⌜ Took (parsedDate r) 1 (length (now (l .entry))) ⌝ }
+{
+    let a = num(l);
+    let Found::Is(day, t) = a else {
+        return date_stopped(a);
+    };
+    let Found::Is(month, u) = read_month(rest(l, t)) else {
+        return DateFound::Nothing;
+    };
+    let b = num(rest(l, t + u));
+    let Found::Is(year, v) = b else {
+        return date_stopped(b);
+    };
+    DateFound::Is(Date::DayMonthYear(day, month, year), t + u + v)
+}
+
+// <month> <num> [<num>], the month being read: with no number behind it there is no date.
+fn read_month_day(l: &[u64], month: u32) -> DateFound
+    requires { ⌜ 1 ≤ length (now l) ⌝ }
+    ensures { λ r. ⌜ parsedDate r ≡ monthDayOf month (now (l .entry)) ⌝ }
+    ensures { λ r. ⌜ Took (parsedDate r) 1 (length (now (l .entry))) ⌝ }
+{
+    let a = num(rest(l, 1));
+    let Found::Is(day, t) = a else {
+        return date_stopped(a);
+    };
+    match num(rest(l, 1 + t)) {
+        Found::Is(year, u) => DateFound::Is(Date::MonthDayYear(month, day, year), 1 + t + u),
+        Found::Nothing => DateFound::Is(Date::MonthDay(month, day), 1 + t),
+        Found::Overflow => DateFound::Overflow,
+    }
+}
+
+// A slash, a dash or a dot.
+fn is_delim(x: u64) -> bool
+    ensures { λ r. ⌜ r ≡ isDelim x ⌝ }
+{
+    if x == SLASH {
+        return true;
+    }
+    if x == DASH {
+        return true;
+    }
+    x == DOT
+}
+
+// Three numbers: year first if it is above 1000, day first behind a dot, else month first.
+fn three_numbers(delim: u64, num1: u32, num2: u32, num3: u32) -> Date
+    ensures { λ r. ⌜ r ≡ threeNumbersOf delim num1 num2 num3 ⌝ }
+{
+    if num1 > 1000 {
+        return Date::YearMonthNumDay(num1, num2, num3);
+    }
+    if delim == DOT {
+        return Date::MonthNumDayYear(num2, num1, num3);
+    }
+    Date::MonthNumDayYear(num1, num2, num3)
+}
+
+// Two numbers: day first behind a dot, else month first.
+fn two_numbers(delim: u64, num1: u32, num2: u32) -> Date
+    ensures { λ r. ⌜ r ≡ twoNumbersOf delim num1 num2 ⌝ }
+{
+    if delim == DOT {
+        return Date::MonthNumDay(num2, num1);
+    }
+    Date::MonthNumDay(num1, num2)
+}
+
+// Behind the second number, which ends at t.
+fn behind_second(l: &[u64], delim: u64, num1: u32, num2: u32, t: usize) -> DateFound
+    requires { ⌜ (1 ≤ t) × (t ≤ length (now l)) ⌝ }
+    ensures { λ r. ⌜ parsedDate r ≡ behindSecondOf delim num1 num2 t (now (l .entry)) ⌝ }
+    ensures { λ r. ⌜ Took (parsedDate r) 1 (length (now (l .entry))) ⌝ }
+{
+    if l.len() <= t {
+        return DateFound::Nothing;
+    }
+    if is_at(l, t, delim) {
+        let a = num(rest(l, t + 1));
+        let Found::Is(num3, u) = a else {
+            return date_stopped(a);
+        };
+        return DateFound::Is(three_numbers(delim, num1, num2, num3), t + 1 + u);
+    }
+    DateFound::Is(two_numbers(delim, num1, num2), t)
+}
+
+// <num> <delim> <num> [<delim> <num>]
+fn read_delimited(l: &[u64]) -> DateFound
+    ensures { λ r. ⌜ parsedDate r ≡ delimitedOf (now (l .entry)) ⌝ }
+    ensures { λ r. ⌜ Took (parsedDate r) 1 (length (now (l .entry))) ⌝ }
+{
+    let a = num(l);
+    let Found::Is(num1, t) = a else {
+        return date_stopped(a);
+    };
+    let delim = get(l, t);
+    if is_delim(delim) {
+        let b = num(rest(l, t + 1));
+        let Found::Is(num2, u) = b else {
+            return date_stopped(b);
+        };
+        return behind_second(l, delim, num1, num2, t + 1 + u);
+    }
+    DateFound::Nothing
+}
+
+// Date::parse
+pub fn read_date(l: &[u64]) -> DateFound
+    ensures { λ r. ⌜ parsedDate r ≡ dateOf (now (l .entry)) ⌝ }
+    ensures { λ r. ⌜ Took (parsedDate r) 1 (length (now (l .entry))) ⌝ }
+{
+    let a = read_named_day(l);
+    let DateFound::Nothing = a else {
+        return a;
+    };
+    let b = read_day_month_year(l);
+    let DateFound::Nothing = b else {
+        return b;
+    };
+    let Found::Is(month, _) = read_month(l) else {
+        return read_delimited(l);
+    };
+    read_month_day(l, month)
+}

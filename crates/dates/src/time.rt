@@ -1,0 +1,106 @@
+// The readers of a time of day.
+use lexer::lexeme::AM;
+use lexer::lexeme::COLON;
+use lexer::lexeme::MIDNIGHT;
+use lexer::lexeme::NOON;
+use lexer::lexeme::PM;
+use numbers::Found;
+use numbers::num;
+use numbers::slices::is_at;
+use numbers::slices::rest;
+ghost use mathlib.Core.Path.{_≡_};
+ghost use Prim.Native.Nat.{_≤_};
+ghost use lib.ListN.{length};
+ghost use Rattle.dates.specs.Parsed.{Took, stopped, parsedNumber};
+ghost use Rattle.dates.specs.Times.{minuteOf, halfOf, clockOf, timeOf, parsedTime};
+
+// `enum Time`
+pub enum Time {
+    HourMin(u32, u32),
+    HourMinAM(u32, u32),
+    HourMinPM(u32, u32),
+    Empty,
+}
+
+// A time of day and the lexemes taken.
+pub enum TimeFound {
+    Is(Time, usize),
+    Nothing,
+    Overflow,
+}
+
+// Where no number is found: nothing, or the overflow.
+fn time_stopped(a: Found) -> TimeFound
+    ensures { λ r. ⌜ parsedTime r ≡ stopped (parsedNumber a) ⌝ }
+{
+    let Found::Overflow = a else {
+        return TimeFound::Nothing;
+    };
+    TimeFound::Overflow
+}
+
+// [: [<num>]]: the minute, 0 where it is not said; a colon is taken also with no number behind it.
+fn read_minute(l: &[u64]) -> Found
+    ensures { λ r. ⌜ parsedNumber r ≡ minuteOf (now (l .entry)) ⌝ }
+    ensures { λ r. ⌜ Took (parsedNumber r) 0 (length (now (l .entry))) ⌝ }
+{
+    if is_at(l, 0, COLON) {
+        match num(rest(l, 1)) {
+            Found::Is(min, t) => {
+                return Found::Is(min, 1 + t);
+            }
+            Found::Nothing => {
+                return Found::Is(0, 1);
+            }
+            Found::Overflow => {
+                return Found::Overflow;
+            }
+        }
+    }
+    Found::Is(0, 0)
+}
+
+// [am | pm] behind hour and minute, which end at t.
+fn read_half(l: &[u64], hour: u32, minute: u32, t: usize) -> TimeFound
+    requires { ⌜ (1 ≤ t) × (t ≤ length (now l)) ⌝ }
+    ensures { λ r. ⌜ parsedTime r ≡ halfOf hour minute t (now (l .entry)) ⌝ }
+    ensures { λ r. ⌜ Took (parsedTime r) 1 (length (now (l .entry))) ⌝ }
+{
+    if is_at(l, t, AM) {
+        return TimeFound::Is(Time::HourMinAM(hour, minute), t + 1);
+    }
+    if is_at(l, t, PM) {
+        return TimeFound::Is(Time::HourMinPM(hour, minute), t + 1);
+    }
+    TimeFound::Is(Time::HourMin(hour, minute), t)
+}
+
+// <num> [: [<num>]] [am | pm]
+fn read_clock(l: &[u64]) -> TimeFound
+    ensures { λ r. ⌜ parsedTime r ≡ clockOf (now (l .entry)) ⌝ }
+    ensures { λ r. ⌜ Took (parsedTime r) 1 (length (now (l .entry))) ⌝ }
+{
+    let a = num(l);
+    let Found::Is(hour, t) = a else {
+        return time_stopped(a);
+    };
+    let b = read_minute(rest(l, t));
+    let Found::Is(minute, u) = b else {
+        return time_stopped(b);
+    };
+    read_half(l, hour, minute, t + u)
+}
+
+// Time::parse
+pub fn read_time(l: &[u64]) -> TimeFound
+    ensures { λ r. ⌜ parsedTime r ≡ timeOf (now (l .entry)) ⌝ }
+    ensures { λ r. ⌜ Took (parsedTime r) 1 (length (now (l .entry))) ⌝ }
+{
+    if is_at(l, 0, MIDNIGHT) {
+        return TimeFound::Is(Time::HourMin(0, 0), 1);
+    }
+    if is_at(l, 0, NOON) {
+        return TimeFound::Is(Time::HourMin(12, 0), 1);
+    }
+    read_clock(l)
+}
