@@ -112,7 +112,7 @@ joinedTaken Overflow ps p t qs = record { taken = Overflow; parts = ps }
 abbrev pub joinedOf : Parts → Part → ℕ → DurationFound → DurationFound
 joinedOf ps p t next = joinedTaken (next .taken) ps p t (next .parts)
 
-abbrev CountedTaken : Taken → ℕ → ℕ → ℕ → Type 0
+abbrev pub CountedTaken : Taken → ℕ → ℕ → ℕ → Type 0
 CountedTaken (Is t b) m k n = (2 ≤ t) × (t ≤ n) × (m < k) × (3 * k ≤ 3 * m + t + 1)
 CountedTaken Nothing m k n = k ≡ m
 CountedTaken Overflow m k n = k ≡ m

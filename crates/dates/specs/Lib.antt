@@ -3,3 +3,4 @@ pub mod Units
 pub mod Durations
 pub mod Dates
 pub mod Times
+pub mod DurationCases

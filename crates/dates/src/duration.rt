@@ -13,7 +13,8 @@ ghost use mathlib.Core.Bool.{_||_};
 ghost use Prim.Native.Nat.{_+_, _*_, _≤_, _<_};
 ghost use lib.ListN.{length};
 ghost use Rattle.dates.specs.Parsed.{Took, stopped, parsedNumber};
-ghost use Rattle.dates.specs.Durations.{isSubDailyUnit, isSubDailyPart, specificOf, articleOf, concreteOf, durationOf, parsedPart, pushed, onePart, joinedOf, durationAnswer, Counted};
+ghost use Rattle.dates.specs.Durations.{isSubDailyUnit, isSubDailyPart, specificOf, articleOf, concreteOf, durationOf};
+ghost use Rattle.dates.specs.Durations.{parsedPart, pushed, onePart, joinedOf, durationAnswer, Counted};
 
 // One part of a duration: `Duration::Article`, `Duration::Specific`.
 pub enum Part {
