@@ -10,7 +10,8 @@ use borrow.Author.Tests.{eqb-true}
 use Rattle.lexer.specs.Lexemes as lexeme
 use Rattle.numbers.specs.Slices.{get, isAt, within, oneIf}
 use Rattle.numbers.specs.Numbers.{numOf}
-use Rattle.numbers.proofs.Bounds.{within-bounds, at-most, there, num-read}
+use Rattle.numbers.proofs.Places.{within-bounds, at-most, there}
+use Rattle.numbers.proofs.Bounds.{num-read}
 use Rattle.dates.specs.Parsed.{Parsed, nothing, parsedNumber, Took}
 use Rattle.dates.specs.Units.{isArticle, unitOf, monthOf, weekdayOf, relativeSpecifierOf}
 use Rattle.dates.specs.Dates.{namedDayOf, dayMonthYearOf, monthDayOf, isDelim, behindSecondOf, delimitedOf, dateOf}

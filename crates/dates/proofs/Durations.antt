@@ -9,7 +9,7 @@ use types.Run.{OneOf}
 use denote.Enum.Declared.{tagOf}
 use Rattle.lexer.specs.Lexemes as lexeme
 use Rattle.numbers.specs.Slices.{isAt}
-use Rattle.numbers.proofs.Bounds.{at-most, there}
+use Rattle.numbers.proofs.Places.{at-most, there}
 use Rattle.dates.specs.Parsed.{Parsed, is, nothing, overflow, pick, ifLet, andThen, Took}
 use Rattle.dates.specs.Units.{isArticle}
 use Rattle.dates.specs.declared.duration.Part.{Part}

@@ -72,6 +72,7 @@ duration-behind dur t l ps = go (isSubDaily dur) (isAt l t lexeme.Ago) (isAt l t
   where
     x : Parsed Date
     x = dateOf (drop (t + 1) l)
+
     go :
         (a b c d : Bool) →
         cond a (exprAnswer ps nothing)

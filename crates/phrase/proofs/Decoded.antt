@@ -135,7 +135,7 @@ module _ (back : Bool) (dur : Duration) (x : DateTime) (r : Reading) where
       let b : r .m < length (r .links) = omega (arith, some dur) in
       let link : Link = record { back = back; from = r .parts .n; to = into dur (r .parts) .n } in
       let one : take (r .m + 1) (set (r .links) (r .m) link) ≡ take (r .m) (r .links) ++ (link ∷ []) =
-        rw (add-one, take-suc-set (r .links) (r .m) link b) in
+      rw (add-one, take-suc-set (r .links) (r .m) link b) in
       let same = tree-keeps x inner (into dur (r .parts) .n) (omega arith) in
       ap (λ (ks : List Link). linksFrom ks all x) one
       ∙ links-append (take (r .m) (r .links)) (link ∷ []) all x
@@ -146,8 +146,9 @@ module _ (back : Bool) (dur : Duration) (x : DateTime) (r : Reading) where
   holds-inner h =
       let link : Link = record { back = back; from = r .parts .n; to = into dur (r .parts) .n } in
       record {
-      parts = omega (arith, into-count dur (r .parts), into-length dur (r .parts));
-      links = omega (arith, some dur, length-set (r .links) (r .m) link) }
+        parts = omega (arith, into-count dur (r .parts), into-length dur (r .parts));
+        links = omega (arith, some dur, length-set (r .links) (r .m) link);
+      }
 
 -- what is read inside the links of a reading stands for the tree inside those links
 tree-back : (x : DateTime) (r : Reading) → Holds r (sizeTree x) → treeOf (flatFrom r x) ≡ linksFrom (take (r .m) (r .links)) (flatFrom r x .parts .items) x

@@ -7,7 +7,7 @@ use mathlib.Core.List.{List}
 use lib.ListN.{length, drop, length-drop}
 use Rattle.lexer.specs.Lexemes as lexeme
 use Rattle.numbers.specs.Slices.{isAt, oneIf}
-use Rattle.numbers.proofs.Bounds.{at-most, there}
+use Rattle.numbers.proofs.Places.{at-most, there}
 use Rattle.dates.specs.Parsed.{Parsed, is, nothing, overflow, pick, ifLet, andThen, Took}
 use Rattle.dates.specs.Units.{unitOf, weekdayOf, relativeSpecifierOf}
 use Rattle.dates.specs.Durations.{Duration, size, durationOf, isSubDaily}

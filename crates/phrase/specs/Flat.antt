@@ -56,8 +56,13 @@ intoExpr empty ps = ps
 abbrev pub linkedParts : Bool → Parts → Reading → Reading
 linkedParts back ps r =
     record {
-    base = r .base; time = r .time; parts = ps; own = r .own; m = r .m + 1;
-    links = set (r .links) (r .m) (record { back = back; from = r .parts .n; to = ps .n }) }
+      base = r .base;
+      time = r .time;
+      parts = ps;
+      own = r .own;
+      m = r .m + 1;
+      links = set (r .links) (r .m) (record { back = back; from = r .parts .n; to = ps .n });
+    }
 
 -- the base, with its own parts behind those that are there
 abbrev pub based : Base → Time → Parts → Reading → Reading
@@ -83,8 +88,13 @@ blankLink = record { back = false; from = 0; to = 0 }
 abbrev pub blank : Reading
 blank =
     record {
-    base = Now; time = NoTime; parts = record { n = 0; items = replicate 21 blankSlot }; own = 0; m = 0;
-    links = replicate 21 blankLink }
+      base = Now;
+      time = NoTime;
+      parts = record { n = 0; items = replicate 21 blankSlot };
+      own = 0;
+      m = 0;
+      links = replicate 21 blankLink;
+    }
 
 -- the flat reading of a tree
 abbrev pub flat : DateTime → Reading

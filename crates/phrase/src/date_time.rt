@@ -185,7 +185,10 @@ fn read_undated(l: &[u64], r: Reading) -> TurnFound
     let with = d.parts;
     let taken = d.taken;
     match taken {
-        Taken::Is { taken: t, sub_daily: _ } => with_duration(l, t, with, r),
+        Taken::Is {
+            taken: t,
+            sub_daily: _,
+        } => with_duration(l, t, with, r),
         Taken::Nothing => read_timed(l, r),
         Taken::Overflow => TurnFound {
             turn: Turn::Overflow,

@@ -66,21 +66,39 @@ fn read_in_tail(l: &[u64], parts: Parts) -> TailFound
         let with = d.parts;
         let taken = d.taken;
         match taken {
-            Taken::Is { taken: t, sub_daily } => {
+            Taken::Is {
+                taken: t,
+                sub_daily,
+            } => {
                 if sub_daily {
-                    return TailFound { tail: Tail::Stray(1), parts };
+                    return TailFound {
+                        tail: Tail::Stray(1),
+                        parts,
+                    };
                 }
-                return TailFound { tail: Tail::Inside(1 + t), parts: with };
+                return TailFound {
+                    tail: Tail::Inside(1 + t),
+                    parts: with,
+                };
             }
             Taken::Nothing => {
-                return TailFound { tail: Tail::Stray(1), parts };
+                return TailFound {
+                    tail: Tail::Stray(1),
+                    parts,
+                };
             }
             Taken::Overflow => {
-                return TailFound { tail: Tail::Overflow, parts };
+                return TailFound {
+                    tail: Tail::Overflow,
+                    parts,
+                };
             }
         }
     }
-    TailFound { tail: Tail::Nothing, parts }
+    TailFound {
+        tail: Tail::Nothing,
+        parts,
+    }
 }
 
 // <duration> ago, unless that is sub-daily; else in <duration>
@@ -93,17 +111,32 @@ fn read_duration_tail(l: &[u64], parts: Parts) -> TailFound
     let with = d.parts;
     let taken = d.taken;
     match taken {
-        Taken::Is { taken: t, sub_daily } => {
+        Taken::Is {
+            taken: t,
+            sub_daily,
+        } => {
             if is_at(l, t, AGO) {
                 if sub_daily {
-                    return TailFound { tail: Tail::Stray(t), parts };
+                    return TailFound {
+                        tail: Tail::Stray(t),
+                        parts,
+                    };
                 }
-                return TailFound { tail: Tail::Ago(t + 1), parts: with };
+                return TailFound {
+                    tail: Tail::Ago(t + 1),
+                    parts: with,
+                };
             }
-            TailFound { tail: Tail::Stray(t), parts }
+            TailFound {
+                tail: Tail::Stray(t),
+                parts,
+            }
         }
         Taken::Nothing => read_in_tail(l, parts),
-        Taken::Overflow => TailFound { tail: Tail::Overflow, parts },
+        Taken::Overflow => TailFound {
+            tail: Tail::Overflow,
+            parts,
+        },
     }
 }
 
@@ -117,9 +150,15 @@ fn read_tail(l: &[u64], parts: Parts) -> TailFound
         return read_duration_tail(l, parts);
     };
     let UnitFound::Is(unit) = read_unit(rest(l, 1)) else {
-        return TailFound { tail: Tail::Stray(1), parts };
+        return TailFound {
+            tail: Tail::Stray(1),
+            parts,
+        };
     };
-    TailFound { tail: Tail::Relative(spec, unit, 2), parts }
+    TailFound {
+        tail: Tail::Relative(spec, unit, 2),
+        parts,
+    }
 }
 
 // A date of t lexemes and its tail: with no whole tail the count is rolled back.
@@ -130,12 +169,30 @@ fn with_date(d: Date, t: usize, tail: TailFound, parts: Parts) -> ExprFound
     let with = tail.parts;
     let k = tail.tail;
     match k {
-        Tail::Relative(spec, unit, u) => ExprFound { expr: ExprTaken::Is(Expr::DateRelative(d, spec, unit), t + u), parts: with },
-        Tail::Ago(u) => ExprFound { expr: ExprTaken::Is(Expr::DateExpressionBefore(d), t + u), parts: with },
-        Tail::Inside(u) => ExprFound { expr: ExprTaken::Is(Expr::DateExpressionAfter(d), t + u), parts: with },
-        Tail::Stray(_) => ExprFound { expr: ExprTaken::Is(Expr::Date(d), t), parts },
-        Tail::Nothing => ExprFound { expr: ExprTaken::Is(Expr::Date(d), t), parts },
-        Tail::Overflow => ExprFound { expr: ExprTaken::Overflow, parts },
+        Tail::Relative(spec, unit, u) => ExprFound {
+            expr: ExprTaken::Is(Expr::DateRelative(d, spec, unit), t + u),
+            parts: with,
+        },
+        Tail::Ago(u) => ExprFound {
+            expr: ExprTaken::Is(Expr::DateExpressionBefore(d), t + u),
+            parts: with,
+        },
+        Tail::Inside(u) => ExprFound {
+            expr: ExprTaken::Is(Expr::DateExpressionAfter(d), t + u),
+            parts: with,
+        },
+        Tail::Stray(_) => ExprFound {
+            expr: ExprTaken::Is(Expr::Date(d), t),
+            parts,
+        },
+        Tail::Nothing => ExprFound {
+            expr: ExprTaken::Is(Expr::Date(d), t),
+            parts,
+        },
+        Tail::Overflow => ExprFound {
+            expr: ExprTaken::Overflow,
+            parts,
+        },
     }
 }
 
@@ -147,12 +204,30 @@ fn with_weekday(w: u32, t: usize, tail: TailFound, parts: Parts) -> ExprFound
     let with = tail.parts;
     let k = tail.tail;
     match k {
-        Tail::Relative(spec, unit, u) => ExprFound { expr: ExprTaken::Is(Expr::WeekdayRelative(w, spec, unit), t + u), parts: with },
-        Tail::Ago(u) => ExprFound { expr: ExprTaken::Is(Expr::WeekdayExpressionBefore(w), t + u), parts: with },
-        Tail::Inside(u) => ExprFound { expr: ExprTaken::Is(Expr::WeekdayExpressionBefore(w), t + u), parts: with },
-        Tail::Stray(u) => ExprFound { expr: ExprTaken::Is(Expr::Weekday(w), t + u), parts },
-        Tail::Nothing => ExprFound { expr: ExprTaken::Is(Expr::Weekday(w), t), parts },
-        Tail::Overflow => ExprFound { expr: ExprTaken::Overflow, parts },
+        Tail::Relative(spec, unit, u) => ExprFound {
+            expr: ExprTaken::Is(Expr::WeekdayRelative(w, spec, unit), t + u),
+            parts: with,
+        },
+        Tail::Ago(u) => ExprFound {
+            expr: ExprTaken::Is(Expr::WeekdayExpressionBefore(w), t + u),
+            parts: with,
+        },
+        Tail::Inside(u) => ExprFound {
+            expr: ExprTaken::Is(Expr::WeekdayExpressionBefore(w), t + u),
+            parts: with,
+        },
+        Tail::Stray(u) => ExprFound {
+            expr: ExprTaken::Is(Expr::Weekday(w), t + u),
+            parts,
+        },
+        Tail::Nothing => ExprFound {
+            expr: ExprTaken::Is(Expr::Weekday(w), t),
+            parts,
+        },
+        Tail::Overflow => ExprFound {
+            expr: ExprTaken::Overflow,
+            parts,
+        },
     }
 }
 
@@ -162,9 +237,18 @@ fn read_after(l: &[u64], t: usize, with: Parts, parts: Parts) -> ExprFound
     ensures { λ r. ⌜ r ≡ afterAnswer (now (l .entry)) t with parts ⌝ }
 {
     match read_date(rest(l, t)) {
-        DateFound::Is(d, u) => ExprFound { expr: ExprTaken::Is(Expr::After(d), t + u), parts: with },
-        DateFound::Nothing => ExprFound { expr: ExprTaken::Nothing, parts },
-        DateFound::Overflow => ExprFound { expr: ExprTaken::Overflow, parts },
+        DateFound::Is(d, u) => ExprFound {
+            expr: ExprTaken::Is(Expr::After(d), t + u),
+            parts: with,
+        },
+        DateFound::Nothing => ExprFound {
+            expr: ExprTaken::Nothing,
+            parts,
+        },
+        DateFound::Overflow => ExprFound {
+            expr: ExprTaken::Overflow,
+            parts,
+        },
     }
 }
 
@@ -174,10 +258,16 @@ fn with_duration(l: &[u64], t: usize, sub_daily: bool, with: Parts, parts: Parts
     ensures { λ r. ⌜ r ≡ withDurationAnswer (now (l .entry)) t sub_daily with parts ⌝ }
 {
     if sub_daily {
-        return ExprFound { expr: ExprTaken::Nothing, parts };
+        return ExprFound {
+            expr: ExprTaken::Nothing,
+            parts,
+        };
     }
     if is_at(l, t, AGO) {
-        return ExprFound { expr: ExprTaken::Is(Expr::Before(Date::Empty), t + 1), parts: with };
+        return ExprFound {
+            expr: ExprTaken::Is(Expr::Before(Date::Empty), t + 1),
+            parts: with,
+        };
     }
     if is_at(l, t, AFTER) {
         return read_after(l, t + 1, with, parts);
@@ -185,7 +275,10 @@ fn with_duration(l: &[u64], t: usize, sub_daily: bool, with: Parts, parts: Parts
     if is_at(l, t, FROM) {
         return read_after(l, t + 1, with, parts);
     }
-    ExprFound { expr: ExprTaken::Nothing, parts }
+    ExprFound {
+        expr: ExprTaken::Nothing,
+        parts,
+    }
 }
 
 // <relative_specifier> <weekday> | <relative_specifier> <unit>
@@ -195,16 +288,28 @@ fn read_relative(l: &[u64], parts: Parts) -> ExprFound
     ensures { λ r. ⌜ ExprCounted r (parts .n) (length (now (l .entry))) ⌝ }
 {
     let SpecifierFound::Is(spec) = read_specifier(l) else {
-        return ExprFound { expr: ExprTaken::Nothing, parts };
+        return ExprFound {
+            expr: ExprTaken::Nothing,
+            parts,
+        };
     };
     let after = rest(l, 1);
     let Found::Is(w, u) = read_weekday(after) else {
         let UnitFound::Is(unit) = read_unit(after) else {
-            return ExprFound { expr: ExprTaken::Nothing, parts };
+            return ExprFound {
+                expr: ExprTaken::Nothing,
+                parts,
+            };
         };
-        return ExprFound { expr: ExprTaken::Is(Expr::UnitRelative(spec, unit), 2), parts };
+        return ExprFound {
+            expr: ExprTaken::Is(Expr::UnitRelative(spec, unit), 2),
+            parts,
+        };
     };
-    ExprFound { expr: ExprTaken::Is(Expr::RelativeWeekday(spec, w), 1 + u), parts }
+    ExprFound {
+        expr: ExprTaken::Is(Expr::RelativeWeekday(spec, w), 1 + u),
+        parts,
+    }
 }
 
 // A weekday and its tail, or a relative specifier.
@@ -229,9 +334,15 @@ fn read_undated(l: &[u64], parts: Parts) -> ExprFound
     let with = d.parts;
     let taken = d.taken;
     match taken {
-        Taken::Is { taken: t, sub_daily } => with_duration(l, t, sub_daily, with, parts),
+        Taken::Is {
+            taken: t,
+            sub_daily,
+        } => with_duration(l, t, sub_daily, with, parts),
         Taken::Nothing => read_weekday_expr(l, parts),
-        Taken::Overflow => ExprFound { expr: ExprTaken::Overflow, parts },
+        Taken::Overflow => ExprFound {
+            expr: ExprTaken::Overflow,
+            parts,
+        },
     }
 }
 
@@ -244,6 +355,9 @@ pub fn read_expr(l: &[u64], parts: Parts) -> ExprFound
     match read_date(l) {
         DateFound::Is(d, t) => with_date(d, t, read_tail(rest(l, t), parts), parts),
         DateFound::Nothing => read_undated(l, parts),
-        DateFound::Overflow => ExprFound { expr: ExprTaken::Overflow, parts },
+        DateFound::Overflow => ExprFound {
+            expr: ExprTaken::Overflow,
+            parts,
+        },
     }
 }

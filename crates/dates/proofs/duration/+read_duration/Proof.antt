@@ -6,7 +6,7 @@ use denote.Ref.{now}
 use borrow.Author.Needs.{needs}
 use borrow.Fn.Kinds.{In}
 use borrow.Fn.PlainCycle.{Measures, is, falls, and}
-use Rattle.numbers.proofs.Bounds.{there}
+use Rattle.numbers.proofs.Places.{there}
 use Rattle.dates.specs.declared.duration.Parts.{Parts}
 use Rattle.dates.specs.Durations.{parsedPart, durationStep, durationOf}
 use Rattle.dates.proofs.Laws.{unread}

@@ -1,5 +1,5 @@
 use native.Mathlib.Omega.{arith}
-use Rattle.numbers.proofs.Bounds.{there}
+use Rattle.numbers.proofs.Places.{there}
 use Rattle.dates.specs.Times.{halfOf}
 use Rattle.dates.proofs.Laws.{promised}
 use Rattle.dates.proofs.Bounds.{half-took}

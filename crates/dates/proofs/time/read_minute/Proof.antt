@@ -1,6 +1,6 @@
 use native.Mathlib.Omega.{arith}
 use Rattle.numbers.proofs.Laws.{found as number-found}
-use Rattle.numbers.proofs.Bounds.{there}
+use Rattle.numbers.proofs.Places.{there}
 use Rattle.dates.specs.Times.{minuteOf}
 use Rattle.dates.proofs.Laws.{promised}
 use Rattle.dates.proofs.Bounds.{minute-took}

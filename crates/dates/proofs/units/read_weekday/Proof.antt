@@ -1,5 +1,5 @@
 use native.Mathlib.Omega.{arith}
-use Rattle.numbers.proofs.Bounds.{within-bounds}
+use Rattle.numbers.proofs.Places.{within-bounds}
 use Rattle.dates.specs.Units.{weekdayOf}
 use Rattle.dates.proofs.Laws.{promised}
 use Rattle.dates.proofs.Bounds.{weekday-took}
