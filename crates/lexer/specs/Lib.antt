@@ -1,1 +1,7 @@
 pub mod Lexemes
+pub mod Words
+pub mod Keywords
+pub mod Table
+pub mod Classes
+pub mod Refusals
+pub mod Lex

@@ -1,0 +1,10 @@
+pub mod Order
+pub mod Sorting
+pub mod Halves
+pub mod Cells
+pub mod Rows
+pub mod Tabled
+pub mod Runs
+pub mod Lines
+pub mod Places
+pub mod Examples

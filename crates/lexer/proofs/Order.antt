@@ -1,0 +1,117 @@
+-- Byte order: it turns round, it is transitive, and only equal lists are the same. Assumes nothing.
+use mathlib.Core.Path.{_≡_, refl, sym, ap, _∙_}
+use mathlib.Core.Bool.{Bool, true, false}
+use mathlib.Core.List.{List, [], _∷_}
+use Prim.Native.Nat.{ℕ, _+_, _≤_, _<_}
+use native.Mathlib.Numerals.{add-one}
+use native.Mathlib.Omega.{arith}
+use lib.Dec.{ltb}
+use lib.ListN.{length, getD, drop, drop-of-length-le}
+use lib.Seq.{drop-cons}
+use borrow.Author.Tests.{lt-ltb, le-ltb, ltb-true, ltb-false}
+use Rattle.lexer.specs.declared.find.Order.{Order}
+use Rattle.lexer.specs.declared.find.Order.the-variants.{Less, Same, More}
+use Rattle.lexer.specs.Words.{ordered}
+
+-- two numbers: one is below the other, or they are equal
+pub data Tri (x y : ℕ) : Type 0 where
+  below : x < y → Tri x y
+  equal : x ≡ y → Tri x y
+  above : y < x → Tri x y
+
+pub tri : (x y : ℕ) → Tri x y
+tri x y = go (ltb x y) refl (ltb y x) refl
+  where
+    go : (b : Bool) → ltb x y ≡ b → (d : Bool) → ltb y x ≡ d → Tri x y
+    go true e d f = below (ltb-true x y e)
+    go false e true f = above (ltb-true y x f)
+    go false e false f = equal (omega (arith, ltb-false x y e, ltb-false y x f))
+
+-- no order is two of the three
+pub not-less-same : {A : Type 0} {o : Order} → o ≡ Less → o ≡ Same → A
+not-less-same p q = let z : _≡_ {A = ℕ} 0 1 = cc in absurd (omega arith)
+
+pub not-more-same : {A : Type 0} {o : Order} → o ≡ More → o ≡ Same → A
+not-more-same p q = let z : _≡_ {A = ℕ} 0 1 = cc in absurd (omega arith)
+
+not-less-more : {A : Type 0} {o : Order} → o ≡ Less → o ≡ More → A
+not-less-more p q = let z : _≡_ {A = ℕ} 0 1 = cc in absurd (omega arith)
+
+-- the first bytes decide, or what follows them
+module _ (x y : ℕ) (xs ys : List ℕ) where
+  pub head-less : x < y → ordered (x ∷ xs) (y ∷ ys) ≡ Less
+  head-less h = simp (lt-ltb x y h)
+
+  pub head-more : y < x → ordered (x ∷ xs) (y ∷ ys) ≡ More
+  head-more h = let l : y ≤ x = omega arith in simp (le-ltb x y l, lt-ltb y x h)
+
+  pub head-same : x ≡ y → ordered (x ∷ xs) (y ∷ ys) ≡ ordered xs ys
+  head-same e = let h : y ≤ x = omega arith in let l : x ≤ y = omega arith in simp (le-ltb x y h, le-ltb y x l)
+
+pub same-equal : (a b : List ℕ) → ordered a b ≡ Same → a ≡ b
+same-equal [] [] h = refl
+same-equal [] (y ∷ ys) h = not-less-same refl h
+same-equal (x ∷ xs) [] h = not-more-same refl h
+same-equal (x ∷ xs) (y ∷ ys) h = go (tri x y) (same-equal xs ys)
+  where
+    go : Tri x y → (ordered xs ys ≡ Same → xs ≡ ys) → x ∷ xs ≡ y ∷ ys
+    go (below l) rests = not-less-same (head-less x y xs ys l) h
+    go (equal e) rests = let t : xs ≡ ys = rests (sym (head-same x y xs ys e) ∙ h) in cc
+    go (above l) rests = not-more-same (head-more x y xs ys l) h
+
+-- the order of two words the other way round
+abbrev turned : Order → Order
+turned Less = More
+turned Same = Same
+turned More = Less
+
+ordered-turned : (a b : List ℕ) → ordered b a ≡ turned (ordered a b)
+ordered-turned [] [] = refl
+ordered-turned [] (y ∷ ys) = refl
+ordered-turned (x ∷ xs) [] = refl
+ordered-turned (x ∷ xs) (y ∷ ys) = go (tri x y) (ordered-turned xs ys)
+  where
+    go : Tri x y → ordered ys xs ≡ turned (ordered xs ys) → ordered (y ∷ ys) (x ∷ xs) ≡ turned (ordered (x ∷ xs) (y ∷ ys))
+    go (below l) rests = head-more y x ys xs l ∙ sym (ap turned (head-less x y xs ys l))
+    go (equal e) rests = head-same y x ys xs (sym e) ∙ rests ∙ sym (ap turned (head-same x y xs ys e))
+    go (above l) rests = head-less y x ys xs l ∙ sym (ap turned (head-more x y xs ys l))
+
+pub more-less : (a b : List ℕ) → ordered a b ≡ More → ordered b a ≡ Less
+more-less a b h = ordered-turned a b ∙ ap turned h
+
+pub less-more : (a b : List ℕ) → ordered a b ≡ Less → ordered b a ≡ More
+less-more a b h = ordered-turned a b ∙ ap turned h
+
+pub less-trans : (a b c : List ℕ) → ordered a b ≡ Less → ordered b c ≡ Less → ordered a c ≡ Less
+less-trans [] [] c h l = l
+less-trans [] (y ∷ ys) [] h l = not-less-more l refl
+less-trans [] (y ∷ ys) (z ∷ zs) h l = refl
+less-trans (x ∷ xs) [] c h l = not-less-more h refl
+less-trans (x ∷ xs) (y ∷ ys) [] h l = not-less-more l refl
+less-trans (x ∷ xs) (y ∷ ys) (z ∷ zs) h l = go (tri x y) (tri y z) (less-trans xs ys zs)
+  where
+    go : Tri x y → Tri y z → (ordered xs ys ≡ Less → ordered ys zs ≡ Less → ordered xs zs ≡ Less) → ordered (x ∷ xs) (z ∷ zs) ≡ Less
+    go (below p) (below q) rests = head-less x z xs zs (omega arith)
+    go (below p) (equal q) rests = head-less x z xs zs (omega arith)
+    go (below p) (above q) rests = not-less-more l (head-more y z ys zs q)
+    go (equal p) (below q) rests = head-less x z xs zs (omega arith)
+    go (equal p) (equal q) rests =
+        head-same x z xs zs (p ∙ q) ∙ rests (sym (head-same x y xs ys p) ∙ h) (sym (head-same y z ys zs q) ∙ l)
+    go (equal p) (above q) rests = not-less-more l (head-more y z ys zs q)
+    go (above p) t rests = not-less-more h (head-more x y xs ys p)
+
+-- a comparison that has come to byte j of both: to a and b
+pub opened : (s f : List ℕ) (j a b : ℕ) → j < length s → j < length f → a ≡ getD s j 0 → b ≡ getD f j 0
+    → ordered (drop j s) (drop j f) ≡ ordered (a ∷ drop (j + 1) s) (b ∷ drop (j + 1) f)
+opened s f j a b hs hf ea eb = rw (ea, eb, add-one, drop-cons s j 0, drop-cons f j 0)
+
+-- the end of a comparison, where one of both has ended
+module _ (s f : List ℕ) (j : ℕ) where
+  pub end-more : j < length s → length f ≤ j → ordered (drop j s) (drop j f) ≡ More
+  end-more hs hf = rw (drop-of-length-le f hf, drop-cons s j 0)
+
+  pub end-less : length s ≤ j → j < length f → ordered (drop j s) (drop j f) ≡ Less
+  end-less hs hf = rw (drop-of-length-le s hs, drop-cons f j 0)
+
+  pub end-same : length s ≤ j → length f ≤ j → ordered (drop j s) (drop j f) ≡ Same
+  end-same hs hf = rw (drop-of-length-le s hs, drop-of-length-le f hf)

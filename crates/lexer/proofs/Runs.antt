@@ -1,0 +1,64 @@
+-- Runs of bytes of one class, and the number that digits say, a byte at a time. Assumes nothing.
+use mathlib.Core.Path.{_≡_, refl, _∙_}
+use mathlib.Core.Bool.{Bool, true, false, cond}
+use mathlib.Core.List.{List, [], _∷_}
+use Prim.Native.Nat.{ℕ, suc, _+_, _*_, _-_, _≤_, _<_, zero-le, suc-le-suc}
+use native.Mathlib.Numerals.{add-one}
+use native.Mathlib.Nat.{le-refl}
+use native.Mathlib.Omega.{arith}
+use lib.Dec.{leb, eqb}
+use lib.ListN.{length, getD, drop, drop-of-length-le, length-drop}
+use lib.Seq.{drop-cons}
+use borrow.Author.Tests.{eq-eqb, ne-eqb, leb-true}
+use Rattle.lexer.specs.declared.lex.Digits.the-variants.{Value, Over}
+use Rattle.lexer.specs.Classes.{classOf}
+use Rattle.lexer.specs.Lex.{run, runEnd, valueFrom, numberOf}
+
+-- the run of class k from e on, by the byte at e
+module _ (k : ℕ) (s : List ℕ) (e : ℕ) where
+  pub run-step : e < length s → classOf (getD s e 0) ≡ k → run k (drop e s) ≡ suc (run k (drop (e + 1) s))
+  run-step h c = rw (drop-cons s e 0, add-one) (simp (eq-eqb (classOf (getD s e 0)) k c))
+
+  pub run-stop : e < length s → (classOf (getD s e 0) ≡ k → ⊥) → run k (drop e s) ≡ 0
+  run-stop h c = rw (drop-cons s e 0) (simp (ne-eqb (classOf (getD s e 0)) k c))
+
+  pub run-over : length s ≤ e → run k (drop e s) ≡ 0
+  run-over h = rw (drop-of-length-le s h)
+
+bounded : (b : Bool) (n m : ℕ) → n ≤ m → cond b (suc n) 0 ≤ suc m
+bounded true n m h = suc-le-suc h
+bounded false n m h = zero-le
+
+run-most : (k : ℕ) (l : List ℕ) → run k l ≤ length l
+run-most k [] = zero-le
+run-most k (b ∷ bs) = bounded (eqb (classOf b) k) (run k bs) (length bs) (run-most k bs)
+
+-- a run ends within the phrase
+pub run-within : (k : ℕ) (s : List ℕ) (a : ℕ) → a ≤ length s → runEnd k s a ≤ length s
+run-within k s a h = omega (arith, run-most k (drop a s), length-drop a s)
+
+-- the number that the digits from i on say behind v
+module _ (s : List ℕ) (i v : ℕ) where
+  pub value-step : i < length s → valueFrom v (drop i s) ≡ valueFrom (v * 10 + (getD s i 0 - 48)) (drop (i + 1) s)
+  value-step h = rw (drop-cons s i 0, add-one)
+
+  pub value-over : length s ≤ i → valueFrom v (drop i s) ≡ v
+  value-over h = rw (drop-of-length-le s h)
+
+pub value-least : (v : ℕ) (l : List ℕ) → v ≤ valueFrom v l
+value-least v [] = le-refl v
+value-least v (b ∷ bs) =
+    let h : v * 10 + (b - 48) ≤ valueFrom (v * 10 + (b - 48)) bs = value-least (v * 10 + (b - 48)) bs in
+    omega arith
+
+-- a number that is taken is no larger than the largest
+pub value-most : (l : List ℕ) (v : ℕ) → Value v ≡ numberOf l → v ≤ 4294967295
+unfolding numberOf
+value-most l v h = go (leb (valueFrom 0 l) 4294967295) refl
+  where
+    go : (b : Bool) → leb (valueFrom 0 l) 4294967295 ≡ b → v ≤ 4294967295
+    go true e =
+        let q : Value v ≡ Value (valueFrom 0 l) = h ∙ simp e in
+        let p : v ≡ valueFrom 0 l = cc in
+        omega (arith, leb-true (valueFrom 0 l) 4294967295 e)
+    go false e = let q : Value v ≡ Over = h ∙ simp e in let z : _≡_ {A = ℕ} 0 1 = cc in absurd (omega arith)

@@ -1,0 +1,150 @@
+-- How a phrase is cut into lexemes. Assumes nothing.
+use Prim.Native.Nat.{ℕ, suc, zero, _+_, _-_, _*_, _≤_, _<_}
+use Prim.Native.Char.{code}
+use mathlib.Core.Path.{_≡_}
+use mathlib.Core.Bool.{cond}
+use mathlib.Core.List.{List, [], _∷_, _++_, map}
+use lib.Dec.{ltb, leb, eqb}
+use lib.ListN.{length, getD, take, drop, replicate}
+use Rattle.lexer.specs.Lexemes.{NUM}
+use Rattle.lexer.specs.Words.{Word, meaning, folded}
+use Rattle.lexer.specs.Classes.{Gap, Letter, Digit, Mark, classOf, markOf}
+use Rattle.lexer.specs.Refusals.{TooLong, Meaningless, TooLarge, TooMany}
+use Rattle.lexer.specs.declared.find.Found.{Found}
+use Rattle.lexer.specs.declared.find.Found.the-variants.{Lexeme, Unknown}
+use Rattle.lexer.specs.declared.lex.Digits.{Digits}
+use Rattle.lexer.specs.declared.lex.Digits.the-variants.{Value, Over}
+use Rattle.lexer.specs.declared.lex.Token.{Token}
+use Rattle.lexer.specs.declared.lex.Token.the-variants.{Finish, Taken, Refused}
+use Rattle.lexer.specs.declared.lex.Line.{Line}
+
+-- how many bytes at the front are of class k
+abbrev pub run : ℕ → List ℕ → ℕ
+run k [] = 0
+run k (b ∷ bs) = cond (eqb (classOf b) k) (suc (run k bs)) 0
+
+-- where the run of bytes of class k ends that begins at a
+abbrev pub runEnd : ℕ → List ℕ → ℕ → ℕ
+runEnd k s a = a + run k (drop a s)
+
+-- the bytes from a up to e
+abbrev pub between : List ℕ → ℕ → ℕ → List ℕ
+between s a e = take (e - a) (drop a s)
+
+-- the number that digits say behind v
+abbrev pub valueFrom : ℕ → List ℕ → ℕ
+valueFrom v [] = v
+valueFrom v (b ∷ bs) = valueFrom (v * 10 + (b - code "0")) bs
+
+-- `stack.parse::<u32>()`: a digit run by its value, however long it is
+unfoldable pub numberOf : List ℕ → Digits
+numberOf s = cond (leb (valueFrom 0 s) 4294967295) (Value (valueFrom 0 s)) Over
+
+-- a word from a to e by its meaning
+abbrev pub ofWord : Found → ℕ → ℕ → Token
+ofWord (Lexeme l) a e = Taken l a e
+ofWord Unknown a e = Refused Meaningless a e
+
+-- a number from a to e by its value
+abbrev pub ofNumber : Digits → ℕ → ℕ → Token
+ofNumber (Value v) a e = Taken (NUM + v) a e
+ofNumber Over a e = Refused TooLarge a e
+
+-- "a run of letters is one word"
+unfoldable pub wordAt : List Word → List ℕ → ℕ → Token
+wordAt ws s a = ofWord (meaning ws (folded (between s a (runEnd Letter s a)))) a (runEnd Letter s a)
+
+-- "a run of digits one number"
+unfoldable pub numberAt : List ℕ → ℕ → Token
+numberAt s a = ofNumber (numberOf (between s a (runEnd Digit s a))) a (runEnd Digit s a)
+
+-- what begins at a with a byte of class k: a word, a number, a mark, or "any other byte is refusal 2"
+abbrev pub tokenOf : List Word → ℕ → List ℕ → ℕ → Token
+tokenOf ws k s a =
+    cond (eqb k Letter) (wordAt ws s a)
+    (cond (eqb k Digit) (numberAt s a)
+    (cond (eqb k Mark) (Taken (markOf (getD s a 0)) a (a + 1))
+    (Refused Meaningless a (a + 1))))
+
+-- what begins at a, or the end of the phrase
+abbrev pub tokenFrom : List Word → List ℕ → ℕ → Token
+tokenFrom ws s a = cond (ltb a (length s)) (tokenOf ws (classOf (getD s a 0)) s a) Finish
+
+-- the first lexeme at or after a place, past any gaps
+unfoldable pub tokenAt : List Word → List ℕ → ℕ → Token
+tokenAt ws s at = tokenFrom ws s (runEnd Gap s at)
+
+-- a lexeme's code, and the place of its first byte
+pub record Item : Type 0 where
+  pub code : ℕ
+  pub start : ℕ
+
+-- a refusal's number, place and end of the part; or all the lexemes
+pub data Lexed : Type 0 where
+  refused : ℕ → ℕ → ℕ → Lexed
+  whole : List Item → Lexed
+
+-- a lexeme of code k whose first byte stands at a
+abbrev pub item : ℕ → ℕ → Item
+item k a = record { code = k; start = a }
+
+-- lexemes in front of what follows them
+abbrev pub ahead : List Item → Lexed → Lexed
+ahead l (refused n a e) = refused n a e
+ahead l (whole m) = whole (l ++ m)
+
+-- the end ends the phrase, a refusal is the answer, and a lexeme is handed on
+abbrev pub ifTaken : Token → (ℕ → ℕ → ℕ → Lexed) → Lexed
+ifTaken Finish g = whole []
+ifTaken (Refused n a e) g = refused n a e
+ifTaken (Taken k a e) g = g k a e
+
+-- the lexemes from a place on, left to right, with room for so many: a word or number is judged before it is counted
+abbrev pub lexFrom : List Word → ℕ → List ℕ → ℕ → Lexed
+lexFrom ws zero s at = ifTaken (tokenAt ws s at) (λ k a e. refused TooMany a e)
+lexFrom ws (suc room) s at = ifTaken (tokenAt ws s at) (λ k a e. ahead (item k a ∷ []) (lexFrom ws room s e))
+
+-- `lex_line`: a phrase of at most 256 bytes and 64 lexemes
+unfoldable pub lexed : List Word → List ℕ → Lexed
+lexed ws s = cond (leb (length s) 256) (lexFrom ws 64 s 0) (refused TooLong 0 0)
+
+-- the lexemes' codes: what readers take
+abbrev pub codesOf : List Item → List ℕ
+codesOf l = map (λ (i : Item). i .code) l
+
+-- the lexemes' places
+abbrev pub startsOf : List Item → List ℕ
+startsOf l = map (λ (i : Item). i .start) l
+
+-- an array of 64 that begins with l, the rest zeros
+abbrev pub filled : List ℕ → List ℕ
+filled l = l ++ replicate (64 - length l) 0
+
+-- the code's answer to a phrase that is refused
+abbrev pub refusedLine : ℕ → ℕ → ℕ → Line
+refusedLine n a e = record { number = n; place = a; end = e; count = 0; codes = replicate 64 0; starts = replicate 64 0 }
+
+-- the code's answer: a refusal with its number, or number 0 and the lexemes
+abbrev pub lineOf : Lexed → Line
+lineOf (refused n a e) = refusedLine n a e
+lineOf (whole l) =
+    record { number = 0; place = 0; end = 0; count = length l; codes = filled (codesOf l); starts = filled (startsOf l) }
+
+-- where an answer stands in a phrase of n bytes: what callers need of it to cut the phrase and the arrays
+pub record Placed (n : ℕ) (r : Line) : Type 0 where
+  pub count-most : r .count ≤ 64
+  pub codes-length : length (r .codes) ≡ 64
+  pub starts-length : length (r .starts) ≡ 64
+  pub place-end : r .place ≤ r .end
+  pub end-most : r .end ≤ n
+  pub start-below : (k : ℕ) → k < r .count → getD (r .starts) k 0 < n
+
+-- a refusal's place, 0 where nothing is refused
+abbrev pub placeOf : Lexed → ℕ
+placeOf (refused n a e) = a
+placeOf (whole l) = 0
+
+-- "hand back the offending part": the word, byte or digits; empty where the phrase is too long or nothing is refused
+abbrev pub offendingOf : List ℕ → Lexed → List ℕ
+offendingOf s (refused n a e) = between s a e
+offendingOf s (whole l) = []

@@ -1,0 +1,27 @@
+// The offending part of the caller's own phrase.
+use super::lex::lex;
+ghost use mathlib.Core.Path.{_≡_};
+ghost use Prim.Native.Nat.{_+_, _≤_};
+ghost use lib.ListN.{length};
+ghost use Rattle.lexer.specs.Keywords.{keywords};
+ghost use Rattle.lexer.specs.Lex.{between, lexed, offendingOf, placeOf};
+
+// The bytes from a up to e, where they stand in the phrase.
+pub fn part(s: &[u8], a: usize, e: usize) -> &[u8]
+    requires { ⌜ (a ≤ e) × (e ≤ length (now s)) ⌝ }
+    ensures { λ r. ⌜ now r ≡ between (now (s .entry)) a e ⌝ }
+    ensures own { λ r. ⌜ r .ptr ≡ ((s .entry) .ptr .0, a + (s .entry) .ptr .1) ⌝ }
+{
+    &s[a..e]
+}
+
+// The word, byte or digits that lexing refuses, where they stand in the phrase; empty where the phrase is too long or is not refused.
+pub fn offending(s: &[u8]) -> &[u8]
+    ensures { λ r. ⌜ now r ≡ offendingOf (now (s .entry)) (lexed keywords (now (s .entry))) ⌝ }
+    ensures own { λ r. ⌜ r .ptr ≡ ((s .entry) .ptr .0, placeOf (lexed keywords (now (s .entry))) + (s .entry) .ptr .1) ⌝ }
+{
+    let l = lex(s);
+    let a = l.place;
+    let e = l.end;
+    part(s, a, e)
+}
