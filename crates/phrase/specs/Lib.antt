@@ -4,4 +4,5 @@ pub mod DateTimes
 pub mod Flat
 pub mod ExprAnswers
 pub mod TurnAnswers
+pub mod Refusals
 pub mod Read

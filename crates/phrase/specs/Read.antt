@@ -10,6 +10,7 @@ use Rattle.dates.specs.Parsed.{Parsed, is, nothing, overflow}
 use Rattle.phrase.specs.Tree.{DateTime}
 use Rattle.phrase.specs.DateTimes.{dateTimeOf}
 use Rattle.phrase.specs.Flat.{flat, blank}
+use Rattle.phrase.specs.Refusals.{NothingRead, SumTooLarge, LexemesLeft}
 use Rattle.lexer.specs.declared.lex.Line.{Line}
 use Rattle.phrase.specs.declared.read.PhraseRead.{PhraseRead}
 
@@ -18,13 +19,11 @@ pub data ReadPhrase : Type 0 where
   refusal : ℕ → ℕ → ℕ → ReadPhrase
   tree : DateTime → ℕ → ReadPhrase
 
--- 5: "`DateTime::parse` reads nothing"; 6: "a sum or product in a number passes 4,294,967,295"; 7: "lexemes are left after the reading",
--- from the first of the count lexemes that is left
--- to the end of the phrase of n bytes
+-- 5 and 6 have place 0 and no part; 7 has the place of the first of the count lexemes that is left, and its part goes to the phrase's end at n
 abbrev pub readCodes : Parsed DateTime → ℕ → List ℕ → ℕ → ReadPhrase
-readCodes (is x t) count starts n = cond (ltb t count) (refusal 7 (getD starts t 0) n) (tree x t)
-readCodes nothing count starts n = refusal 5 0 0
-readCodes overflow count starts n = refusal 6 0 0
+readCodes (is x t) count starts n = cond (ltb t count) (refusal LexemesLeft (getD starts t 0) n) (tree x t)
+readCodes nothing count starts n = refusal NothingRead 0 0
+readCodes overflow count starts n = refusal SumTooLarge 0 0
 
 -- 1 to 4 are the lexer's
 abbrev pub readLexed : Lexed → ℕ → ReadPhrase

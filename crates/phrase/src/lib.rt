@@ -3,3 +3,4 @@ pub mod date_time;
 pub mod expr;
 pub mod read;
 pub mod reading;
+pub mod refusal;

@@ -3,6 +3,9 @@ use super::date_time::Count;
 use super::date_time::read_date_time;
 use super::reading::Reading;
 use super::reading::empty;
+use super::refusal::LEXEMES_LEFT;
+use super::refusal::NOTHING_READ;
+use super::refusal::SUM_TOO_LARGE;
 use lexer::lex::Line;
 use lexer::lex::lex;
 use lexer::part::part;
@@ -48,7 +51,7 @@ fn read_line(line: Line, size: usize) -> PhraseRead
         Count::Is(t) => {
             if t < n {
                 let starts = line.starts;
-                return refuse(7, starts[t] as usize, size);
+                return refuse(LEXEMES_LEFT, starts[t] as usize, size);
             }
             PhraseRead {
                 number: 0,
@@ -58,8 +61,8 @@ fn read_line(line: Line, size: usize) -> PhraseRead
                 reading,
             }
         }
-        Count::Nothing => refuse(5, 0, 0),
-        Count::Overflow => refuse(6, 0, 0),
+        Count::Nothing => refuse(NOTHING_READ, 0, 0),
+        Count::Overflow => refuse(SUM_TOO_LARGE, 0, 0),
     }
 }
 
