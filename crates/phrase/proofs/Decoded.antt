@@ -11,6 +11,7 @@ use Rattle.dates.specs.Durations.{Duration, part, concat, into, size, pushed}
 use Rattle.dates.specs.declared.duration.Part.{Part}
 use Rattle.dates.specs.declared.duration.Parts.{Parts}
 use Rattle.dates.specs.declared.duration.Slot.{Slot}
+use Rattle.dates.proofs.Durations.{into-n}
 use Rattle.phrase.specs.Tree.{DateExpr, date, dateRelative, dateExpressionAfter, dateExpressionBefore, unitRelative, relativeWeekday, weekdayRelative, weekdayExpressionBefore, before, after, weekday, empty, DateTime, dateTime, timeDate, durationAfter, durationBefore, now, around}
 use Rattle.phrase.specs.Flat.{shape, intoExpr, linkedParts, flatFrom, flat, blank, durationFrom, rowDuration, exprFrom, baseFrom, linksFrom, treeOf, sizeExpr, sizeTree}
 use Rattle.phrase.specs.declared.reading.Link.{Link}
@@ -36,10 +37,6 @@ into-keeps : (d : Duration) (ps : Parts) (k : ℕ) → k ≤ ps .n → take k (i
 into-keeps (part p) ps k h = take-set-le k (ps .items) (ps .n) (record { part = p }) h
 into-keeps (concat p d) ps k h =
     into-keeps d (pushed ps p) k (omega arith) ∙ take-set-le k (ps .items) (ps .n) (record { part = p }) h
-
-into-count : (d : Duration) (ps : Parts) → into d ps .n ≡ ps .n + size d
-into-count (part p) ps = refl
-into-count (concat p d) ps = let e = into-count d (pushed ps p) in omega arith
 
 into-length : (d : Duration) (ps : Parts) → length (into d ps .items) ≡ length (ps .items)
 into-length (part p) ps = length-set (ps .items) (ps .n) (record { part = p })
@@ -85,9 +82,9 @@ tree-keeps : (x : DateTime) (r : Reading) (k : ℕ) → k ≤ r .parts .n → ta
 tree-keeps (dateTime e t) r k h = expr-keeps e (r .parts) k h
 tree-keeps (timeDate t e) r k h = expr-keeps e (r .parts) k h
 tree-keeps (durationAfter dur x) r k h =
-    tree-keeps x (linkedParts false (into dur (r .parts)) r) k (omega (arith, into-count dur (r .parts))) ∙ into-keeps dur (r .parts) k h
+    tree-keeps x (linkedParts false (into dur (r .parts)) r) k (omega (arith, into-n dur (r .parts))) ∙ into-keeps dur (r .parts) k h
 tree-keeps (durationBefore dur x) r k h =
-    tree-keeps x (linkedParts true (into dur (r .parts)) r) k (omega (arith, into-count dur (r .parts))) ∙ into-keeps dur (r .parts) k h
+    tree-keeps x (linkedParts true (into dur (r .parts)) r) k (omega (arith, into-n dur (r .parts))) ∙ into-keeps dur (r .parts) k h
 tree-keeps now r k h = refl
 
 -- a date expression is read back
@@ -114,7 +111,8 @@ record Holds (r : Reading) (k : ℕ) : Type 0 where
   parts : r .parts .n + k ≤ length (r .parts .items)
   links : r .m + k ≤ length (r .links)
 
-some : (d : Duration) → 0 < size d
+-- a duration has a part
+pub some : (d : Duration) → 0 < size d
 some (part p) = omega arith
 some (concat p d) = omega arith
 
@@ -146,7 +144,7 @@ module _ (back : Bool) (dur : Duration) (x : DateTime) (r : Reading) where
   holds-inner h =
       let link : Link = record { back = back; from = r .parts .n; to = into dur (r .parts) .n } in
       record {
-        parts = omega (arith, into-count dur (r .parts), into-length dur (r .parts));
+        parts = omega (arith, into-n dur (r .parts), into-length dur (r .parts));
         links = omega (arith, some dur, length-set (r .links) (r .m) link);
       }
 
@@ -164,3 +162,31 @@ tree-back now r h = refl
 -- the tree of a flat reading
 pub decoded : (x : DateTime) → sizeTree x ≤ 21 → treeOf (flat x) ≡ x
 decoded x h = tree-back x blank (record { parts = omega arith; links = omega arith })
+
+expr-count : (e : DateExpr) (ps : Parts) → intoExpr e ps .n ≡ ps .n + sizeExpr e
+expr-count (date d) ps = omega arith
+expr-count (dateRelative d s u) ps = omega arith
+expr-count (dateExpressionAfter d dur) ps = into-n dur ps
+expr-count (dateExpressionBefore d dur) ps = into-n dur ps
+expr-count (unitRelative s u) ps = omega arith
+expr-count (relativeWeekday s w) ps = omega arith
+expr-count (weekdayRelative w s u) ps = omega arith
+expr-count (weekdayExpressionBefore w dur) ps = into-n dur ps
+expr-count (before dur d) ps = into-n dur ps
+expr-count (after dur d) ps = into-n dur ps
+expr-count (weekday w) ps = omega arith
+expr-count empty ps = omega arith
+
+-- a reading has the parts of its tree behind those that were there
+pub tree-count : (x : DateTime) (r : Reading) → flatFrom r x .parts .n ≡ r .parts .n + sizeTree x
+tree-count (dateTime e t) r = expr-count e (r .parts)
+tree-count (timeDate t e) r = expr-count e (r .parts)
+tree-count (durationAfter dur x) r =
+    let a = tree-count x (linkedParts false (into dur (r .parts)) r) in
+    let b = into-n dur (r .parts) in
+    omega arith
+tree-count (durationBefore dur x) r =
+    let a = tree-count x (linkedParts true (into dur (r .parts)) r) in
+    let b = into-n dur (r .parts) in
+    omega arith
+tree-count now r = omega arith
