@@ -10,9 +10,9 @@ use lexer::lex::Line;
 use lexer::lex::lex;
 use lexer::part::part;
 ghost use mathlib.Core.Path.{_≡_};
-ghost use Prim.Native.Nat.{_+_, _≤_};
-ghost use lib.ListN.{length};
+ghost use Prim.Native.Nat.{_+_};
 ghost use Rattle.lexer.specs.Keywords.{keywords};
+ghost use Rattle.lexer.specs.Lex.{Placed};
 ghost use Rattle.phrase.specs.Read.{refusal, readOf, readLine, phraseAnswer, placeOf, offendingOf};
 
 // Number 0: the lexemes taken and the reading. Else a refusal of 1 to 7, with its place and the end of its part.
@@ -39,7 +39,7 @@ fn refuse(number: u8, place: usize, end: usize) -> PhraseRead
 
 // A phrase's lexemes read: what is left behind the reading is refusal 7, from its first byte to the end of the phrase.
 fn read_line(line: Line, size: usize) -> PhraseRead
-    requires { ⌜ line .count ≤ 64 ⌝ }
+    requires { ⌜ Placed size line ⌝ }
     ensures { λ r. ⌜ r ≡ phraseAnswer (readLine line size) ⌝ }
 {
     let n = line.count;
