@@ -18,9 +18,12 @@ use Rattle.dates.specs.declared.duration.Parts.{Parts}
 use Rattle.dates.specs.declared.time.Time.{Time}
 use Rattle.dates.proofs.Bounds.{unit-took, weekday-took, specifier-took, date-took, time-took}
 use Rattle.dates.proofs.Durations.{Sized, duration-sized, into-n}
-use Rattle.phrase.specs.Tree.{DateExpr, date, dateRelative, dateExpressionAfter, dateExpressionBefore, unitRelative, relativeWeekday, weekdayRelative, weekdayExpressionBefore, before, after, weekday, empty, DateTime, around}
-use Rattle.phrase.specs.DateExprs.{Tail, relative, ago, inside, stray, inTailOf, durationTailOf, tailOf, withDate, withWeekday, withDurationOf, relativeExprOf, weekdayExprOf, undatedOf, dateExprOf}
-use Rattle.phrase.specs.DateTimes.{Turn, whole, link, withExprOf, withDurationOf as durationTurnOf, withTimeOf, timedTurnOf, undatedTurnOf, turnOf, againOf, dateTimeStep, dateTimeIn, dateTimeOf}
+use Rattle.phrase.specs.Tree.{DateExpr, date, dateRelative, dateExpressionAfter, dateExpressionBefore, unitRelative}
+use Rattle.phrase.specs.Tree.{relativeWeekday, weekdayRelative, weekdayExpressionBefore, before, after, weekday, empty, DateTime, around}
+use Rattle.phrase.specs.DateExprs.{Tail, relative, ago, inside, stray, inTailOf, durationTailOf, tailOf, withDate, withWeekday}
+use Rattle.phrase.specs.DateExprs.{withDurationOf, relativeExprOf, weekdayExprOf, undatedOf, dateExprOf}
+use Rattle.phrase.specs.DateTimes.{Turn, whole, link, withExprOf, withDurationOf as durationTurnOf, withTimeOf, timedTurnOf}
+use Rattle.phrase.specs.DateTimes.{undatedTurnOf, turnOf, againOf, dateTimeStep, dateTimeIn, dateTimeOf}
 use Rattle.phrase.specs.Flat.{sizeExpr, sizeTree, intoExpr}
 use Rattle.phrase.specs.ExprAnswers.{tailAnswer, TailBounds, TailCounted, exprAnswer, ExprCounted}
 use Rattle.phrase.specs.declared.expr.Tail.{Tail as TailTaken}
@@ -42,7 +45,8 @@ module _ {A : Type 0} {parts : A → ℕ} where
   nothing-few = record { bounds = tt }
 
   -- a test, with what it says on either side
-  pub pick-few : (b : Bool) (x y : Parsed A) {k n : ℕ} → (b ≡ true → Few parts x k n) → (b ≡ false → Few parts y k n) → Few parts (pick b x y) k n
+  pub pick-few : (b : Bool) (x y : Parsed A) {k n : ℕ} →
+      (b ≡ true → Few parts x k n) → (b ≡ false → Few parts y k n) → Few parts (pick b x y) k n
   pick-few true x y f g = f refl
   pick-few false x y f g = g refl
 
@@ -62,14 +66,16 @@ module _ {A : Type 0} {parts : A → ℕ} where
 
   -- the same behind a reader whose own parts count
   pub if-let-parts : {B : Type 0} {own : B → ℕ} (p : Parsed B) (f : B → ℕ → Parsed A) (b : Parsed A) {i m k n : ℕ} →
-      Few own p i m → ((v : B) (t : ℕ) → i ≤ t → t ≤ m → 3 * own v ≤ t → Few parts (f v t) k n) → Few parts b k n → Few parts (ifLet p f b) k n
+      Few own p i m → ((v : B) (t : ℕ) → i ≤ t → t ≤ m → 3 * own v ≤ t → Few parts (f v t) k n) →
+      Few parts b k n → Few parts (ifLet p f b) k n
   if-let-parts (is v t) f b g h z = let e = g .bounds in h v t (omega arith) (omega arith) (omega arith)
   if-let-parts nothing f b g h z = z
   if-let-parts overflow f b g h z = record { bounds = tt }
 
   -- the same behind a duration, whose last part has its connection still to come
   pub if-let-duration : (p : Parsed Duration) (f : Duration → ℕ → Parsed A) (b : Parsed A) {m k n : ℕ} →
-      Sized p m → ((d : Duration) (t : ℕ) → 2 ≤ t → t ≤ m → 3 * size d ≤ t + 1 → Few parts (f d t) k n) → Few parts b k n → Few parts (ifLet p f b) k n
+      Sized p m → ((d : Duration) (t : ℕ) → 2 ≤ t → t ≤ m → 3 * size d ≤ t + 1 → Few parts (f d t) k n) →
+      Few parts b k n → Few parts (ifLet p f b) k n
   if-let-duration (is d t) f b g h z = let e = g .sizes in h d t (omega arith) (omega arith) (omega arith)
   if-let-duration nothing f b g h z = z
   if-let-duration overflow f b g h z = record { bounds = tt }
@@ -161,7 +167,8 @@ after-few l dur t a b =
     then-few (dateOf (drop (t + 1) l)) _ (date-took (drop (t + 1) l))
     (λ d u c e. let left = length-drop (t + 1) l in record { bounds = omega arith })
 
-with-duration-few : (l : List ℕ) (dur : Duration) (t : ℕ) → t ≤ length l → 3 * size dur ≤ t + 1 → Few sizeExpr (withDurationOf dur t l) 1 (length l)
+with-duration-few : (l : List ℕ) (dur : Duration) (t : ℕ) → t ≤ length l → 3 * size dur ≤ t + 1 →
+    Few sizeExpr (withDurationOf dur t l) 1 (length l)
 unfolding withDurationOf
 with-duration-few l dur t a b =
     pick-few (isSubDaily dur) _ _ (λ e. nothing-few)
@@ -250,15 +257,19 @@ comma-most l t x h = go (isAt l t lexeme.Comma) (isAt l t x) refl refl
     go false true e f = let some = there (at-most l t x) f in omega arith
     go false false e f = omega arith
 
-with-expr-few : (e : DateExpr) (t : ℕ) (l : List ℕ) → 1 ≤ t → t ≤ length l → 3 * sizeExpr e ≤ t → Few sizeTurn (withExprOf e t l) 1 (length l)
+with-expr-few : (e : DateExpr) (t : ℕ) (l : List ℕ) → 1 ≤ t → t ≤ length l → 3 * sizeExpr e ≤ t →
+    Few sizeTurn (withExprOf e t l) 1 (length l)
 unfolding withExprOf
 with-expr-few e t l a b c =
     let s = t + oneIf (isAt l t lexeme.Comma || isAt l t lexeme.At) in
     let most = comma-most l t lexeme.At b in
     let left = length-drop s l in
-    if-let-few (timeOf (drop s l)) _ _ (time-took (drop s l)) (λ time u d f. record { bounds = omega arith }) (record { bounds = omega arith })
+    if-let-few (timeOf (drop s l)) _ _ (time-took (drop s l))
+    (λ time u d f. record { bounds = omega arith })
+    (record { bounds = omega arith })
 
-duration-turn-few : (l : List ℕ) (dur : Duration) (t : ℕ) → t ≤ length l → 3 * size dur ≤ t + 1 → Few sizeTurn (durationTurnOf dur t l) 1 (length l)
+duration-turn-few : (l : List ℕ) (dur : Duration) (t : ℕ) → t ≤ length l → 3 * size dur ≤ t + 1 →
+    Few sizeTurn (durationTurnOf dur t l) 1 (length l)
 unfolding durationTurnOf
 duration-turn-few l dur t a b =
     pick-few (isAt l t lexeme.After) _ _ (λ e. let some = there (at-most l t lexeme.After) e in record { bounds = omega arith })
@@ -273,7 +284,9 @@ with-time-few time t l a b =
     let s = t + oneIf (isAt l t lexeme.Comma || isAt l t lexeme.On) in
     let most = comma-most l t lexeme.On b in
     let left = length-drop s l in
-    if-let-parts (dateExprOf (drop s l)) _ _ (expr-few (drop s l)) (λ e u c d f. record { bounds = omega arith }) (record { bounds = omega arith })
+    if-let-parts (dateExprOf (drop s l)) _ _ (expr-few (drop s l))
+    (λ e u c d f. record { bounds = omega arith })
+    (record { bounds = omega arith })
 
 pub timed-few : (l : List ℕ) → Few sizeTurn (timedTurnOf l) 1 (length l)
 unfolding timedTurnOf

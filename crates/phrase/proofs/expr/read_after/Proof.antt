@@ -41,15 +41,13 @@ returns-2 : tie.Need-returns-2
 returns-2 c =
     let rest = c .before .before .before .rest in
     let read-date = c .before .before .read-date in
-    let enum-told = c .enum-told in
-    rw (← (rest .ensures .0), ← (read-date .ensures .0), enum-told .given .1)
+    rw (← (rest .ensures .0), ← (read-date .ensures .0), c .enum-told .given .1)
 
 returns-3 : tie.Need-returns-3
 returns-3 c =
     let rest = c .before .before .before .rest in
     let read-date = c .before .before .read-date in
-    let enum-told2 = c .enum-told2 in
-    rw (← (rest .ensures .0), ← (read-date .ensures .0), enum-told2 .given .1)
+    rw (← (rest .ensures .0), ← (read-date .ensures .0), c .enum-told2 .given .1)
 
 pub read-after-spec : {M : Type 1} → statement M
 read-after-spec =

@@ -21,14 +21,15 @@ is-at-requires c κs = search needs
 returns : tie.Need-returns
 unfolding durationTailOf
 returns c =
-    let entry = c .before .before .before .before .before .before .before .before .before in
+    let args = c .before .before .before .before .before .before .before .before .before .args in
     let read-duration = c .before .before .before .before .before .before .before .read-duration in
     let taken = c .before .before .before .before .taken in
     let is-at = c .before .before .is-at in
     let if1 = c .before .if1 in
-    let if2 = c .if2 in
-    let read = duration-read (entry .args .parts) (durationOf (now (entry .args .l))) (read-duration .ensures .0) (taken .given .1) in
-    tail-promised (entry .args .parts) (rw (read .reading, ← (is-at .ensures .0), if1 .taken, read .sub-daily ∙ if2 .taken)) (duration-tail-few (now (entry .args .l)))
+    let read = duration-read (args .parts) (durationOf (now (args .l))) (read-duration .ensures .0) (taken .given .1) in
+    tail-promised (args .parts)
+    (rw (read .reading, ← (is-at .ensures .0), if1 .taken, read .sub-daily ∙ c .if2 .taken))
+    (duration-tail-few (now (args .l)))
 
 add-t12 : tie.Need-add-t12
 add-t12 c =
@@ -40,16 +41,15 @@ add-t12 c =
 returns-2 : tie.Need-returns-2
 unfolding durationTailOf
 returns-2 c =
-    let entry = c .before .before .before .before .before .before .before .before .before in
+    let args = c .before .before .before .before .before .before .before .before .before .args in
     let read-duration = c .before .before .before .before .before .before .before .read-duration in
     let taken = c .before .before .before .before .taken in
     let is-at = c .before .before .is-at in
     let if1 = c .before .if1 in
-    let if2 = c .if2 in
-    let read = duration-read (entry .args .parts) (durationOf (now (entry .args .l))) (read-duration .ensures .0) (taken .given .1) in
-    tail-promised (entry .args .parts)
-    (rw (read .reading, ← (is-at .ensures .0), if1 .taken, read .sub-daily ∙ if2 .left, ← (read .parts)))
-    (duration-tail-few (now (entry .args .l)))
+    let read = duration-read (args .parts) (durationOf (now (args .l))) (read-duration .ensures .0) (taken .given .1) in
+    tail-promised (args .parts)
+    (rw (read .reading, ← (is-at .ensures .0), if1 .taken, read .sub-daily ∙ c .if2 .left, ← (read .parts)))
+    (duration-tail-few (now (args .l)))
 
 enum-told : tie.Need-enum-told
 enum-told c = search needs
@@ -63,32 +63,35 @@ enum-told-2 c = search needs
 returns-3 : tie.Need-returns-3
 unfolding durationTailOf
 returns-3 c =
-    let entry = c .before .before .before .before .before .before .before .before in
+    let args = c .before .before .before .before .before .before .before .before .args in
     let read-duration = c .before .before .before .before .before .before .read-duration in
     let taken = c .before .before .before .taken in
     let is-at = c .before .is-at in
-    let if1 = c .if1 in
-    let read = duration-read (entry .args .parts) (durationOf (now (entry .args .l))) (read-duration .ensures .0) (taken .given .1) in
-    tail-promised (entry .args .parts) (rw (read .reading, ← (is-at .ensures .0), if1 .left)) (duration-tail-few (now (entry .args .l)))
+    let read = duration-read (args .parts) (durationOf (now (args .l))) (read-duration .ensures .0) (taken .given .1) in
+    tail-promised (args .parts)
+    (rw (read .reading, ← (is-at .ensures .0), c .if1 .left))
+    (duration-tail-few (now (args .l)))
 
 returns-4 : tie.Need-returns-4
 unfolding durationTailOf
 returns-4 c =
-    let entry = c .before .before .before .before .before .before in
+    let args = c .before .before .before .before .before .before .args in
     let read-duration = c .before .before .before .before .read-duration in
     let enum-told = c .before .enum-told in
-    let read-in-tail = c .read-in-tail in
-    let none = duration-none (entry .args .parts) (durationOf (now (entry .args .l))) (read-duration .ensures .0) (enum-told .given .1) in
-    tail-promised (entry .args .parts) (rw (none .0) (read-in-tail .ensures .0)) (duration-tail-few (now (entry .args .l)))
+    let none = duration-none (args .parts) (durationOf (now (args .l))) (read-duration .ensures .0) (enum-told .given .1) in
+    tail-promised (args .parts)
+    (rw (none .0) (c .read-in-tail .ensures .0))
+    (duration-tail-few (now (args .l)))
 
 returns-5 : tie.Need-returns-5
 unfolding durationTailOf
 returns-5 c =
-    let entry = c .before .before .before .before .before in
+    let args = c .before .before .before .before .before .args in
     let read-duration = c .before .before .before .read-duration in
-    let enum-told2 = c .enum-told2 in
-    let over = duration-overflow (entry .args .parts) (durationOf (now (entry .args .l))) (read-duration .ensures .0) (enum-told2 .given .1) in
-    tail-promised (entry .args .parts) (rw (over .0)) (duration-tail-few (now (entry .args .l)))
+    let over = duration-overflow (args .parts) (durationOf (now (args .l))) (read-duration .ensures .0) (c .enum-told2 .given .1) in
+    tail-promised (args .parts)
+    (rw (over .0))
+    (duration-tail-few (now (args .l)))
 
 pub read-duration-tail-spec : {M : Type 1} → statement M
 read-duration-tail-spec =

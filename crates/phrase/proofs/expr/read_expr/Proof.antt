@@ -30,9 +30,8 @@ with-date-requires : tie.Need-with-date-requires
 with-date-requires c κs =
     let read-date = c .before .before .before .before .before .read-date in
     let d = c .before .before .before .d in
-    let read-tail = c .read-tail in
     let b = found (ap parsedDate (d .given .1)) (read-date .ensures .1) in
-    (omega arith, tail-wider (read-tail .ensures .1) (omega arith))
+    (omega arith, tail-wider (c .read-tail .ensures .1) (omega arith))
 
 enum-told : tie.Need-enum-told
 enum-told c = search needs
@@ -46,40 +45,39 @@ enum-told-2 c = search needs
 returns : tie.Need-returns
 unfolding dateExprOf
 returns c =
-    let entry = c .before .before .before .before .before .before .before .before in
+    let args = c .before .before .before .before .before .before .before .before .args in
     let read-date = c .before .before .before .before .before .before .read-date in
     let d = c .before .before .before .before .d in
     let rest = c .before .before .rest in
     let read-tail = c .before .read-tail in
-    let with-date = c .with-date in
-    expr-promised (entry .args .parts)
+    expr-promised (args .parts)
     (rw (
       ← (read-date .ensures .0),
       d .given .1,
       ← (rest .ensures .0),
-      ← (date-tailed (d .given .0 .0) (d .given .0 .1 .0) (entry .args .parts) (tailOf (now (rest .result)))),
+      ← (date-tailed (d .given .0 .0) (d .given .0 .1 .0) (args .parts) (tailOf (now (rest .result)))),
       ← (read-tail .ensures .0),
-    ) (with-date .ensures))
-    (expr-few (now (entry .args .l)))
+    ) (c .with-date .ensures))
+    (expr-few (now (args .l)))
 
 returns-2 : tie.Need-returns-2
 unfolding dateExprOf
 returns-2 c =
-    let entry = c .before .before .before .before .before in
+    let args = c .before .before .before .before .before .args in
     let read-date = c .before .before .before .read-date in
     let enum-told = c .before .enum-told in
-    let read-undated = c .read-undated in
-    expr-promised (entry .args .parts)
-    (rw (← (read-date .ensures .0), enum-told .given .1) (read-undated .ensures .0))
-    (expr-few (now (entry .args .l)))
+    expr-promised (args .parts)
+    (rw (← (read-date .ensures .0), enum-told .given .1) (c .read-undated .ensures .0))
+    (expr-few (now (args .l)))
 
 returns-3 : tie.Need-returns-3
 unfolding dateExprOf
 returns-3 c =
-    let entry = c .before .before .before .before in
+    let args = c .before .before .before .before .args in
     let read-date = c .before .before .read-date in
-    let enum-told2 = c .enum-told2 in
-    expr-promised (entry .args .parts) (rw (← (read-date .ensures .0), enum-told2 .given .1)) (expr-few (now (entry .args .l)))
+    expr-promised (args .parts)
+    (rw (← (read-date .ensures .0), c .enum-told2 .given .1))
+    (expr-few (now (args .l)))
 
 pub read-expr-spec : {M : Type 1} → statement M
 read-expr-spec =

@@ -16,8 +16,7 @@ is-at-requires c κs = search needs
 rest-requires : tie.Need-rest-requires
 rest-requires c κs =
     let is-at = c .before .is-at in
-    let if1 = c .if1 in
-    let room = there (is-at .ensures .1) (if1 .taken) in
+    let room = there (is-at .ensures .1) (c .if1 .taken) in
     omega arith
 
 read-duration-requires : tie.Need-read-duration-requires
@@ -29,15 +28,16 @@ enum-known-taken c = search needs
 returns : tie.Need-returns
 unfolding inTailOf
 returns c =
-    let entry = c .before .before .before .before .before .before .before .before .before .before in
+    let args = c .before .before .before .before .before .before .before .before .before .before .args in
     let is-at = c .before .before .before .before .before .before .before .before .is-at in
     let if1 = c .before .before .before .before .before .before .before .if1 in
     let rest = c .before .before .before .before .before .before .rest in
     let read-duration = c .before .before .before .before .before .read-duration in
     let taken = c .before .before .taken in
-    let if2 = c .if2 in
-    let read = duration-read (entry .args .parts) (durationOf (now (rest .result))) (read-duration .ensures .0) (taken .given .1) in
-    tail-promised (entry .args .parts) (rw (← (is-at .ensures .0), if1 .taken, ← (rest .ensures .0), read .reading, read .sub-daily ∙ if2 .taken)) (in-tail-few (now (entry .args .l)))
+    let read = duration-read (args .parts) (durationOf (now (rest .result))) (read-duration .ensures .0) (taken .given .1) in
+    tail-promised (args .parts)
+    (rw (← (is-at .ensures .0), if1 .taken, ← (rest .ensures .0), read .reading, read .sub-daily ∙ c .if2 .taken))
+    (in-tail-few (now (args .l)))
 
 add-t12 : tie.Need-add-t12
 add-t12 c =
@@ -49,15 +49,16 @@ add-t12 c =
 returns-2 : tie.Need-returns-2
 unfolding inTailOf
 returns-2 c =
-    let entry = c .before .before .before .before .before .before .before .before .before .before in
+    let args = c .before .before .before .before .before .before .before .before .before .before .args in
     let is-at = c .before .before .before .before .before .before .before .before .is-at in
     let if1 = c .before .before .before .before .before .before .before .if1 in
     let rest = c .before .before .before .before .before .before .rest in
     let read-duration = c .before .before .before .before .before .read-duration in
     let taken = c .before .before .taken in
-    let if2 = c .if2 in
-    let read = duration-read (entry .args .parts) (durationOf (now (rest .result))) (read-duration .ensures .0) (taken .given .1) in
-    tail-promised (entry .args .parts) (rw (← (is-at .ensures .0), if1 .taken, ← (rest .ensures .0), read .reading, read .sub-daily ∙ if2 .left, ← (read .parts))) (in-tail-few (now (entry .args .l)))
+    let read = duration-read (args .parts) (durationOf (now (rest .result))) (read-duration .ensures .0) (taken .given .1) in
+    tail-promised (args .parts)
+    (rw (← (is-at .ensures .0), if1 .taken, ← (rest .ensures .0), read .reading, read .sub-daily ∙ c .if2 .left, ← (read .parts)))
+    (in-tail-few (now (args .l)))
 
 enum-told : tie.Need-enum-told
 enum-told c = search needs
@@ -65,14 +66,15 @@ enum-told c = search needs
 returns-3 : tie.Need-returns-3
 unfolding inTailOf
 returns-3 c =
-    let entry = c .before .before .before .before .before .before .before .before in
+    let args = c .before .before .before .before .before .before .before .before .args in
     let is-at = c .before .before .before .before .before .before .is-at in
     let if1 = c .before .before .before .before .before .if1 in
     let rest = c .before .before .before .before .rest in
     let read-duration = c .before .before .before .read-duration in
-    let enum-told = c .enum-told in
-    let none = duration-none (entry .args .parts) (durationOf (now (rest .result))) (read-duration .ensures .0) (enum-told .given .1) in
-    tail-promised (entry .args .parts) (rw (← (is-at .ensures .0), if1 .taken, ← (rest .ensures .0), none .0)) (in-tail-few (now (entry .args .l)))
+    let none = duration-none (args .parts) (durationOf (now (rest .result))) (read-duration .ensures .0) (c .enum-told .given .1) in
+    tail-promised (args .parts)
+    (rw (← (is-at .ensures .0), if1 .taken, ← (rest .ensures .0), none .0))
+    (in-tail-few (now (args .l)))
 
 enum-told-2 : tie.Need-enum-told-2
 enum-told-2 c = search needs
@@ -80,22 +82,24 @@ enum-told-2 c = search needs
 returns-4 : tie.Need-returns-4
 unfolding inTailOf
 returns-4 c =
-    let entry = c .before .before .before .before .before .before .before .before in
+    let args = c .before .before .before .before .before .before .before .before .args in
     let is-at = c .before .before .before .before .before .before .is-at in
     let if1 = c .before .before .before .before .before .if1 in
     let rest = c .before .before .before .before .rest in
     let read-duration = c .before .before .before .read-duration in
-    let enum-told2 = c .enum-told2 in
-    let over = duration-overflow (entry .args .parts) (durationOf (now (rest .result))) (read-duration .ensures .0) (enum-told2 .given .1) in
-    tail-promised (entry .args .parts) (rw (← (is-at .ensures .0), if1 .taken, ← (rest .ensures .0), over .0)) (in-tail-few (now (entry .args .l)))
+    let over = duration-overflow (args .parts) (durationOf (now (rest .result))) (read-duration .ensures .0) (c .enum-told2 .given .1) in
+    tail-promised (args .parts)
+    (rw (← (is-at .ensures .0), if1 .taken, ← (rest .ensures .0), over .0))
+    (in-tail-few (now (args .l)))
 
 returns-5 : tie.Need-returns-5
 unfolding inTailOf
 returns-5 c =
-    let entry = c .before .before .before in
+    let args = c .before .before .before .args in
     let is-at = c .before .is-at in
-    let if1 = c .if1 in
-    tail-promised (entry .args .parts) (rw (← (is-at .ensures .0), if1 .left)) (in-tail-few (now (entry .args .l)))
+    tail-promised (args .parts)
+    (rw (← (is-at .ensures .0), c .if1 .left))
+    (in-tail-few (now (args .l)))
 
 pub read-in-tail-spec : {M : Type 1} → statement M
 read-in-tail-spec =

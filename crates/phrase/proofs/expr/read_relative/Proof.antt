@@ -23,10 +23,11 @@ enum-told c = search needs
 returns : tie.Need-returns
 unfolding relativeExprOf
 returns c =
-    let entry = c .before .before .before .before in
+    let args = c .before .before .before .before .args in
     let read-specifier = c .before .before .read-specifier in
-    let enum-told = c .enum-told in
-    expr-promised (entry .args .parts) (rw (← (read-specifier .ensures .0), enum-told .given .1)) (relative-few (now (entry .args .l)))
+    expr-promised (args .parts)
+    (rw (← (read-specifier .ensures .0), c .enum-told .given .1))
+    (relative-few (now (args .l)))
 
 rest-requires : tie.Need-rest-requires
 rest-requires c κs =
@@ -53,16 +54,15 @@ enum-told-2 c = search needs
 returns-2 : tie.Need-returns-2
 unfolding relativeExprOf
 returns-2 c =
-    let entry = c .before .before .before .before .before .before .before .before .before .before .before in
+    let args = c .before .before .before .before .before .before .before .before .before .before .before .args in
     let read-specifier = c .before .before .before .before .before .before .before .before .before .read-specifier in
     let spec = c .before .before .before .before .before .before .before .spec in
     let rest = c .before .before .before .before .before .rest in
     let read-weekday = c .before .before .before .before .read-weekday in
     let match2 = c .before .before .before .match2 in
     let read-unit = c .before .before .read-unit in
-    let enum-told2 = c .enum-told2 in
     let none = weekday-none _ (read-weekday .ensures .0) (number-arm (read-weekday .result) (match2 .keys2)) in
-    expr-promised (entry .args .parts)
+    expr-promised (args .parts)
     (rw (
       ← (read-specifier .ensures .0),
       spec .given .1,
@@ -70,14 +70,14 @@ returns-2 c =
       ← (read-weekday .ensures .0),
       none,
       ← (read-unit .ensures .0),
-      enum-told2 .given .1,
+      c .enum-told2 .given .1,
     ))
-    (relative-few (now (entry .args .l)))
+    (relative-few (now (args .l)))
 
 returns-3 : tie.Need-returns-3
 unfolding relativeExprOf
 returns-3 c =
-    let entry = c .before .before .before .before .before .before .before .before .before .before .before .before in
+    let args = c .before .before .before .before .before .before .before .before .before .before .before .before .args in
     let read-specifier = c .before .before .before .before .before .before .before .before .before .before .read-specifier in
     let spec = c .before .before .before .before .before .before .before .before .spec in
     let rest = c .before .before .before .before .before .before .rest in
@@ -86,7 +86,7 @@ returns-3 c =
     let read-unit = c .before .before .before .read-unit in
     let unit = c .before .unit in
     let none = weekday-none _ (read-weekday .ensures .0) (number-arm (read-weekday .result) (match2 .keys2)) in
-    expr-promised (entry .args .parts)
+    expr-promised (args .parts)
     (rw (
       ← (read-specifier .ensures .0),
       spec .given .1,
@@ -96,7 +96,7 @@ returns-3 c =
       ← (read-unit .ensures .0),
       unit .given .1,
     ))
-    (relative-few (now (entry .args .l)))
+    (relative-few (now (args .l)))
 
 add-t16 : tie.Need-add-t16
 add-t16 c =
@@ -110,15 +110,15 @@ add-t16 c =
 returns-4 : tie.Need-returns-4
 unfolding relativeExprOf
 returns-4 c =
-    let entry = c .before .before .before .before .before .before .before .before .before .before in
+    let args = c .before .before .before .before .before .before .before .before .before .before .args in
     let read-specifier = c .before .before .before .before .before .before .before .before .read-specifier in
     let spec = c .before .before .before .before .before .before .spec in
     let rest = c .before .before .before .before .rest in
     let read-weekday = c .before .before .before .read-weekday in
     let w = c .before .w in
-    expr-promised (entry .args .parts)
+    expr-promised (args .parts)
     (rw (← (read-specifier .ensures .0), spec .given .1, ← (rest .ensures .0), ← (read-weekday .ensures .0), w .given .1))
-    (relative-few (now (entry .args .l)))
+    (relative-few (now (args .l)))
 
 pub read-relative-spec : {M : Type 1} → statement M
 read-relative-spec =

@@ -24,13 +24,12 @@ read-duration-tail-requires c κs = search needs
 returns : tie.Need-returns
 unfolding tailOf
 returns c =
-    let entry = c .before .before .before .before .before in
+    let args = c .before .before .before .before .before .args in
     let read-specifier = c .before .before .before .read-specifier in
     let enum-told = c .before .enum-told in
-    let read-duration-tail = c .read-duration-tail in
-    tail-promised (entry .args .parts)
-    (rw (← (read-specifier .ensures .0), enum-told .given .1) (read-duration-tail .ensures .0))
-    (tail-few (now (entry .args .l)))
+    tail-promised (args .parts)
+    (rw (← (read-specifier .ensures .0), enum-told .given .1) (c .read-duration-tail .ensures .0))
+    (tail-few (now (args .l)))
 
 rest-requires : tie.Need-rest-requires
 rest-requires c κs =
@@ -51,28 +50,27 @@ enum-told-2 c = search needs
 returns-2 : tie.Need-returns-2
 unfolding tailOf
 returns-2 c =
-    let entry = c .before .before .before .before .before .before .before .before .before in
+    let args = c .before .before .before .before .before .before .before .before .before .args in
     let read-specifier = c .before .before .before .before .before .before .before .read-specifier in
     let spec = c .before .before .before .before .before .spec in
     let rest = c .before .before .before .rest in
     let read-unit = c .before .before .read-unit in
-    let enum-told2 = c .enum-told2 in
-    tail-promised (entry .args .parts)
-    (rw (← (read-specifier .ensures .0), spec .given .1, ← (rest .ensures .0), ← (read-unit .ensures .0), enum-told2 .given .1))
-    (tail-few (now (entry .args .l)))
+    tail-promised (args .parts)
+    (rw (← (read-specifier .ensures .0), spec .given .1, ← (rest .ensures .0), ← (read-unit .ensures .0), c .enum-told2 .given .1))
+    (tail-few (now (args .l)))
 
 returns-3 : tie.Need-returns-3
 unfolding tailOf
 returns-3 c =
-    let entry = c .before .before .before .before .before .before .before .before .before .before in
+    let args = c .before .before .before .before .before .before .before .before .before .before .args in
     let read-specifier = c .before .before .before .before .before .before .before .before .read-specifier in
     let spec = c .before .before .before .before .before .before .spec in
     let rest = c .before .before .before .before .rest in
     let read-unit = c .before .before .before .read-unit in
     let unit = c .before .unit in
-    tail-promised (entry .args .parts)
+    tail-promised (args .parts)
     (rw (← (read-specifier .ensures .0), spec .given .1, ← (rest .ensures .0), ← (read-unit .ensures .0), unit .given .1))
-    (tail-few (now (entry .args .l)))
+    (tail-few (now (args .l)))
 
 pub read-tail-spec : {M : Type 1} → statement M
 read-tail-spec =

@@ -34,38 +34,39 @@ enum-told-2 c = search needs
 returns : tie.Need-returns
 unfolding undatedOf
 returns c =
-    let entry = c .before .before .before .before .before .before .before in
+    let args = c .before .before .before .before .before .before .before .args in
     let read-duration = c .before .before .before .before .before .read-duration in
     let taken = c .before .before .taken in
-    let with-duration = c .with-duration in
-    let read = duration-read (entry .args .parts) (durationOf (now (entry .args .l))) (read-duration .ensures .0) (taken .given .1) in
-    expr-promised (entry .args .parts)
+    let read = duration-read (args .parts) (durationOf (now (args .l))) (read-duration .ensures .0) (taken .given .1) in
+    expr-promised (args .parts)
     (rw (
       read .reading,
-      ← (duration-behind (read .duration) (taken .given .0 .0) (now (entry .args .l)) (entry .args .parts)),
+      ← (duration-behind (read .duration) (taken .given .0 .0) (now (args .l)) (args .parts)),
       read .sub-daily,
       ← (read .parts),
-    ) (with-duration .ensures))
-    (undated-few (now (entry .args .l)))
+    ) (c .with-duration .ensures))
+    (undated-few (now (args .l)))
 
 returns-2 : tie.Need-returns-2
 unfolding undatedOf
 returns-2 c =
-    let entry = c .before .before .before .before .before .before in
+    let args = c .before .before .before .before .before .before .args in
     let read-duration = c .before .before .before .before .read-duration in
     let enum-told = c .before .enum-told in
-    let read-weekday-expr = c .read-weekday-expr in
-    let none = duration-none (entry .args .parts) (durationOf (now (entry .args .l))) (read-duration .ensures .0) (enum-told .given .1) in
-    expr-promised (entry .args .parts) (rw (none .0) (read-weekday-expr .ensures .0)) (undated-few (now (entry .args .l)))
+    let none = duration-none (args .parts) (durationOf (now (args .l))) (read-duration .ensures .0) (enum-told .given .1) in
+    expr-promised (args .parts)
+    (rw (none .0) (c .read-weekday-expr .ensures .0))
+    (undated-few (now (args .l)))
 
 returns-3 : tie.Need-returns-3
 unfolding undatedOf
 returns-3 c =
-    let entry = c .before .before .before .before .before in
+    let args = c .before .before .before .before .before .args in
     let read-duration = c .before .before .before .read-duration in
-    let enum-told2 = c .enum-told2 in
-    let over = duration-overflow (entry .args .parts) (durationOf (now (entry .args .l))) (read-duration .ensures .0) (enum-told2 .given .1) in
-    expr-promised (entry .args .parts) (rw (over .0)) (undated-few (now (entry .args .l)))
+    let over = duration-overflow (args .parts) (durationOf (now (args .l))) (read-duration .ensures .0) (c .enum-told2 .given .1) in
+    expr-promised (args .parts)
+    (rw (over .0))
+    (undated-few (now (args .l)))
 
 pub read-undated-spec : {M : Type 1} → statement M
 read-undated-spec =

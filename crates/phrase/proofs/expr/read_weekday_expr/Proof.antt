@@ -22,12 +22,13 @@ read-relative-requires c κs = search needs
 returns : tie.Need-returns
 unfolding weekdayExprOf
 returns c =
-    let entry = c .before .before .before .before in
+    let args = c .before .before .before .before .args in
     let read-weekday = c .before .before .read-weekday in
     let match = c .before .match in
-    let read-relative = c .read-relative in
     let none = weekday-none _ (read-weekday .ensures .0) (number-arm (read-weekday .result) (match .keys2)) in
-    expr-promised (entry .args .parts) (rw (← (read-weekday .ensures .0), none) (read-relative .ensures .0)) (weekday-few (now (entry .args .l)))
+    expr-promised (args .parts)
+    (rw (← (read-weekday .ensures .0), none) (c .read-relative .ensures .0))
+    (weekday-few (now (args .l)))
 
 rest-requires : tie.Need-rest-requires
 rest-requires c κs =
@@ -43,28 +44,26 @@ with-weekday-requires : tie.Need-with-weekday-requires
 with-weekday-requires c κs =
     let read-weekday = c .before .before .before .before .before .read-weekday in
     let w = c .before .before .before .w in
-    let read-tail = c .read-tail in
     let b = found (ap parsedNumber (w .given .1)) (read-weekday .ensures .1) in
-    (omega arith, tail-wider (read-tail .ensures .1) (omega arith))
+    (omega arith, tail-wider (c .read-tail .ensures .1) (omega arith))
 
 returns-2 : tie.Need-returns-2
 unfolding weekdayExprOf
 returns-2 c =
-    let entry = c .before .before .before .before .before .before .before .before in
+    let args = c .before .before .before .before .before .before .before .before .args in
     let read-weekday = c .before .before .before .before .before .before .read-weekday in
     let w = c .before .before .before .before .w in
     let rest = c .before .before .rest in
     let read-tail = c .before .read-tail in
-    let with-weekday = c .with-weekday in
-    expr-promised (entry .args .parts)
+    expr-promised (args .parts)
     (rw (
       ← (read-weekday .ensures .0),
       w .given .1,
       ← (rest .ensures .0),
-      ← (weekday-tailed (w .given .0 .0) (w .given .0 .1 .0) (entry .args .parts) (tailOf (now (rest .result)))),
+      ← (weekday-tailed (w .given .0 .0) (w .given .0 .1 .0) (args .parts) (tailOf (now (rest .result)))),
       ← (read-tail .ensures .0),
-    ) (with-weekday .ensures))
-    (weekday-few (now (entry .args .l)))
+    ) (c .with-weekday .ensures))
+    (weekday-few (now (args .l)))
 
 pub read-weekday-expr-spec : {M : Type 1} → statement M
 read-weekday-expr-spec =

@@ -71,13 +71,11 @@ returns-4 c =
 
 returns-5 : tie.Need-returns-5
 returns-5 c =
-    let enum-told = c .enum-told in
-    rw (enum-told .given .1)
+    rw (c .enum-told .given .1)
 
 returns-6 : tie.Need-returns-6
 returns-6 c =
-    let enum-told2 = c .enum-told2 in
-    rw (enum-told2 .given .1)
+    rw (c .enum-told2 .given .1)
 
 pub with-weekday-spec : {M : Type 1} → statement M
 with-weekday-spec =
