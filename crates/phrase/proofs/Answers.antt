@@ -1,13 +1,14 @@
 -- The code's answers are those of the definitions: what each reader hands on, taken apart by cases.
 use Prim.Native.Nat.{ℕ, _+_}
-use mathlib.Core.Path.{_≡_, refl}
+use mathlib.Core.Path.{_≡_, refl, _∙_}
 use mathlib.Core.Bool.{Bool, true, false, cond, _||_}
-use mathlib.Core.List.{List}
+use mathlib.Core.List.{List, [], _∷_}
 use lib.ListN.{drop}
 use Rattle.lexer.specs.Lexemes as lexeme
-use Rattle.numbers.specs.Slices.{isAt, oneIf}
+use Rattle.numbers.specs.Slices.{get, within, isAt, oneIf}
 use Rattle.dates.specs.Parsed.{Parsed, is, nothing, overflow, pick, ifLet, andThen}
 use Rattle.dates.specs.Durations.{Duration, into, isSubDaily}
+use Rattle.dates.specs.Units.{weekdayOf}
 use Rattle.dates.specs.Dates.{dateOf}
 use Rattle.dates.specs.Times.{timeOf}
 use Rattle.dates.specs.declared.date.Date.{Date}
@@ -15,6 +16,7 @@ use Rattle.dates.specs.declared.date.Date.the-variants.{Empty}
 use Rattle.dates.specs.declared.duration.Parts.{Parts}
 use Rattle.dates.specs.declared.time.Time.{Time}
 use Rattle.dates.specs.declared.time.Time.the-variants.{Empty as Empty′}
+use Rattle.dates.proofs.Laws.{Arm, none}
 use Rattle.phrase.specs.Tree.{DateExpr, date, weekday, before, after, DateTime, dateTime, durationBefore, now}
 use Rattle.phrase.specs.DateExprs.{Tail, relative, ago, inside, stray, withDate, withWeekday, withDurationOf}
 use Rattle.phrase.specs.DateTimes.{Turn, whole, link, withExprOf, againOf, withDurationOf as durationTurnOf}
@@ -33,6 +35,11 @@ date-tailed d t ps (is (inside dur) k) = refl
 date-tailed d t ps (is stray k) = refl
 date-tailed d t ps nothing = refl
 date-tailed d t ps overflow = refl
+
+-- a weekday is never an overflow
+pub weekday-none : (l : List ℕ) {p : Parsed ℕ} → p ≡ weekdayOf l → Arm (1 ∷ 2 ∷ []) p → p ≡ nothing
+unfolding weekdayOf
+weekday-none l e k = e ∙ none (within lexeme.Monday (get l 0) lexeme.Sunday) _ _ (rw e at k)
 
 -- a weekday with the tail behind it
 pub weekday-tailed :

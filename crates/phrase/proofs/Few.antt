@@ -14,13 +14,22 @@ use Rattle.dates.specs.Durations.{Duration, size, durationOf, isSubDaily}
 use Rattle.dates.specs.Dates.{dateOf}
 use Rattle.dates.specs.Times.{timeOf}
 use Rattle.dates.specs.declared.date.Date.{Date}
+use Rattle.dates.specs.declared.duration.Parts.{Parts}
 use Rattle.dates.specs.declared.time.Time.{Time}
 use Rattle.dates.proofs.Bounds.{unit-took, weekday-took, specifier-took, date-took, time-took}
-use Rattle.dates.proofs.Durations.{Sized, duration-sized}
-use Rattle.phrase.specs.Tree.{DateExpr, after, DateTime, around}
-use Rattle.phrase.specs.DateExprs.{Tail, relative, ago, inside, stray, inTailOf, durationTailOf, tailOf, withDate, withWeekday, withDurationOf, relativeExprOf, weekdayExprOf, undatedOf, dateExprOf}
-use Rattle.phrase.specs.DateTimes.{Turn, whole, link, withExprOf, withDurationOf as durationTurnOf, withTimeOf, timedTurnOf, undatedTurnOf, turnOf, againOf, dateTimeStep, dateTimeIn, dateTimeOf}
-use Rattle.phrase.specs.Flat.{sizeExpr, sizeTree}
+use Rattle.dates.proofs.Durations.{Sized, duration-sized, into-n}
+use Rattle.phrase.specs.Tree.{DateExpr, date, dateRelative, dateExpressionAfter, dateExpressionBefore, unitRelative}
+use Rattle.phrase.specs.Tree.{relativeWeekday, weekdayRelative, weekdayExpressionBefore, before, after, weekday, empty, DateTime, around}
+use Rattle.phrase.specs.DateExprs.{Tail, relative, ago, inside, stray, inTailOf, durationTailOf, tailOf, withDate, withWeekday}
+use Rattle.phrase.specs.DateExprs.{withDurationOf, relativeExprOf, weekdayExprOf, undatedOf, dateExprOf}
+use Rattle.phrase.specs.DateTimes.{Turn, whole, link, withExprOf, withDurationOf as durationTurnOf, withTimeOf, timedTurnOf}
+use Rattle.phrase.specs.DateTimes.{undatedTurnOf, turnOf, againOf, dateTimeStep, dateTimeIn, dateTimeOf}
+use Rattle.phrase.specs.Flat.{sizeExpr, sizeTree, intoExpr}
+use Rattle.phrase.specs.ExprAnswers.{tailAnswer, TailBounds, TailCounted, exprAnswer, ExprCounted}
+use Rattle.phrase.specs.declared.expr.Tail.{Tail as TailTaken}
+use Rattle.phrase.specs.declared.expr.Tail.the-variants.{Relative, Ago, Inside, Stray, Nothing as NoTail, Overflow as TailOverflow}
+use Rattle.phrase.specs.declared.expr.TailFound.{TailFound}
+use Rattle.phrase.specs.declared.expr.ExprFound.{ExprFound}
 
 abbrev Bounds : {A : Type 0} → (A → ℕ) → Parsed A → ℕ → ℕ → Type 0
 Bounds parts (is v t) k n = (k ≤ t) × (t ≤ n) × (3 * parts v ≤ t)
@@ -36,7 +45,8 @@ module _ {A : Type 0} {parts : A → ℕ} where
   nothing-few = record { bounds = tt }
 
   -- a test, with what it says on either side
-  pub pick-few : (b : Bool) (x y : Parsed A) {k n : ℕ} → (b ≡ true → Few parts x k n) → (b ≡ false → Few parts y k n) → Few parts (pick b x y) k n
+  pub pick-few : (b : Bool) (x y : Parsed A) {k n : ℕ} →
+      (b ≡ true → Few parts x k n) → (b ≡ false → Few parts y k n) → Few parts (pick b x y) k n
   pick-few true x y f g = f refl
   pick-few false x y f g = g refl
 
@@ -56,14 +66,16 @@ module _ {A : Type 0} {parts : A → ℕ} where
 
   -- the same behind a reader whose own parts count
   pub if-let-parts : {B : Type 0} {own : B → ℕ} (p : Parsed B) (f : B → ℕ → Parsed A) (b : Parsed A) {i m k n : ℕ} →
-      Few own p i m → ((v : B) (t : ℕ) → i ≤ t → t ≤ m → 3 * own v ≤ t → Few parts (f v t) k n) → Few parts b k n → Few parts (ifLet p f b) k n
+      Few own p i m → ((v : B) (t : ℕ) → i ≤ t → t ≤ m → 3 * own v ≤ t → Few parts (f v t) k n) →
+      Few parts b k n → Few parts (ifLet p f b) k n
   if-let-parts (is v t) f b g h z = let e = g .bounds in h v t (omega arith) (omega arith) (omega arith)
   if-let-parts nothing f b g h z = z
   if-let-parts overflow f b g h z = record { bounds = tt }
 
   -- the same behind a duration, whose last part has its connection still to come
   pub if-let-duration : (p : Parsed Duration) (f : Duration → ℕ → Parsed A) (b : Parsed A) {m k n : ℕ} →
-      Sized p m → ((d : Duration) (t : ℕ) → 2 ≤ t → t ≤ m → 3 * size d ≤ t + 1 → Few parts (f d t) k n) → Few parts b k n → Few parts (ifLet p f b) k n
+      Sized p m → ((d : Duration) (t : ℕ) → 2 ≤ t → t ≤ m → 3 * size d ≤ t + 1 → Few parts (f d t) k n) →
+      Few parts b k n → Few parts (ifLet p f b) k n
   if-let-duration (is d t) f b g h z = let e = g .sizes in h d t (omega arith) (omega arith) (omega arith)
   if-let-duration nothing f b g h z = z
   if-let-duration overflow f b g h z = record { bounds = tt }
@@ -79,7 +91,7 @@ both : (p q : Bool) → p && q ≡ true → p ≡ true
 both true q e = refl
 both false q e = e
 
-in-tail-few : (l : List ℕ) → Few sizeTail (inTailOf l) 0 (length l)
+pub in-tail-few : (l : List ℕ) → Few sizeTail (inTailOf l) 0 (length l)
 unfolding inTailOf
 in-tail-few l =
     pick-few (isAt l 0 lexeme.In) _ _
@@ -90,7 +102,7 @@ in-tail-few l =
     (record { bounds = omega arith }))
     (λ e. nothing-few)
 
-duration-tail-few : (l : List ℕ) → Few sizeTail (durationTailOf l) 0 (length l)
+pub duration-tail-few : (l : List ℕ) → Few sizeTail (durationTailOf l) 0 (length l)
 unfolding durationTailOf
 duration-tail-few l =
     if-let-duration (durationOf l) _ _ (duration-sized l)
@@ -109,6 +121,32 @@ tail-few l =
     (λ u k c d. record { bounds = omega arith })
     (record { bounds = omega arith }))
     (duration-tail-few l)
+
+-- the bounds of the code's answer for a tail
+tail-counted : (ps : Parts) (p : Parsed Tail) {n : ℕ} → Few sizeTail p 0 n → TailCounted (tailAnswer ps p) (ps .n) n
+tail-counted ps (is (relative s u) t) h = let b = h .bounds in record { bounds = (refl, omega arith) }
+tail-counted ps (is (ago d) t) h = let b = h .bounds in let k = into-n d ps in record { bounds = (omega arith, omega arith) }
+tail-counted ps (is (inside d) t) h = let b = h .bounds in let k = into-n d ps in record { bounds = (omega arith, omega arith) }
+tail-counted ps (is stray t) h = let b = h .bounds in record { bounds = (refl, omega arith) }
+tail-counted ps nothing h = record { bounds = refl }
+tail-counted ps overflow h = record { bounds = refl }
+
+tail-wider′ : (w : TailTaken) (m k n n′ : ℕ) → n ≤ n′ → TailBounds w m k n → TailBounds w m k n′
+tail-wider′ (Relative s u t) m k n n′ e h = (h .0, omega arith)
+tail-wider′ (Ago t) m k n n′ e h = (h .0, omega arith)
+tail-wider′ (Inside t) m k n n′ e h = (h .0, omega arith)
+tail-wider′ (Stray t) m k n n′ e h = (h .0, omega arith)
+tail-wider′ NoTail m k n n′ e h = h
+tail-wider′ TailOverflow m k n n′ e h = h
+
+-- the same within more lexemes
+pub tail-wider : {r : TailFound} {m n n′ : ℕ} → TailCounted r m n → n ≤ n′ → TailCounted r m n′
+tail-wider {r} {m} {n} {n′} h e = record { bounds = tail-wider′ (r .tail) m (r .parts .n) n n′ e (h .bounds) }
+
+-- what a reader of a tail promises
+pub tail-promised : {r : TailFound} (ps : Parts) {p : Parsed Tail} {n : ℕ} →
+    r ≡ tailAnswer ps p → Few sizeTail p 0 n → (r ≡ tailAnswer ps p) × TailCounted r (ps .n) n
+tail-promised ps {p} e h = (e, rw e (tail-counted ps p h))
 
 with-date-few : (d : Date) (t : ℕ) (x : Tail) (u n : ℕ) → 1 ≤ t → t + u ≤ n → 3 * sizeTail x ≤ u → Few sizeExpr (withDate d t x u) 1 n
 with-date-few d t (relative s k) u n a b c = record { bounds = omega arith }
@@ -129,7 +167,8 @@ after-few l dur t a b =
     then-few (dateOf (drop (t + 1) l)) _ (date-took (drop (t + 1) l))
     (λ d u c e. let left = length-drop (t + 1) l in record { bounds = omega arith })
 
-with-duration-few : (l : List ℕ) (dur : Duration) (t : ℕ) → t ≤ length l → 3 * size dur ≤ t + 1 → Few sizeExpr (withDurationOf dur t l) 1 (length l)
+with-duration-few : (l : List ℕ) (dur : Duration) (t : ℕ) → t ≤ length l → 3 * size dur ≤ t + 1 →
+    Few sizeExpr (withDurationOf dur t l) 1 (length l)
 unfolding withDurationOf
 with-duration-few l dur t a b =
     pick-few (isSubDaily dur) _ _ (λ e. nothing-few)
@@ -141,7 +180,7 @@ with-duration-few l dur t a b =
     (λ h. let some = there (at-most l t lexeme.From) h in after-few l dur t (omega arith) b)
     (λ h. nothing-few))))
 
-relative-few : (l : List ℕ) → Few sizeExpr (relativeExprOf l) 1 (length l)
+pub relative-few : (l : List ℕ) → Few sizeExpr (relativeExprOf l) 1 (length l)
 unfolding relativeExprOf
 relative-few l =
     then-few (relativeSpecifierOf l) _ (specifier-took l)
@@ -150,7 +189,7 @@ relative-few l =
     (λ w u c d. record { bounds = omega arith })
     (then-few (unitOf (drop t l)) _ (unit-took (drop t l)) (λ k u c d. record { bounds = omega arith })))
 
-weekday-few : (l : List ℕ) → Few sizeExpr (weekdayExprOf l) 1 (length l)
+pub weekday-few : (l : List ℕ) → Few sizeExpr (weekdayExprOf l) 1 (length l)
 unfolding weekdayExprOf
 weekday-few l =
     if-let-few (weekdayOf l) _ _ (weekday-took l)
@@ -160,7 +199,7 @@ weekday-few l =
     (record { bounds = omega arith }))
     (relative-few l)
 
-undated-few : (l : List ℕ) → Few sizeExpr (undatedOf l) 1 (length l)
+pub undated-few : (l : List ℕ) → Few sizeExpr (undatedOf l) 1 (length l)
 unfolding undatedOf
 undated-few l =
     if-let-duration (durationOf l) _ _ (duration-sized l)
@@ -178,6 +217,32 @@ expr-few l =
     (record { bounds = omega arith }))
     (undated-few l)
 
+-- the row has as many parts more as the date expression
+into-expr-n : (x : DateExpr) (ps : Parts) → intoExpr x ps .n ≡ ps .n + sizeExpr x
+into-expr-n (date d) ps = omega arith
+into-expr-n (dateRelative d s u) ps = omega arith
+into-expr-n (dateExpressionAfter d dur) ps = into-n dur ps
+into-expr-n (dateExpressionBefore d dur) ps = into-n dur ps
+into-expr-n (unitRelative s u) ps = omega arith
+into-expr-n (relativeWeekday s w) ps = omega arith
+into-expr-n (weekdayRelative w s u) ps = omega arith
+into-expr-n (weekdayExpressionBefore w dur) ps = into-n dur ps
+into-expr-n (before dur d) ps = into-n dur ps
+into-expr-n (after dur d) ps = into-n dur ps
+into-expr-n (weekday w) ps = omega arith
+into-expr-n empty ps = omega arith
+
+-- the bounds of the code's answer for a date expression
+expr-counted : (ps : Parts) (p : Parsed DateExpr) {n : ℕ} → Few sizeExpr p 1 n → ExprCounted (exprAnswer ps p) (ps .n) n
+expr-counted ps (is x t) h = let b = h .bounds in let k = into-expr-n x ps in record { bounds = (omega arith, omega arith, omega arith) }
+expr-counted ps nothing h = record { bounds = refl }
+expr-counted ps overflow h = record { bounds = refl }
+
+-- what a reader of a date expression promises
+pub expr-promised : {r : ExprFound} (ps : Parts) {p : Parsed DateExpr} {n : ℕ} →
+    r ≡ exprAnswer ps p → Few sizeExpr p 1 n → (r ≡ exprAnswer ps p) × ExprCounted r (ps .n) n
+expr-promised ps {p} e h = (e, rw e (expr-counted ps p h))
+
 -- the parts of a turn
 abbrev pub sizeTurn : Turn → ℕ
 sizeTurn (whole x) = sizeTree x
@@ -192,15 +257,19 @@ comma-most l t x h = go (isAt l t lexeme.Comma) (isAt l t x) refl refl
     go false true e f = let some = there (at-most l t x) f in omega arith
     go false false e f = omega arith
 
-with-expr-few : (e : DateExpr) (t : ℕ) (l : List ℕ) → 1 ≤ t → t ≤ length l → 3 * sizeExpr e ≤ t → Few sizeTurn (withExprOf e t l) 1 (length l)
+with-expr-few : (e : DateExpr) (t : ℕ) (l : List ℕ) → 1 ≤ t → t ≤ length l → 3 * sizeExpr e ≤ t →
+    Few sizeTurn (withExprOf e t l) 1 (length l)
 unfolding withExprOf
 with-expr-few e t l a b c =
     let s = t + oneIf (isAt l t lexeme.Comma || isAt l t lexeme.At) in
     let most = comma-most l t lexeme.At b in
     let left = length-drop s l in
-    if-let-few (timeOf (drop s l)) _ _ (time-took (drop s l)) (λ time u d f. record { bounds = omega arith }) (record { bounds = omega arith })
+    if-let-few (timeOf (drop s l)) _ _ (time-took (drop s l))
+    (λ time u d f. record { bounds = omega arith })
+    (record { bounds = omega arith })
 
-duration-turn-few : (l : List ℕ) (dur : Duration) (t : ℕ) → t ≤ length l → 3 * size dur ≤ t + 1 → Few sizeTurn (durationTurnOf dur t l) 1 (length l)
+duration-turn-few : (l : List ℕ) (dur : Duration) (t : ℕ) → t ≤ length l → 3 * size dur ≤ t + 1 →
+    Few sizeTurn (durationTurnOf dur t l) 1 (length l)
 unfolding durationTurnOf
 duration-turn-few l dur t a b =
     pick-few (isAt l t lexeme.After) _ _ (λ e. let some = there (at-most l t lexeme.After) e in record { bounds = omega arith })
@@ -215,7 +284,9 @@ with-time-few time t l a b =
     let s = t + oneIf (isAt l t lexeme.Comma || isAt l t lexeme.On) in
     let most = comma-most l t lexeme.On b in
     let left = length-drop s l in
-    if-let-parts (dateExprOf (drop s l)) _ _ (expr-few (drop s l)) (λ e u c d f. record { bounds = omega arith }) (record { bounds = omega arith })
+    if-let-parts (dateExprOf (drop s l)) _ _ (expr-few (drop s l))
+    (λ e u c d f. record { bounds = omega arith })
+    (record { bounds = omega arith })
 
 pub timed-few : (l : List ℕ) → Few sizeTurn (timedTurnOf l) 1 (length l)
 unfolding timedTurnOf

@@ -13,7 +13,8 @@ use Rattle.dates.specs.declared.date.Date.{Date}
 use Rattle.dates.specs.declared.date.Date.the-variants.{Empty}
 use Rattle.dates.specs.declared.units.Unit.{Unit}
 use Rattle.dates.specs.declared.units.RelativeSpecifier.{RelativeSpecifier}
-use Rattle.phrase.specs.Tree.{DateExpr, date, dateRelative, dateExpressionAfter, dateExpressionBefore, unitRelative, relativeWeekday, weekdayRelative, weekdayExpressionBefore, before, after, weekday}
+use Rattle.phrase.specs.Tree.{DateExpr, date, dateRelative, dateExpressionAfter, dateExpressionBefore, unitRelative}
+use Rattle.phrase.specs.Tree.{relativeWeekday, weekdayRelative, weekdayExpressionBefore, before, after, weekday}
 
 -- what may stand behind a date or a weekday; `stray` where lexemes were passed and no alternative is whole
 pub data Tail : Type 0 where

@@ -85,7 +85,7 @@ withDurationAnswer l t subDaily with ps =
     (cond (isAt l t lexeme.From) (afterAnswer l (t + 1) with ps)
     (record { expr = Nothing; parts = ps }))))
 
-abbrev TailBounds : TailTaken → ℕ → ℕ → ℕ → Type 0
+abbrev pub TailBounds : TailTaken → ℕ → ℕ → ℕ → Type 0
 TailBounds (Relative s u t) m k n = (k ≡ m) × (t ≤ n)
 TailBounds (Ago t) m k n = (3 * k ≤ 3 * m + t) × (t ≤ n)
 TailBounds (Inside t) m k n = (3 * k ≤ 3 * m + t) × (t ≤ n)

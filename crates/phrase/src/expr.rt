@@ -24,7 +24,8 @@ ghost use mathlib.Core.Path.{_≡_};
 ghost use Prim.Native.Nat.{_+_, _*_, _≤_};
 ghost use lib.ListN.{length};
 ghost use Rattle.phrase.specs.DateExprs.{inTailOf, durationTailOf, tailOf, relativeExprOf, weekdayExprOf, undatedOf, dateExprOf};
-ghost use Rattle.phrase.specs.ExprAnswers.{tailAnswer, TailCounted, dateTailed, weekdayTailed, exprAnswer, ExprCounted, afterAnswer, withDurationAnswer};
+ghost use Rattle.phrase.specs.ExprAnswers.{tailAnswer, TailCounted, dateTailed, weekdayTailed};
+ghost use Rattle.phrase.specs.ExprAnswers.{exprAnswer, ExprCounted, afterAnswer, withDurationAnswer};
 
 // What stands behind a date or a weekday, and the lexemes taken; `Stray` where lexemes were passed and no alternative is whole.
 pub enum Tail {
@@ -255,7 +256,7 @@ fn read_after(l: &[u64], t: usize, with: Parts, parts: Parts) -> ExprFound
 // What stands behind a duration of t lexemes, whose parts are the last of `with`; a sub-daily one is given up.
 fn with_duration(l: &[u64], t: usize, sub_daily: bool, with: Parts, parts: Parts) -> ExprFound
     requires { ⌜ (t ≤ length (now l)) × (length (now l) ≤ 64) ⌝ }
-    ensures { λ r. ⌜ r ≡ withDurationAnswer (now (l .entry)) t sub_daily with parts ⌝ }
+    ensures { λ r. ⌜ r ≡ withDurationAnswer (now (l .entry)) t «sub_daily» with parts ⌝ }
 {
     if sub_daily {
         return ExprFound {
