@@ -1,0 +1,245 @@
+-- A phrase read whole: what reading takes of lexing, where the offending part stands, and what a reading stands for.
+use Prim.Native.Nat.{ℕ, zero, suc, _+_, _≤_, _<_}
+use native.Mathlib.Omega.{arith}
+use mathlib.Core.Path.{_≡_, refl, ap, sym, _∙_}
+use mathlib.Core.Bool.{Bool, true, false, cond}
+use mathlib.Core.List.{List}
+use lib.Dec.{eqb, leb, ltb}
+use lib.ListN.{length, getD, length-map}
+use borrow.Author.Tests.{ltb-true, ltb-false}
+use Rattle.lexer.specs.Words.{Word, meaning, folded}
+use Rattle.lexer.specs.Keywords.{keywords}
+use Rattle.lexer.specs.Classes.{Gap, Letter, Digit, Mark, classOf, markOf}
+use Rattle.lexer.specs.Refusals.{TooLong, Meaningless, TooMany}
+use Rattle.lexer.specs.Lex.{runEnd, between, valueFrom, numberOf, ofWord, wordAt, numberAt, tokenOf, tokenFrom, tokenAt, ifTaken}
+use Rattle.lexer.specs.Lex.{Item, item, Lexed, refused, whole, ahead, lexFrom, lexed, codesOf, startsOf, filled, lineOf, Placed}
+use Rattle.lexer.specs.declared.find.Found.{Found}
+use Rattle.lexer.specs.declared.find.Found.the-variants.{Lexeme, Unknown}
+use Rattle.lexer.specs.declared.lex.Line.{Line}
+use Rattle.lexer.specs.declared.lex.Token.{Token}
+use Rattle.lexer.specs.declared.lex.Token.the-variants.{Finish, Taken, Refused}
+use Rattle.lexer.proofs.Lines.{filled-taken, filled-at}
+use Rattle.lexer.proofs.Places.{answered}
+use Rattle.dates.specs.Parsed.{Parsed, is, nothing, overflow}
+use Rattle.phrase.specs.Tree.{DateTime}
+use Rattle.phrase.specs.DateTimes.{dateTimeOf}
+use Rattle.phrase.specs.Flat.{flat, blank, treeOf, sizeTree}
+use Rattle.phrase.specs.Refusals.{LexemesLeft}
+use Rattle.phrase.specs.Read.{ReadPhrase, refusal, tree, readCodes, readLexed, readOf, phraseAnswer, readLine, placeOf, offendingOf}
+use Rattle.phrase.specs.declared.read.PhraseRead.{PhraseRead}
+use Rattle.phrase.proofs.Few.{date-time-few, at-most-21}
+use Rattle.phrase.proofs.Decoded.{tree-count, decoded}
+
+-- a refused token has one of the lexer's numbers
+abbrev Judged : Token → Type 0
+Judged Finish = Unit {0}
+Judged (Taken k a e) = Unit {0}
+Judged (Refused n a e) = (1 ≤ n) × (n ≤ 4)
+
+judged-word : (f : Found) (a e : ℕ) → Judged (ofWord f a e)
+judged-word (Lexeme l) a e = tt
+judged-word Unknown a e = omega arith
+
+judged-number : (s : List ℕ) (a : ℕ) → Judged (numberAt s a)
+unfolding numberAt numberOf
+judged-number s a = go (leb (valueFrom 0 (between s a (runEnd Digit s a))) 4294967295) refl
+  where
+    go : (b : Bool) → leb (valueFrom 0 (between s a (runEnd Digit s a))) 4294967295 ≡ b → Judged (numberAt s a)
+    go true e = simp e tt
+    go false e = simp e (omega arith)
+
+judged-of : (ws : List Word) (k : ℕ) (s : List ℕ) (a : ℕ) → Judged (tokenOf ws k s a)
+unfolding wordAt
+judged-of ws k s a = go (eqb k Letter) (eqb k Digit) (eqb k Mark)
+  where
+    go : (l d m : Bool) → Judged
+        (cond l (wordAt ws s a) (cond d (numberAt s a) (cond m (Taken (markOf (getD s a 0)) a (a + 1)) (Refused Meaningless a (a + 1)))))
+    go true d m = judged-word (meaning ws (folded (between s a (runEnd Letter s a)))) a (runEnd Letter s a)
+    go false true m = judged-number s a
+    go false false true = tt
+    go false false false = omega arith
+
+judged : (ws : List Word) (s : List ℕ) (at : ℕ) → Judged (tokenAt ws s at)
+unfolding tokenAt
+judged ws s at = go (runEnd Gap s at) (ltb (runEnd Gap s at) (length s))
+  where
+    go : (a : ℕ) (b : Bool) → Judged (cond b (tokenOf ws (classOf (getD s a 0)) s a) Finish)
+    go a true = judged-of ws (classOf (getD s a 0)) s a
+    go a false = tt
+
+-- and so has a refused phrase
+abbrev Numbered : Lexed → Type 0
+Numbered (refused k a e) = (1 ≤ k) × (k ≤ 4)
+Numbered (whole l) = Unit {0}
+
+numbered-ahead : (l : List Item) (r : Lexed) → Numbered r → Numbered (ahead l r)
+numbered-ahead l (refused k a e) h = h
+numbered-ahead l (whole m) h = tt
+
+numbered-token : (t : Token) (g : ℕ → ℕ → ℕ → Lexed) → Judged t → ((k a e : ℕ) → Numbered (g k a e)) → Numbered (ifTaken t g)
+numbered-token Finish g h f = tt
+numbered-token (Taken k a e) g h f = f k a e
+numbered-token (Refused n a e) g h f = h
+
+numbered-from : (ws : List Word) (room : ℕ) (s : List ℕ) (at : ℕ) → Numbered (lexFrom ws room s at)
+numbered-from ws zero s at = numbered-token (tokenAt ws s at) _ (judged ws s at) (λ k a e. omega arith)
+numbered-from ws (suc room) s at =
+    numbered-token (tokenAt ws s at) _ (judged ws s at) (λ k a e. numbered-ahead _ (lexFrom ws room s e) (numbered-from ws room s e))
+
+-- lexing refuses 1 to 4
+numbered : (ws : List Word) (s : List ℕ) → Numbered (lexed ws s)
+unfolding lexed
+numbered ws s = go (leb (length s) 256)
+  where
+    go : (b : Bool) → Numbered (cond b (lexFrom ws 64 s 0) (refused TooLong 0 0))
+    go true = numbered-from ws 64 s 0
+    go false = omega arith
+
+-- the lexemes from the code's arrays, which are filled up
+module _ (items : List Item) (n : ℕ) where
+  starts-filled : (x : Parsed DateTime) →
+      readCodes x (length items) (filled (startsOf items)) n ≡ readCodes x (length items) (startsOf items) n
+  starts-filled (is x t) = go (ltb t (length items)) refl
+    where
+      go : (b : Bool) → ltb t (length items) ≡ b →
+          cond b (refusal LexemesLeft (getD (filled (startsOf items)) t 0) n) (tree x t)
+          ≡ cond b (refusal LexemesLeft (getD (startsOf items) t 0) n) (tree x t)
+      go true e =
+          let below = ltb-true t (length items) e in
+          let starts = length-map items (λ (i : Item). i .start) in
+          rw (filled-at (startsOf items) t (omega arith))
+      go false e = refl
+  starts-filled nothing = refl
+  starts-filled overflow = refl
+
+  line-read : readLine (lineOf (whole items)) n ≡ readLexed (whole items) n
+  line-read =
+      rw (filled-taken (codesOf items) (length items) (length-map items (λ (i : Item). i .code)))
+      (starts-filled (dateTimeOf (codesOf items)))
+
+-- a line of number 0 holds all the lexemes, any other a refusal
+line-whole : (w : Lexed) (n : ℕ) → Numbered w → lineOf w .number ≡ 0 → readLine (lineOf w) n ≡ readLexed w n
+line-whole (refused k a e) n h z = absurd (omega arith)
+line-whole (whole items) n h z = line-read items n
+
+line-refused : (w : Lexed) (n : ℕ) → (lineOf w .number ≡ 0 → ⊥) → refusal (lineOf w .number) (lineOf w .place) (lineOf w .end) ≡ readLexed w n
+line-refused (refused k a e) n h = refl
+line-refused (whole items) n h = absurd (h refl)
+
+-- what `lex` answers to a phrase, read
+module _ (s : List ℕ) {line : Line} (answer : line ≡ lineOf (lexed keywords s)) where
+  pub read-whole : line .number ≡ 0 → readLine line (length s) ≡ readOf keywords s
+  unfolding readOf
+  read-whole z = rw answer (line-whole (lexed keywords s) (length s) (numbered keywords s) (rw answer at z))
+
+  pub read-refused : (line .number ≡ 0 → ⊥) → refusal (line .number) (line .place) (line .end) ≡ readOf keywords s
+  unfolding readOf
+  read-refused h = rw answer (line-refused (lexed keywords s) (length s) (rw answer at h))
+
+-- the offending part begins and ends within the first n bytes
+abbrev Within : ℕ → ReadPhrase → Type 0
+Within n (refusal k a e) = (a ≤ e) × (e ≤ n)
+Within n (tree x t) = Unit {0}
+
+module _ (items : List Item) (n : ℕ) (placed : Placed n (lineOf (whole items))) where
+  codes-within : (x : Parsed DateTime) → Within n (readCodes x (length items) (filled (startsOf items)) n)
+  codes-within (is x t) = go (ltb t (length items)) refl
+    where
+      go : (b : Bool) → ltb t (length items) ≡ b → Within n (cond b (refusal LexemesLeft (getD (filled (startsOf items)) t 0) n) (tree x t))
+      go true e = let below = placed .start-below t (ltb-true t (length items) e) in omega arith
+      go false e = tt
+  codes-within nothing = omega arith
+  codes-within overflow = omega arith
+
+lexed-within : (w : Lexed) (n : ℕ) → Placed n (lineOf w) → Within n (readLexed w n)
+lexed-within (refused k a e) n p = (p .place-end, p .end-most)
+lexed-within (whole items) n p = rw (← (line-read items n)) (rw (filled-taken (codesOf items) (length items) (length-map items (λ (i : Item). i .code))) (codes-within items n p (dateTimeOf (codesOf items))))
+
+read-within : (s : List ℕ) → Within (length s) (readOf keywords s)
+unfolding readOf
+read-within s = lexed-within (lexed keywords s) (length s) (answered keywords s refl .1)
+
+answer-within : (n : ℕ) (w : ReadPhrase) → Within n w → (phraseAnswer w .place ≤ phraseAnswer w .end) × (phraseAnswer w .end ≤ n)
+answer-within n (refusal k a e) h = h
+answer-within n (tree x t) h = omega arith
+
+answer-place : (w : ReadPhrase) → phraseAnswer w .place ≡ placeOf w
+answer-place (refusal k a e) = refl
+answer-place (tree x t) = refl
+
+answer-part : (s : List ℕ) (w : ReadPhrase) → between s (phraseAnswer w .place) (phraseAnswer w .end) ≡ offendingOf s w
+answer-part s (refusal k a e) = refl
+answer-part s (tree x t) = refl
+
+-- the place and the part of an answer
+module _ (s : List ℕ) {r : PhraseRead} (answer : r ≡ phraseAnswer (readOf keywords s)) where
+  pub part-within : (r .place ≤ r .end) × (r .end ≤ length s)
+  part-within = rw answer (answer-within (length s) (readOf keywords s) (read-within s))
+
+  pub part-place : r .place ≡ placeOf (readOf keywords s)
+  part-place = rw answer (answer-place (readOf keywords s))
+
+  pub part-is : between s (r .place) (r .end) ≡ offendingOf s (readOf keywords s)
+  part-is = rw answer (answer-part s (readOf keywords s))
+
+-- a phrase that is read: its lexemes, all of them taken, and the tree that the reading stands for, which is the one that `DateTime::parse` gives
+pub record ReadWhole (s : List ℕ) (r : PhraseRead) : Type 0 where
+  pub items : List Item
+  pub lexemes : lexed keywords s ≡ whole items
+  pub parsed : dateTimeOf (codesOf items) ≡ is (treeOf (r .reading)) (r .taken)
+  pub all : r .taken ≡ length items
+  pub few : r .reading .parts .n ≤ 21
+
+-- 1 to 7
+abbrev OneToSeven : ℕ → Type 0
+OneToSeven k = (1 ≤ k) × (k ≤ 7)
+
+abbrev Settled : List ℕ → ReadPhrase → Type 0
+Settled s (refusal k a e) = OneToSeven k
+Settled s (tree x t) = ReadWhole s (phraseAnswer (tree x t))
+
+module _ (s : List ℕ) (items : List Item) (lexemes : lexed keywords s ≡ whole items) (most : length items ≤ 64) where
+  codes-settled : (w : Parsed DateTime) → dateTimeOf (codesOf items) ≡ w → Settled s (readCodes w (length items) (startsOf items) (length s))
+  codes-settled (is x t) e = go (ltb t (length items)) refl
+    where
+      codes : length (codesOf items) ≡ length items
+      codes = length-map items (λ (i : Item). i .code)
+
+      go : (b : Bool) → ltb t (length items) ≡ b →
+          Settled s (cond b (refusal LexemesLeft (getD (startsOf items) t 0) (length s)) (tree x t))
+      go true h = omega arith
+      go false h =
+          let same = codes in
+          let left = ltb-false t (length items) h in
+          let took = (rw e at (date-time-few (codesOf items))) .bounds in
+          let parts = at-most-21 (codesOf items) (omega arith) e in
+          let count = tree-count x blank in
+          record {
+            items = items;
+            lexemes = lexemes;
+            parsed = rw (decoded x parts) e;
+            all = omega arith;
+            few = omega arith;
+          }
+  codes-settled nothing e = omega arith
+  codes-settled overflow e = omega arith
+
+lexed-settled : (s : List ℕ) (w : Lexed) → lexed keywords s ≡ w → Numbered w → Placed (length s) (lineOf w) → Settled s (readLexed w (length s))
+lexed-settled s (refused k a e) h n p = omega arith
+lexed-settled s (whole items) h n p = codes-settled s items h (p .count-most) (dateTimeOf (codesOf items)) refl
+
+settled : (s : List ℕ) → Settled s (readOf keywords s)
+unfolding readOf
+settled s = lexed-settled s (lexed keywords s) refl (numbered keywords s) (answered keywords s refl .1)
+
+-- a phrase is refused by a number of 1 to 7
+pub refusal-numbers : (s : List ℕ) {k a e : ℕ} → readOf keywords s ≡ refusal k a e → (1 ≤ k) × (k ≤ 7)
+refusal-numbers s h = rw h at (settled s)
+
+answer-settled : (s : List ℕ) (w : ReadPhrase) → Settled s w → phraseAnswer w .number ≡ 0 → ReadWhole s (phraseAnswer w)
+answer-settled s (refusal k a e) h z = absurd (omega arith)
+answer-settled s (tree x t) h z = h
+
+-- a phrase that `read` answers with number 0 is read whole: tree and count are those of `DateTime::parse`, and there are at most 21 parts
+pub reads : (s : List ℕ) {r : PhraseRead} → r ≡ phraseAnswer (readOf keywords s) → r .number ≡ 0 → ReadWhole s r
+reads s answer z = rw answer (answer-settled s (readOf keywords s) (settled s) (rw answer at z))

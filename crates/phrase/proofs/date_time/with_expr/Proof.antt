@@ -1,0 +1,94 @@
+use native.Mathlib.Omega.{arith}
+use mathlib.Core.Path.{ap}
+use Rattle.dates.specs.Times.{parsedTime}
+use Rattle.dates.proofs.Laws.{found}
+use borrow.Author.Needs.{needs}
+use Rattle.phrase.proofs.date_time.with_expr.Statement.{statement}
+use Rattle.phrase.proofs.date_time.with_expr.Tie as tie
+
+take-comma-or-requires : tie.Need-take-comma-or-requires
+take-comma-or-requires c κs = search needs
+
+add-s : tie.Need-add-s
+add-s c = search needs
+
+rest-requires : tie.Need-rest-requires
+rest-requires c κs = search needs
+
+read-time-requires : tie.Need-read-time-requires
+read-time-requires c κs = search needs
+
+enum-known-time : tie.Need-enum-known-time
+enum-known-time c = search needs
+
+add-t13 : tie.Need-add-t13
+add-t13 c =
+    let time = c .before .time in
+    let read-time = c .before .before .before .read-time in
+    let b = found (ap parsedTime (time .given .1)) (read-time .ensures .1) in
+    omega arith
+
+with-base-requires : tie.Need-with-base-requires
+with-base-requires c κs = search needs
+
+enum-told : tie.Need-enum-told
+enum-told c = search needs
+
+with-base-requires-2 : tie.Need-with-base-requires-2
+with-base-requires-2 c κs = search needs
+
+enum-told-2 : tie.Need-enum-told-2
+enum-told-2 c = search needs
+
+returns : tie.Need-returns
+returns c =
+    let time = c .before .before .time in
+    let read-time = c .before .before .before .before .read-time in
+    let rest = c .before .before .before .before .before .rest in
+    let take-comma-or = c .before .before .before .before .before .before .take-comma-or in
+    rw (
+      ← (take-comma-or .ensures .0),
+      ← (rest .ensures .0),
+      ← (read-time .ensures .0),
+      time .given .1,
+      c .with-base .ensures,
+    )
+
+returns-2 : tie.Need-returns-2
+returns-2 c =
+    let enum-told = c .before .enum-told in
+    let read-time = c .before .before .before .read-time in
+    let rest = c .before .before .before .before .rest in
+    let take-comma-or = c .before .before .before .before .before .take-comma-or in
+    rw (
+      ← (take-comma-or .ensures .0),
+      ← (rest .ensures .0),
+      ← (read-time .ensures .0),
+      enum-told .given .1,
+      c .with-base2 .ensures,
+    )
+
+returns-3 : tie.Need-returns-3
+returns-3 c =
+    let read-time = c .before .before .read-time in
+    let rest = c .before .before .before .rest in
+    let take-comma-or = c .before .before .before .before .take-comma-or in
+    rw (← (take-comma-or .ensures .0), ← (rest .ensures .0), ← (read-time .ensures .0), c .enum-told2 .given .1)
+
+pub with-expr-spec : {M : Type 1} → statement M
+with-expr-spec =
+    tie.close
+    (tie.spec
+    take-comma-or-requires
+    add-s
+    rest-requires
+    read-time-requires
+    enum-known-time
+    add-t13
+    with-base-requires
+    enum-told
+    with-base-requires-2
+    enum-told-2
+    returns
+    returns-2
+    returns-3)

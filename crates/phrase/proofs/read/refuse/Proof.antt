@@ -1,0 +1,12 @@
+use borrow.Author.Needs.{needs}
+use Rattle.phrase.proofs.read.refuse.Statement.{statement}
+use Rattle.phrase.proofs.read.refuse.Tie as tie
+
+empty-requires : tie.Need-empty-requires
+empty-requires c κs = search needs
+
+returns : tie.Need-returns
+returns c = rw (c .empty .ensures)
+
+pub refuse-spec : {M : Type 1} → statement M
+refuse-spec = tie.close (tie.spec empty-requires returns)

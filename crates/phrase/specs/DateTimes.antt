@@ -1,0 +1,73 @@
+-- `DateTime::parse`, alternatives in the text's order.
+use Prim.Native.Nat.{ℕ, zero, suc, _+_}
+use mathlib.Core.Bool.{Bool, true, false, _||_}
+use mathlib.Core.List.{List}
+use lib.ListN.{length, drop}
+use Rattle.lexer.specs.Lexemes as lexeme
+use Rattle.numbers.specs.Slices.{isAt, oneIf}
+use Rattle.dates.specs.Parsed.{Parsed, is, nothing, pick, ifLet, andThen}
+use Rattle.dates.specs.Durations.{Duration, durationOf}
+use Rattle.dates.specs.Times.{timeOf}
+use Rattle.dates.specs.declared.time.Time.{Time}
+use Rattle.dates.specs.declared.time.Time.the-variants.{Empty}
+use Rattle.phrase.specs.Tree.{DateExpr, empty, DateTime, dateTime, timeDate, durationBefore, now, around}
+use Rattle.phrase.specs.DateExprs.{dateExprOf}
+
+-- what one turn of the reader gives: a whole tree, or a duration with its direction (back: true), behind which a datetime is read again
+pub data Turn : Type 0 where
+  whole : DateTime → Turn
+  link : Bool → Duration → Turn
+
+-- <date_expr> [, | at] [<time>]: the comma or "at" is taken also with no time behind it
+unfoldable pub withExprOf : DateExpr → ℕ → List ℕ → Parsed Turn
+withExprOf expr t l =
+    let s = t + oneIf (isAt l t lexeme.Comma || isAt l t lexeme.At) in
+    ifLet (timeOf (drop s l)) (λ time u. is (whole (dateTime expr time)) (s + u)) (is (whole (dateTime expr Empty)) s)
+
+-- <duration> after | from | before <datetime>, <duration> ago
+unfoldable pub withDurationOf : Duration → ℕ → List ℕ → Parsed Turn
+withDurationOf dur t l =
+    pick (isAt l t lexeme.After) (is (link false dur) (t + 1))
+    (pick (isAt l t lexeme.From) (is (link false dur) (t + 1))
+    (pick (isAt l t lexeme.Before) (is (link true dur) (t + 1))
+    (pick (isAt l t lexeme.Ago) (is (whole (durationBefore dur now)) (t + 1))
+    nothing)))
+
+-- <time> [, | on] [<date_expr>]: the comma or "on" is taken also with no date behind it
+unfoldable pub withTimeOf : Time → ℕ → List ℕ → Parsed Turn
+withTimeOf time t l =
+    let s = t + oneIf (isAt l t lexeme.Comma || isAt l t lexeme.On) in
+    ifLet (dateExprOf (drop s l)) (λ expr u. is (whole (timeDate time expr)) (s + u)) (is (whole (timeDate time empty)) s)
+
+-- from the time on
+unfoldable pub timedTurnOf : List ℕ → Parsed Turn
+timedTurnOf l = andThen (timeOf l) (λ time t. withTimeOf time t l)
+
+-- from the duration on
+unfoldable pub undatedTurnOf : List ℕ → Parsed Turn
+undatedTurnOf l = ifLet (durationOf l) (λ dur t. withDurationOf dur t l) (timedTurnOf l)
+
+-- now; then a dated phrase before a duration, and a bare time last
+unfoldable pub turnOf : List ℕ → Parsed Turn
+turnOf l =
+    pick (isAt l 0 lexeme.Now) (is (whole now) 1)
+    (ifLet (dateExprOf l) (λ expr t. withExprOf expr t l)
+    (undatedTurnOf l))
+
+-- behind "after", "from" and "before" a datetime is read again, and with none there is nothing
+abbrev pub againOf : (List ℕ → Parsed DateTime) → List ℕ → Turn → ℕ → Parsed DateTime
+againOf D l (whole x) t = is x t
+againOf D l (link back dur) t = andThen (D (drop t l)) (λ x u. is (around back dur x) (t + u))
+
+-- `DateTime::parse`, with D for the datetime that is read again
+unfoldable pub dateTimeStep : (List ℕ → Parsed DateTime) → List ℕ → Parsed DateTime
+dateTimeStep D l = andThen (turnOf l) (againOf D l)
+
+-- at most n turns
+unfoldable pub dateTimeIn : ℕ → List ℕ → Parsed DateTime
+dateTimeIn zero l = nothing
+dateTimeIn (suc n) l = dateTimeStep (dateTimeIn n) l
+
+-- the lexemes left fall at each turn, so their number is enough: `date-time-is` says that dateTimeOf l ≡ dateTimeStep dateTimeOf l
+unfoldable pub dateTimeOf : List ℕ → Parsed DateTime
+dateTimeOf l = dateTimeIn (suc (length l)) l

@@ -1,0 +1,54 @@
+-- A phrase read whole: refusals 1 to 7 in their order, or the tree.
+use Prim.Native.Nat.{ℕ, _+_}
+use mathlib.Core.Bool.{cond}
+use mathlib.Core.List.{List}
+use lib.Dec.{ltb}
+use lib.ListN.{length, getD, take}
+use Rattle.lexer.specs.Words.{Word}
+use Rattle.lexer.specs.Lex.{Lexed, refused, whole, lexed, codesOf, startsOf, between}
+use Rattle.dates.specs.Parsed.{Parsed, is, nothing, overflow}
+use Rattle.phrase.specs.Tree.{DateTime}
+use Rattle.phrase.specs.DateTimes.{dateTimeOf}
+use Rattle.phrase.specs.Flat.{flat, blank}
+use Rattle.phrase.specs.Refusals.{NothingRead, SumTooLarge, LexemesLeft}
+use Rattle.lexer.specs.declared.lex.Line.{Line}
+use Rattle.phrase.specs.declared.read.PhraseRead.{PhraseRead}
+
+-- a refusal's number, place and end of the part; or the tree and the lexemes taken
+pub data ReadPhrase : Type 0 where
+  refusal : ℕ → ℕ → ℕ → ReadPhrase
+  tree : DateTime → ℕ → ReadPhrase
+
+-- 5 and 6 have place 0 and no part; 7 has the place of the first of the count lexemes that is left, and its part goes to the phrase's end at n
+abbrev pub readCodes : Parsed DateTime → ℕ → List ℕ → ℕ → ReadPhrase
+readCodes (is x t) count starts n = cond (ltb t count) (refusal LexemesLeft (getD starts t 0) n) (tree x t)
+readCodes nothing count starts n = refusal NothingRead 0 0
+readCodes overflow count starts n = refusal SumTooLarge 0 0
+
+-- 1 to 4 are the lexer's
+abbrev pub readLexed : Lexed → ℕ → ReadPhrase
+readLexed (refused k a e) n = refusal k a e
+readLexed (whole items) n = readCodes (dateTimeOf (codesOf items)) (length items) (startsOf items) n
+
+-- a phrase, with the words of a list
+unfoldable pub readOf : List Word → List ℕ → ReadPhrase
+readOf ws s = readLexed (lexed ws s) (length s)
+
+-- the code's answer: number 0, and the lexemes taken and the flat reading; or a refusal's number, place and end
+abbrev pub phraseAnswer : ReadPhrase → PhraseRead
+phraseAnswer (refusal k a e) = record { number = k; place = a; end = e; taken = 0; reading = blank }
+phraseAnswer (tree x t) = record { number = 0; place = 0; end = 0; taken = t; reading = flat x }
+
+-- the code reads a lexed phrase of n bytes by its count, codes and places
+abbrev pub readLine : Line → ℕ → ReadPhrase
+readLine line n = readCodes (dateTimeOf (take (line .count) (line .codes))) (line .count) (line .starts) n
+
+-- the place of a refusal, 0 where nothing is refused
+abbrev pub placeOf : ReadPhrase → ℕ
+placeOf (refusal k a e) = a
+placeOf (tree x t) = 0
+
+-- "hand back the offending part": empty for refusals 1, 5 and 6 and where nothing is refused
+abbrev pub offendingOf : List ℕ → ReadPhrase → List ℕ
+offendingOf s (refusal k a e) = between s a e
+offendingOf s (tree x t) = between s 0 0
