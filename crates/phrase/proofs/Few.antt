@@ -1,5 +1,5 @@
 -- Three lexemes are taken for each part of a tree, so that 64 lexemes have at most 21.
-use Prim.Native.Nat.{ℕ, zero, suc, _+_, _*_, _≤_, _<_}
+use Prim.Native.Nat.{ℕ, _+_, _*_, _≤_, _<_}
 use native.Mathlib.Omega.{arith}
 use mathlib.Core.Path.{_≡_, refl}
 use mathlib.Core.Bool.{Bool, true, false, _||_, _&&_, not}
@@ -7,6 +7,7 @@ use mathlib.Core.List.{List}
 use lib.ListN.{length, drop, length-drop}
 use Rattle.lexer.specs.Lexemes as lexeme
 use Rattle.numbers.specs.Slices.{isAt, oneIf}
+use Rattle.numbers.proofs.Again.{again-keeps}
 use Rattle.numbers.proofs.Places.{at-most, there}
 use Rattle.dates.specs.Parsed.{Parsed, is, nothing, overflow, pick, ifLet, andThen, Took}
 use Rattle.dates.specs.Units.{unitOf, weekdayOf, relativeSpecifierOf}
@@ -23,7 +24,7 @@ use Rattle.phrase.specs.Tree.{relativeWeekday, weekdayRelative, weekdayE
 use Rattle.phrase.specs.DateExprs.{Tail, relative, ago, inside, stray, inTailOf, durationTailOf, tailOf, withDate, withWeekday}
 use Rattle.phrase.specs.DateExprs.{withDurationOf, relativeExprOf, weekdayExprOf, undatedOf, dateExprOf}
 use Rattle.phrase.specs.DateTimes.{Turn, whole, link, withExprOf, withDurationOf as durationTurnOf, withTimeOf, timedTurnOf}
-use Rattle.phrase.specs.DateTimes.{undatedTurnOf, turnOf, againOf, dateTimeStep, dateTimeIn, dateTimeOf}
+use Rattle.phrase.specs.DateTimes.{undatedTurnOf, turnOf, againOf, dateTimeStep, dateTimeOf}
 use Rattle.phrase.specs.Flat.{sizeExpr, sizeTree, intoExpr}
 use Rattle.phrase.specs.ExprAnswers.{tailAnswer, TailBounds, TailCounted, exprAnswer, ExprCounted}
 use Rattle.phrase.specs.declared.expr.Tail.{Tail as TailTaken}
@@ -328,15 +329,14 @@ then-again D l (is x t) h few = let b = h .bounds in again-few D l x t (omega ar
 then-again D l nothing h few = nothing-few
 then-again D l overflow h few = record { bounds = tt }
 
-in-few : (n : ℕ) (l : List ℕ) → Few sizeTree (dateTimeIn n l) 1 (length l)
-unfolding dateTimeIn dateTimeStep
-in-few zero l = nothing-few
-in-few (suc n) l = then-again (dateTimeIn n) l (turnOf l) (turn-few l) (in-few n)
+step-few : (D : List ℕ → Parsed DateTime) → ((m : List ℕ) → Few sizeTree (D m) 1 (length m)) → (l : List ℕ) → Few sizeTree (dateTimeStep D l) 1 (length l)
+unfolding dateTimeStep
+step-few D few l = then-again D l (turnOf l) (turn-few l) few
 
 -- a whole reading: at least one and at most all lexemes, and three for each part
 pub date-time-few : (l : List ℕ) → Few sizeTree (dateTimeOf l) 1 (length l)
 unfolding dateTimeOf
-date-time-few l = in-few (suc (length l)) l
+date-time-few l = again-keeps nothing dateTimeStep (λ m w. Few sizeTree w 1 (length m)) (λ m. nothing-few) step-few l
 
 -- so that 64 lexemes have at most 21 parts
 pub at-most-21 : (l : List ℕ) {x : DateTime} {t : ℕ} → length l ≤ 64 → dateTimeOf l ≡ is x t → sizeTree x ≤ 21

@@ -1,9 +1,10 @@
 -- `DateTime::parse`, alternatives in the text's order.
-use Prim.Native.Nat.{ℕ, zero, suc, _+_}
+use Prim.Native.Nat.{ℕ, _+_}
 use mathlib.Core.Bool.{Bool, true, false, _||_}
 use mathlib.Core.List.{List}
-use lib.ListN.{length, drop}
+use lib.ListN.{drop}
 use Rattle.lexer.specs.Lexemes as lexeme
+use Rattle.numbers.specs.Again.{again}
 use Rattle.numbers.specs.Slices.{isAt, oneIf}
 use Rattle.dates.specs.Parsed.{Parsed, is, nothing, pick, ifLet, andThen}
 use Rattle.dates.specs.Durations.{Duration, durationOf}
@@ -63,11 +64,6 @@ againOf D l (link back dur) t = andThen (D (drop t l)) (λ x u. is (around back 
 unfoldable pub dateTimeStep : (List ℕ → Parsed DateTime) → List ℕ → Parsed DateTime
 dateTimeStep D l = andThen (turnOf l) (againOf D l)
 
--- at most n turns
-unfoldable pub dateTimeIn : ℕ → List ℕ → Parsed DateTime
-dateTimeIn zero l = nothing
-dateTimeIn (suc n) l = dateTimeStep (dateTimeIn n) l
-
--- the lexemes left fall at each turn, so their number is enough: `date-time-is` says that dateTimeOf l ≡ dateTimeStep dateTimeOf l
+-- `DateTime::parse`, which calls itself behind a link (`date-time-is`: dateTimeOf l ≡ dateTimeStep dateTimeOf l)
 unfoldable pub dateTimeOf : List ℕ → Parsed DateTime
-dateTimeOf l = dateTimeIn (suc (length l)) l
+dateTimeOf l = again nothing dateTimeStep l
