@@ -6,3 +6,4 @@ pub mod ExprAnswers
 pub mod TurnAnswers
 pub mod Refusals
 pub mod Read
+pub mod Cases
