@@ -16,6 +16,7 @@ use Rattle.phrase.specs.Tree.{DateExpr, date, dateRelative, dateExpressi
 use Rattle.phrase.specs.Flat.{shape, intoExpr, linkedParts, flatFrom, flat, blank, durationFrom, rowDuration, exprFrom, baseFrom, linksFrom, treeOf, sizeExpr, sizeTree}
 use Rattle.phrase.specs.declared.reading.Link.{Link}
 use Rattle.phrase.specs.declared.reading.Reading.{Reading}
+use Rattle.phrase.proofs.Few.{into-expr-n}
 
 -- the parts of a duration as a row of their own
 abbrev slots : Duration → List Slot
@@ -163,24 +164,10 @@ tree-back now r h = refl
 pub decoded : (x : DateTime) → sizeTree x ≤ 21 → treeOf (flat x) ≡ x
 decoded x h = tree-back x blank (record { parts = omega arith; links = omega arith })
 
-expr-count : (e : DateExpr) (ps : Parts) → intoExpr e ps .n ≡ ps .n + sizeExpr e
-expr-count (date d) ps = omega arith
-expr-count (dateRelative d s u) ps = omega arith
-expr-count (dateExpressionAfter d dur) ps = into-n dur ps
-expr-count (dateExpressionBefore d dur) ps = into-n dur ps
-expr-count (unitRelative s u) ps = omega arith
-expr-count (relativeWeekday s w) ps = omega arith
-expr-count (weekdayRelative w s u) ps = omega arith
-expr-count (weekdayExpressionBefore w dur) ps = into-n dur ps
-expr-count (before dur d) ps = into-n dur ps
-expr-count (after dur d) ps = into-n dur ps
-expr-count (weekday w) ps = omega arith
-expr-count empty ps = omega arith
-
 -- a reading has the parts of its tree behind those that were there
 pub tree-count : (x : DateTime) (r : Reading) → flatFrom r x .parts .n ≡ r .parts .n + sizeTree x
-tree-count (dateTime e t) r = expr-count e (r .parts)
-tree-count (timeDate t e) r = expr-count e (r .parts)
+tree-count (dateTime e t) r = into-expr-n e (r .parts)
+tree-count (timeDate t e) r = into-expr-n e (r .parts)
 tree-count (durationAfter dur x) r =
     let a = tree-count x (linkedParts false (into dur (r .parts)) r) in
     let b = into-n dur (r .parts) in

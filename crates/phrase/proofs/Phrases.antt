@@ -95,27 +95,27 @@ numbered ws s = go (leb (length s) 256)
     go true = numbered-from ws 64 s 0
     go false = omega arith
 
--- the lexemes from the code's arrays, which are filled up
-module _ (items : List Item) (n : ℕ) where
-  starts-filled : (x : Parsed DateTime) →
-      readCodes x (length items) (filled (startsOf items)) n ≡ readCodes x (length items) (startsOf items) n
-  starts-filled (is x t) = go (ltb t (length items)) refl
-    where
-      go : (b : Bool) → ltb t (length items) ≡ b →
-          cond b (refusal LexemesLeft (getD (filled (startsOf items)) t 0) n) (tree x t)
-          ≡ cond b (refusal LexemesLeft (getD (startsOf items) t 0) n) (tree x t)
-      go true e =
-          let below = ltb-true t (length items) e in
-          let starts = length-map items (λ (i : Item). i .start) in
-          rw (filled-at (startsOf items) t (omega arith))
-      go false e = refl
-  starts-filled nothing = refl
-  starts-filled overflow = refl
+-- the place of a lexeme from the code's array, which is filled up
+start-filled : (items : List Item) (t : ℕ) → t < length items → getD (filled (startsOf items)) t 0 ≡ getD (startsOf items) t 0
+start-filled items t h = let same = length-map items (λ (i : Item). i .start) in filled-at (startsOf items) t (omega arith)
 
-  line-read : readLine (lineOf (whole items)) n ≡ readLexed (whole items) n
-  line-read =
-      rw (filled-taken (codesOf items) (length items) (length-map items (λ (i : Item). i .code)))
-      (starts-filled (dateTimeOf (codesOf items)))
+starts-filled : (items : List Item) (n : ℕ) (x : Parsed DateTime) →
+    readCodes x (length items) (filled (startsOf items)) n ≡ readCodes x (length items) (startsOf items) n
+starts-filled items n (is x t) = go (ltb t (length items)) refl
+  where
+    go : (b : Bool) → ltb t (length items) ≡ b →
+        cond b (refusal LexemesLeft (getD (filled (startsOf items)) t 0) n) (tree x t)
+        ≡ cond b (refusal LexemesLeft (getD (startsOf items) t 0) n) (tree x t)
+    go true e = rw (start-filled items t (ltb-true t (length items) e))
+    go false e = refl
+starts-filled items n nothing = refl
+starts-filled items n overflow = refl
+
+-- the lexemes from the code's arrays are read as the lexemes themselves
+line-read : (items : List Item) (n : ℕ) → readLine (lineOf (whole items)) n ≡ readLexed (whole items) n
+line-read items n =
+    rw (filled-taken (codesOf items) (length items) (length-map items (λ (i : Item). i .code)))
+    (starts-filled items n (dateTimeOf (codesOf items)))
 
 -- a line of number 0 holds all the lexemes, any other a refusal
 line-whole : (w : Lexed) (n : ℕ) → Numbered w → lineOf w .number ≡ 0 → readLine (lineOf w) n ≡ readLexed w n
@@ -141,19 +141,22 @@ abbrev Within : ℕ → ReadPhrase → Type 0
 Within n (refusal k a e) = (a ≤ e) × (e ≤ n)
 Within n (tree x t) = Unit {0}
 
-module _ (items : List Item) (n : ℕ) (placed : Placed n (lineOf (whole items))) where
-  codes-within : (x : Parsed DateTime) → Within n (readCodes x (length items) (filled (startsOf items)) n)
-  codes-within (is x t) = go (ltb t (length items)) refl
-    where
-      go : (b : Bool) → ltb t (length items) ≡ b → Within n (cond b (refusal LexemesLeft (getD (filled (startsOf items)) t 0) n) (tree x t))
-      go true e = let below = placed .start-below t (ltb-true t (length items) e) in omega arith
-      go false e = tt
-  codes-within nothing = omega arith
-  codes-within overflow = omega arith
+codes-within : (items : List Item) (n : ℕ) → Placed n (lineOf (whole items)) → (x : Parsed DateTime) →
+    Within n (readCodes x (length items) (startsOf items) n)
+codes-within items n placed (is x t) = go (ltb t (length items)) refl
+  where
+    go : (b : Bool) → ltb t (length items) ≡ b → Within n (cond b (refusal LexemesLeft (getD (startsOf items) t 0) n) (tree x t))
+    go true e =
+        let below = ltb-true t (length items) e in
+        let start = rw (start-filled items t below) at (placed .start-below t below) in
+        omega arith
+    go false e = tt
+codes-within items n placed nothing = omega arith
+codes-within items n placed overflow = omega arith
 
 lexed-within : (w : Lexed) (n : ℕ) → Placed n (lineOf w) → Within n (readLexed w n)
 lexed-within (refused k a e) n p = (p .place-end, p .end-most)
-lexed-within (whole items) n p = rw (← (line-read items n)) (rw (filled-taken (codesOf items) (length items) (length-map items (λ (i : Item). i .code))) (codes-within items n p (dateTimeOf (codesOf items))))
+lexed-within (whole items) n p = codes-within items n p (dateTimeOf (codesOf items))
 
 read-within : (s : List ℕ) → Within (length s) (readOf keywords s)
 unfolding readOf

@@ -19,7 +19,7 @@ pub data ReadPhrase : Type 0 where
   refusal : ℕ → ℕ → ℕ → ReadPhrase
   tree : DateTime → ℕ → ReadPhrase
 
--- 5 and 6 have place 0 and no part; 7 has the place of the first of the count lexemes that is left, and its part goes to the phrase's end at n
+-- 5 and 6 have place 0 and no part; 7 has the place of the first of the count lexemes that is left, and its part goes on to the end at n
 abbrev pub readCodes : Parsed DateTime → ℕ → List ℕ → ℕ → ReadPhrase
 readCodes (is x t) count starts n = cond (ltb t count) (refusal LexemesLeft (getD starts t 0) n) (tree x t)
 readCodes nothing count starts n = refusal NothingRead 0 0

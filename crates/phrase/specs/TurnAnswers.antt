@@ -83,6 +83,7 @@ TurnBounds TurnOverflow q n = Unit
 pub record TurnCounted (x : TurnFound) (n : ℕ) : Type 0 where
   pub bounds : TurnBounds (x .turn) (x .reading) n
 
+-- the bounds of a count
 abbrev pub CountBounds : Count → ℕ → Type 0
 CountBounds (Is t) n = (1 ≤ t) × (t ≤ n)
 CountBounds Nothing n = Unit
