@@ -1,19 +1,19 @@
 -- A flat reading stands for its tree: `treeOf (flat x) ≡ x` for every tree of at most 21 parts.
-use Prim.Native.Nat.{ℕ, zero, suc, _+_, _≤_, _<_}
+use Prim.Native.Nat.{ℕ, suc, _+_, _≤_, _<_}
 use native.Mathlib.Omega.{arith}
 use native.Mathlib.Numerals.{add-one}
-use mathlib.Core.Path.{_≡_, refl, ap, sym, _∙_}
+use mathlib.Core.Path.{_≡_, refl, ap, _∙_}
 use mathlib.Core.Bool.{Bool, true, false}
 use mathlib.Core.List.{List, [], _∷_, _++_, append-assoc}
-use lib.ListN.{length, take, drop, set, length-set, length-replicate}
-use lib.Seq.{slice, take-suc-set, take-set-le, take-take, drop-at, length-take-le}
+use lib.ListN.{length, take, drop, set, length-set}
+use lib.Seq.{slice, take-suc-set, take-set-le, drop-at, length-take-le}
 use Rattle.dates.specs.Durations.{Duration, part, concat, into, size, pushed}
 use Rattle.dates.specs.declared.duration.Part.{Part}
 use Rattle.dates.specs.declared.duration.Parts.{Parts}
 use Rattle.dates.specs.declared.duration.Slot.{Slot}
 use Rattle.dates.proofs.Durations.{into-n}
 use Rattle.phrase.specs.Tree.{DateExpr, date, dateRelative, dateExpressionAfter, dateExpressionBefore, unitRelative, relativeWeekday, weekdayRelative, weekdayExpressionBefore, before, after, weekday, empty, DateTime, dateTime, timeDate, durationAfter, durationBefore, now, around}
-use Rattle.phrase.specs.Flat.{shape, intoExpr, linkedParts, flatFrom, flat, blank, durationFrom, rowDuration, exprFrom, baseFrom, linksFrom, treeOf, sizeExpr, sizeTree}
+use Rattle.phrase.specs.Flat.{shape, intoExpr, linkedParts, flatFrom, flat, blank, rowDuration, exprFrom, linksFrom, treeOf, sizeExpr, sizeTree}
 use Rattle.phrase.specs.declared.reading.Link.{Link}
 use Rattle.phrase.specs.declared.reading.Reading.{Reading}
 use Rattle.phrase.proofs.Few.{into-expr-n}

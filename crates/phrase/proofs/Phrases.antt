@@ -1,7 +1,7 @@
 -- A phrase read whole: what reading takes of lexing, where the offending part stands, and what a reading stands for.
 use Prim.Native.Nat.{ℕ, zero, suc, _+_, _≤_, _<_}
 use native.Mathlib.Omega.{arith}
-use mathlib.Core.Path.{_≡_, refl, ap, sym, _∙_}
+use mathlib.Core.Path.{_≡_, refl}
 use mathlib.Core.Bool.{Bool, true, false, cond}
 use mathlib.Core.List.{List}
 use lib.Dec.{eqb, leb, ltb}
@@ -10,9 +10,9 @@ use borrow.Author.Tests.{ltb-true, ltb-false}
 use Rattle.lexer.specs.Words.{Word, meaning, folded}
 use Rattle.lexer.specs.Keywords.{keywords}
 use Rattle.lexer.specs.Classes.{Gap, Letter, Digit, Mark, classOf, markOf}
-use Rattle.lexer.specs.Refusals.{TooLong, Meaningless, TooMany}
-use Rattle.lexer.specs.Lex.{runEnd, between, valueFrom, numberOf, ofWord, wordAt, numberAt, tokenOf, tokenFrom, tokenAt, ifTaken}
-use Rattle.lexer.specs.Lex.{Item, item, Lexed, refused, whole, ahead, lexFrom, lexed, codesOf, startsOf, filled, lineOf, Placed}
+use Rattle.lexer.specs.Refusals.{TooLong, Meaningless}
+use Rattle.lexer.specs.Lex.{runEnd, between, valueFrom, numberOf, ofWord, wordAt, numberAt, tokenOf, tokenAt, ifTaken}
+use Rattle.lexer.specs.Lex.{Item, Lexed, refused, whole, ahead, lexFrom, lexed, codesOf, startsOf, filled, lineOf, Placed}
 use Rattle.lexer.specs.declared.find.Found.{Found}
 use Rattle.lexer.specs.declared.find.Found.the-variants.{Lexeme, Unknown}
 use Rattle.lexer.specs.declared.lex.Line.{Line}
@@ -23,7 +23,7 @@ use Rattle.lexer.proofs.Places.{answered}
 use Rattle.dates.specs.Parsed.{Parsed, is, nothing, overflow}
 use Rattle.phrase.specs.Tree.{DateTime}
 use Rattle.phrase.specs.DateTimes.{dateTimeOf}
-use Rattle.phrase.specs.Flat.{flat, blank, treeOf, sizeTree}
+use Rattle.phrase.specs.Flat.{blank, treeOf}
 use Rattle.phrase.specs.Refusals.{LexemesLeft}
 use Rattle.phrase.specs.Read.{ReadPhrase, refusal, tree, readCodes, readLexed, readOf, phraseAnswer, readLine, placeOf, offendingOf}
 use Rattle.phrase.specs.declared.read.PhraseRead.{PhraseRead}

@@ -1,5 +1,5 @@
 -- `dateTimeOf` is what it says it is: behind a link a datetime is read as `dateTimeOf` reads it, since the lexemes left fall at each turn.
-use Prim.Native.Nat.{ℕ, zero, suc, _+_, _≤_, _<_}
+use Prim.Native.Nat.{ℕ, zero, suc, _≤_, _<_}
 use native.Mathlib.Omega.{arith}
 use mathlib.Core.Path.{_≡_, refl}
 use mathlib.Core.List.{List}

@@ -1,13 +1,11 @@
 -- The flat reading that stands for a tree: links, outermost first, and the base; their durations are rows of parts, one behind the other.
-use Prim.Native.Nat.{ℕ, suc, _+_, _≤_, _<_, _*_}
+use Prim.Native.Nat.{ℕ, _+_}
 use mathlib.Core.Path.{_≡_}
 use mathlib.Core.Bool.{Bool, true, false}
 use mathlib.Core.List.{List, [], _∷_}
 use lib.ListN.{set, take, replicate}
 use lib.Seq.{slice}
-use Rattle.dates.specs.Parsed.{Parsed, is, nothing, overflow}
 use Rattle.dates.specs.Durations.{Duration, part, concat, into, size}
-use Rattle.dates.specs.declared.date.Date.{Date}
 use Rattle.dates.specs.declared.duration.Part.the-variants.{Article}
 use Rattle.dates.specs.declared.duration.Parts.{Parts}
 use Rattle.dates.specs.declared.duration.Slot.{Slot}

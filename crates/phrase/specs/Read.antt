@@ -1,5 +1,5 @@
 -- A phrase read whole: refusals 1 to 7 in their order, or the tree.
-use Prim.Native.Nat.{ℕ, _+_}
+use Prim.Native.Nat.{ℕ}
 use mathlib.Core.Bool.{cond}
 use mathlib.Core.List.{List}
 use lib.Dec.{ltb}

@@ -25,7 +25,7 @@ use numbers::slices::rest;
 use numbers::slices::take_if;
 ghost use mathlib.Core.Path.{_≡_};
 ghost use mathlib.Core.Bool.{_||_};
-ghost use Prim.Native.Nat.{_+_, _*_, _≤_, _<_, max};
+ghost use Prim.Native.Nat.{_+_, _≤_, _<_, max};
 ghost use lib.ListN.{length};
 ghost use Rattle.lexer.specs.Lexemes.{Comma};
 ghost use Rattle.numbers.specs.Slices.{isAt, oneIf};
