@@ -1,7 +1,7 @@
 -- A phrase read whole: what reading takes of lexing, where the offending part stands, and what a reading stands for.
 use Prim.Native.Nat.{ℕ, zero, suc, _+_, _≤_, _<_}
 use native.Mathlib.Omega.{arith}
-use mathlib.Core.Path.{_≡_, refl}
+use mathlib.Core.Path.{_≡_, refl, ap, sym}
 use mathlib.Core.Bool.{Bool, true, false, cond}
 use mathlib.Core.List.{List}
 use lib.Dec.{eqb, leb, ltb}
@@ -23,7 +23,7 @@ use Rattle.lexer.proofs.Places.{answered}
 use Rattle.dates.specs.Parsed.{Parsed, is, nothing, overflow}
 use Rattle.phrase.specs.Tree.{DateTime}
 use Rattle.phrase.specs.DateTimes.{dateTimeOf}
-use Rattle.phrase.specs.Flat.{blank, treeOf}
+use Rattle.phrase.specs.Flat.{flat, blank, treeOf}
 use Rattle.phrase.specs.Refusals.{LexemesLeft}
 use Rattle.phrase.specs.Read.{ReadPhrase, refusal, tree, readCodes, readLexed, readOf, phraseAnswer, readLine, placeOf, offendingOf}
 use Rattle.phrase.specs.declared.read.PhraseRead.{PhraseRead}
@@ -191,6 +191,7 @@ pub record ReadWhole (s : List ℕ) (r : PhraseRead) : Type 0 where
   pub lexemes : lexed keywords s ≡ whole items
   pub parsed : dateTimeOf (codesOf items) ≡ is (treeOf (r .reading)) (r .taken)
   pub all : r .taken ≡ length items
+  pub flattened : r .reading ≡ flat (treeOf (r .reading))
   pub few : r .reading .parts .n ≤ 21
 
 -- 1 to 7
@@ -222,6 +223,7 @@ module _ (s : List ℕ) (items : List Item) (lexemes : lexed keywords s ≡ whol
             lexemes = lexemes;
             parsed = rw (decoded x parts) e;
             all = omega arith;
+            flattened = sym (ap flat (decoded x parts));
             few = omega arith;
           }
   codes-settled nothing e = omega arith

@@ -1,7 +1,7 @@
 -- A phrase read whole: refusals 1 to 7 in their order, or the tree.
 use Prim.Native.Nat.{ℕ}
 use mathlib.Core.Bool.{cond}
-use mathlib.Core.List.{List}
+use mathlib.Core.List.{List, []}
 use lib.Dec.{ltb}
 use lib.ListN.{length, getD, take}
 use Rattle.lexer.specs.Words.{Word}
@@ -51,4 +51,4 @@ placeOf (tree x t) = 0
 -- "hand back the offending part": empty for refusals 1, 5 and 6 and where nothing is refused
 abbrev pub offendingOf : List ℕ → ReadPhrase → List ℕ
 offendingOf s (refusal k a e) = between s a e
-offendingOf s (tree x t) = between s 0 0
+offendingOf s (tree x t) = []
