@@ -122,7 +122,8 @@ line-whole : (w : Lexed) (n : ℕ) → Numbered w → lineOf w .number ≡ 0 →
 line-whole (refused k a e) n h z = absurd (omega arith)
 line-whole (whole items) n h z = line-read items n
 
-line-refused : (w : Lexed) (n : ℕ) → (lineOf w .number ≡ 0 → ⊥) → refusal (lineOf w .number) (lineOf w .place) (lineOf w .end) ≡ readLexed w n
+line-refused : (w : Lexed) (n : ℕ) → (lineOf w .number ≡ 0 → ⊥) →
+    refusal (lineOf w .number) (lineOf w .place) (lineOf w .end) ≡ readLexed w n
 line-refused (refused k a e) n h = refl
 line-refused (whole items) n h = absurd (h refl)
 
@@ -185,7 +186,7 @@ module _ (s : List ℕ) {r : PhraseRead} (answer : r ≡ phraseAnswer (readOf ke
   pub part-is : between s (r .place) (r .end) ≡ offendingOf s (readOf keywords s)
   part-is = rw answer (answer-part s (readOf keywords s))
 
--- a phrase that is read: its lexemes, all of them taken, and the tree that the reading stands for, which is the one that `DateTime::parse` gives
+-- a phrase that is read: its lexemes, all of them taken, and the tree that the reading stands for, as `DateTime::parse` gives it
 pub record ReadWhole (s : List ℕ) (r : PhraseRead) : Type 0 where
   pub items : List Item
   pub lexemes : lexed keywords s ≡ whole items
@@ -203,7 +204,8 @@ Settled s (refusal k a e) = OneToSeven k
 Settled s (tree x t) = ReadWhole s (phraseAnswer (tree x t))
 
 module _ (s : List ℕ) (items : List Item) (lexemes : lexed keywords s ≡ whole items) (most : length items ≤ 64) where
-  codes-settled : (w : Parsed DateTime) → dateTimeOf (codesOf items) ≡ w → Settled s (readCodes w (length items) (startsOf items) (length s))
+  codes-settled : (w : Parsed DateTime) → dateTimeOf (codesOf items) ≡ w →
+      Settled s (readCodes w (length items) (startsOf items) (length s))
   codes-settled (is x t) e = go (ltb t (length items)) refl
     where
       codes : length (codesOf items) ≡ length items
@@ -229,7 +231,8 @@ module _ (s : List ℕ) (items : List Item) (lexemes : lexed keywords s ≡ whol
   codes-settled nothing e = omega arith
   codes-settled overflow e = omega arith
 
-lexed-settled : (s : List ℕ) (w : Lexed) → lexed keywords s ≡ w → Numbered w → Placed (length s) (lineOf w) → Settled s (readLexed w (length s))
+lexed-settled : (s : List ℕ) (w : Lexed) → lexed keywords s ≡ w → Numbered w → Placed (length s) (lineOf w) →
+    Settled s (readLexed w (length s))
 lexed-settled s (refused k a e) h n p = omega arith
 lexed-settled s (whole items) h n p = codes-settled s items h (p .count-most) (dateTimeOf (codesOf items)) refl
 

@@ -13,7 +13,8 @@ use Rattle.phrase.proofs.Few.{Few, sizeTurn, turn-few}
 Agree : (List ℕ → Parsed DateTime) → (List ℕ → Parsed DateTime) → ℕ → Type 0
 Agree D E n = (l : List ℕ) → length l < n → D l ≡ E l
 
-again-agree : (D E : List ℕ → Parsed DateTime) (l : List ℕ) (x : Turn) (t : ℕ) → 1 ≤ t → t ≤ length l → Agree D E (length l) → againOf D l x t ≡ againOf E l x t
+again-agree : (D E : List ℕ → Parsed DateTime) (l : List ℕ) (x : Turn) (t : ℕ) → 1 ≤ t → t ≤ length l → Agree D E (length l) →
+    againOf D l x t ≡ againOf E l x t
 unfolding Agree
 again-agree D E l (whole x) t a b agree = refl
 again-agree D E l (link back dur) t a b agree = rw (agree (drop t l) (let left = length-drop t l in omega arith))

@@ -14,15 +14,18 @@ use Rattle.numbers.specs.Numbers.{isEnding, wordOf, literalOf, onesOf, teensOf,
 use Rattle.numbers.specs.Numbers.{tailOf as numTailOf, numTripleOf, numTripleUnitOf, unitsOf, numStep, numIn, numOf}
 use Rattle.dates.specs.Units.{isArticle, unitOf, monthOf, weekdayOf, relativeSpecifierOf}
 use Rattle.dates.specs.Durations.{part, specificOf, articleOf, concreteOf, durationStep, durationIn, durationOf}
-use Rattle.dates.specs.Dates.{namedDayOf, dayMonthYearOf, monthDayOf, isDelim, threeNumbersOf, twoNumbersOf, behindSecondOf, delimitedOf, dateOf}
+use Rattle.dates.specs.Dates.{namedDayOf, dayMonthYearOf, monthDayOf, isDelim, threeNumbersOf, twoNumbersOf, behindSecondOf, delimitedOf}
+use Rattle.dates.specs.Dates.{dateOf}
 use Rattle.dates.specs.Times.{minuteOf, halfOf, clockOf, timeOf}
 use Rattle.dates.specs.declared.units.Unit.the-variants.{Day, Hour}
 use Rattle.dates.specs.declared.units.RelativeSpecifier.the-variants.{Next}
 use Rattle.dates.specs.declared.duration.Part.the-variants.{Article, Specific}
 use Rattle.dates.specs.declared.date.Date.the-variants.{Today, Tomorrow, Empty as NoDate}
 use Rattle.dates.specs.declared.time.Time.the-variants.{HourMin, HourMinPM, Empty as NoTime}
-use Rattle.phrase.specs.Tree.{date, relativeWeekday, before, after, weekday, empty, dateTime, timeDate, durationAfter, durationBefore, now}
-use Rattle.phrase.specs.DateExprs.{inTailOf, durationTailOf, tailOf, withDurationOf, relativeExprOf, weekdayExprOf, undatedOf, dateExprOf}
+use Rattle.phrase.specs.Tree.{date, relativeWeekday, before, after, weekday, empty, dateTime, timeDate, durationAfter}
+use Rattle.phrase.specs.Tree.{durationBefore, now}
+use Rattle.phrase.specs.DateExprs.{inTailOf, durationTailOf, tailOf, withDurationOf, relativeExprOf, weekdayExprOf, undatedOf}
+use Rattle.phrase.specs.DateExprs.{dateExprOf}
 use Rattle.phrase.specs.DateTimes.{withExprOf, withDurationOf as durationTurnOf, withTimeOf, timedTurnOf, undatedTurnOf, turnOf}
 use Rattle.phrase.specs.DateTimes.{dateTimeStep, dateTimeIn, dateTimeOf}
 use Rattle.phrase.specs.Refusals.{NothingRead, SumTooLarge, LexemesLeft}

@@ -12,9 +12,13 @@ use Rattle.dates.specs.declared.duration.Slot.{Slot}
 use Rattle.dates.specs.declared.time.Time.{Time}
 use Rattle.dates.specs.declared.time.Time.the-variants.{Empty as NoTime}
 use Rattle.dates.specs.declared.units.Unit.the-variants.{Day}
-use Rattle.phrase.specs.Tree.{DateExpr, date, dateRelative, dateExpressionAfter, dateExpressionBefore, unitRelative, relativeWeekday, weekdayRelative, weekdayExpressionBefore, before, after, weekday, empty, DateTime, dateTime, timeDate, durationAfter, durationBefore, now, around}
+use Rattle.phrase.specs.Tree.{DateExpr, date, dateRelative, dateExpressionAfter, dateExpressionBefore, unitRelative}
+use Rattle.phrase.specs.Tree.{relativeWeekday, weekdayRelative, weekdayExpressionBefore, before, after, weekday, empty, DateTime}
+use Rattle.phrase.specs.Tree.{dateTime, timeDate, durationAfter, durationBefore, now, around}
 use Rattle.phrase.specs.declared.reading.Expr.{Expr}
-use Rattle.phrase.specs.declared.reading.Expr.the-variants.{Date as Dated, DateRelative, DateExpressionAfter, DateExpressionBefore, UnitRelative, RelativeWeekday, WeekdayRelative, WeekdayExpressionBefore, Before, After, Weekday, Empty}
+use Rattle.phrase.specs.declared.reading.Expr.the-variants.{Date as Dated, DateRelative, DateExpressionAfter, DateExpressionBefore}
+use Rattle.phrase.specs.declared.reading.Expr.the-variants.{UnitRelative, RelativeWeekday, WeekdayRelative, WeekdayExpressionBefore}
+use Rattle.phrase.specs.declared.reading.Expr.the-variants.{Before, After, Weekday, Empty}
 use Rattle.phrase.specs.declared.reading.Base.{Base}
 use Rattle.phrase.specs.declared.reading.Base.the-variants.{Now, DateTime as DatedBase, TimeDate as TimedBase}
 use Rattle.phrase.specs.declared.reading.Link.{Link}
