@@ -1,21 +1,25 @@
 -- A flat reading stands for its tree: `treeOf (flat x) ≡ x` for every tree of at most 21 parts.
-use Prim.Native.Nat.{ℕ, zero, suc, _+_, _≤_, _<_}
+use Prim.Native.Nat.{ℕ, suc, _+_, _≤_, _<_}
 use native.Mathlib.Omega.{arith}
 use native.Mathlib.Numerals.{add-one}
-use mathlib.Core.Path.{_≡_, refl, ap, sym, _∙_}
+use mathlib.Core.Path.{_≡_, refl, ap, _∙_}
 use mathlib.Core.Bool.{Bool, true, false}
 use mathlib.Core.List.{List, [], _∷_, _++_, append-assoc}
-use lib.ListN.{length, take, drop, set, length-set, length-replicate}
-use lib.Seq.{slice, take-suc-set, take-set-le, take-take, drop-at, length-take-le}
+use lib.ListN.{length, take, drop, set, length-set}
+use lib.Seq.{slice, take-suc-set, take-set-le, drop-at, length-take-le}
 use Rattle.dates.specs.Durations.{Duration, part, concat, into, size, pushed}
 use Rattle.dates.specs.declared.duration.Part.{Part}
 use Rattle.dates.specs.declared.duration.Parts.{Parts}
 use Rattle.dates.specs.declared.duration.Slot.{Slot}
 use Rattle.dates.proofs.Durations.{into-n}
-use Rattle.phrase.specs.Tree.{DateExpr, date, dateRelative, dateExpressionAfter, dateExpressionBefore, unitRelative, relativeWeekday, weekdayRelative, weekdayExpressionBefore, before, after, weekday, empty, DateTime, dateTime, timeDate, durationAfter, durationBefore, now, around}
-use Rattle.phrase.specs.Flat.{shape, intoExpr, linkedParts, flatFrom, flat, blank, durationFrom, rowDuration, exprFrom, baseFrom, linksFrom, treeOf, sizeExpr, sizeTree}
+use Rattle.phrase.specs.Tree.{DateExpr, date, dateRelative, dateExpressionAfter, dateExpressionBefore, unitRelative}
+use Rattle.phrase.specs.Tree.{relativeWeekday, weekdayRelative, weekdayExpressionBefore, before, after, weekday, empty, DateTime}
+use Rattle.phrase.specs.Tree.{dateTime, timeDate, durationAfter, durationBefore, now, around}
+use Rattle.phrase.specs.Flat.{shape, intoExpr, linkedParts, flatFrom, flat, blank, rowDuration, exprFrom, linksFrom, treeOf}
+use Rattle.phrase.specs.Flat.{sizeExpr, sizeTree}
 use Rattle.phrase.specs.declared.reading.Link.{Link}
 use Rattle.phrase.specs.declared.reading.Reading.{Reading}
+use Rattle.phrase.proofs.Few.{into-expr-n}
 
 -- the parts of a duration as a row of their own
 abbrev slots : Duration → List Slot
@@ -43,11 +47,13 @@ into-length (part p) ps = length-set (ps .items) (ps .n) (record { part = p })
 into-length (concat p d) ps = into-length d (pushed ps p) ∙ length-set (ps .items) (ps .n) (record { part = p })
 
 -- one part more stands behind them
-push-row : (p : Part) (ps : Parts) → ps .n < length (ps .items) → take (pushed ps p .n) (pushed ps p .items) ≡ take (ps .n) (ps .items) ++ (record { part = p } ∷ [])
+push-row : (p : Part) (ps : Parts) → ps .n < length (ps .items) →
+    take (pushed ps p .n) (pushed ps p .items) ≡ take (ps .n) (ps .items) ++ (record { part = p } ∷ [])
 push-row p ps h = rw (add-one, take-suc-set (ps .items) (ps .n) (record { part = p }) h)
 
 -- and so do a duration's parts
-into-row : (d : Duration) (ps : Parts) → ps .n + size d ≤ length (ps .items) → take (into d ps .n) (into d ps .items) ≡ take (ps .n) (ps .items) ++ slots d
+into-row : (d : Duration) (ps : Parts) → ps .n + size d ≤ length (ps .items) →
+    take (into d ps .n) (into d ps .items) ≡ take (ps .n) (ps .items) ++ slots d
 into-row (part p) ps h = push-row p ps (omega arith)
 into-row (concat p d) ps h =
     let l = length-set (ps .items) (ps .n) (record { part = p }) in
@@ -57,7 +63,8 @@ into-row (concat p d) ps h =
 
 -- the duration that was put behind m parts is read back from any row that begins as this one
 module _ (d : Duration) (ps : Parts) (h : ps .n + size d ≤ length (ps .items)) where
-  pub put-back : (l : List Slot) → take (into d ps .n) l ≡ take (into d ps .n) (into d ps .items) → rowDuration (slice (ps .n) (into d ps .n) l) ≡ d
+  pub put-back : (l : List Slot) → take (into d ps .n) l ≡ take (into d ps .n) (into d ps .items) →
+      rowDuration (slice (ps .n) (into d ps .n) l) ≡ d
   put-back l e =
       ap (λ (r : List Slot). rowDuration (drop (ps .n) r)) (e ∙ into-row d ps h)
       ∙ ap rowDuration (drop-at (take (ps .n) (ps .items)) (slots d) (ps .n) (length-take-le (ps .n) (ps .items) (omega arith)))
@@ -88,7 +95,8 @@ tree-keeps (durationBefore dur x) r k h =
 tree-keeps now r k h = refl
 
 -- a date expression is read back
-expr-back : (e : DateExpr) (ps : Parts) → ps .n + sizeExpr e ≤ length (ps .items) → exprFrom (shape e) (rowDuration (slice (ps .n) (intoExpr e ps .n) (intoExpr e ps .items))) ≡ e
+expr-back : (e : DateExpr) (ps : Parts) → ps .n + sizeExpr e ≤ length (ps .items) →
+    exprFrom (shape e) (rowDuration (slice (ps .n) (intoExpr e ps .n) (intoExpr e ps .items))) ≡ e
 expr-back (date d) ps h = refl
 expr-back (dateRelative d s u) ps h = refl
 expr-back (dateExpressionAfter d dur) ps h = ap (dateExpressionAfter d) (put-back dur ps h (into dur ps .items) refl)
@@ -149,12 +157,15 @@ module _ (back : Bool) (dur : Duration) (x : DateTime) (r : Reading) where
       }
 
 -- what is read inside the links of a reading stands for the tree inside those links
-tree-back : (x : DateTime) (r : Reading) → Holds r (sizeTree x) → treeOf (flatFrom r x) ≡ linksFrom (take (r .m) (r .links)) (flatFrom r x .parts .items) x
+tree-back : (x : DateTime) (r : Reading) → Holds r (sizeTree x) →
+    treeOf (flatFrom r x) ≡ linksFrom (take (r .m) (r .links)) (flatFrom r x .parts .items) x
 unfolding treeOf inner all
 tree-back (dateTime e t) r h =
-    ap (λ (d : DateExpr). linksFrom (take (r .m) (r .links)) (intoExpr e (r .parts) .items) (dateTime d t)) (expr-back e (r .parts) (h .parts))
+    ap (λ (d : DateExpr). linksFrom (take (r .m) (r .links)) (intoExpr e (r .parts) .items) (dateTime d t))
+    (expr-back e (r .parts) (h .parts))
 tree-back (timeDate t e) r h =
-    ap (λ (d : DateExpr). linksFrom (take (r .m) (r .links)) (intoExpr e (r .parts) .items) (timeDate t d)) (expr-back e (r .parts) (h .parts))
+    ap (λ (d : DateExpr). linksFrom (take (r .m) (r .links)) (intoExpr e (r .parts) .items) (timeDate t d))
+    (expr-back e (r .parts) (h .parts))
 tree-back (durationAfter dur x) r h = tree-back x (inner false dur x r) (holds-inner false dur x r h) ∙ link-back false dur x r h
 tree-back (durationBefore dur x) r h = tree-back x (inner true dur x r) (holds-inner true dur x r h) ∙ link-back true dur x r h
 tree-back now r h = refl
@@ -163,24 +174,10 @@ tree-back now r h = refl
 pub decoded : (x : DateTime) → sizeTree x ≤ 21 → treeOf (flat x) ≡ x
 decoded x h = tree-back x blank (record { parts = omega arith; links = omega arith })
 
-expr-count : (e : DateExpr) (ps : Parts) → intoExpr e ps .n ≡ ps .n + sizeExpr e
-expr-count (date d) ps = omega arith
-expr-count (dateRelative d s u) ps = omega arith
-expr-count (dateExpressionAfter d dur) ps = into-n dur ps
-expr-count (dateExpressionBefore d dur) ps = into-n dur ps
-expr-count (unitRelative s u) ps = omega arith
-expr-count (relativeWeekday s w) ps = omega arith
-expr-count (weekdayRelative w s u) ps = omega arith
-expr-count (weekdayExpressionBefore w dur) ps = into-n dur ps
-expr-count (before dur d) ps = into-n dur ps
-expr-count (after dur d) ps = into-n dur ps
-expr-count (weekday w) ps = omega arith
-expr-count empty ps = omega arith
-
 -- a reading has the parts of its tree behind those that were there
 pub tree-count : (x : DateTime) (r : Reading) → flatFrom r x .parts .n ≡ r .parts .n + sizeTree x
-tree-count (dateTime e t) r = expr-count e (r .parts)
-tree-count (timeDate t e) r = expr-count e (r .parts)
+tree-count (dateTime e t) r = into-expr-n e (r .parts)
+tree-count (timeDate t e) r = into-expr-n e (r .parts)
 tree-count (durationAfter dur x) r =
     let a = tree-count x (linkedParts false (into dur (r .parts)) r) in
     let b = into-n dur (r .parts) in

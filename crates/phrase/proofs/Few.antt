@@ -219,7 +219,7 @@ expr-few l =
     (undated-few l)
 
 -- the row has as many parts more as the date expression
-into-expr-n : (x : DateExpr) (ps : Parts) → intoExpr x ps .n ≡ ps .n + sizeExpr x
+pub into-expr-n : (x : DateExpr) (ps : Parts) → intoExpr x ps .n ≡ ps .n + sizeExpr x
 into-expr-n (date d) ps = omega arith
 into-expr-n (dateRelative d s u) ps = omega arith
 into-expr-n (dateExpressionAfter d dur) ps = into-n dur ps

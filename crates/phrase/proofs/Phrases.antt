@@ -1,7 +1,7 @@
 -- A phrase read whole: what reading takes of lexing, where the offending part stands, and what a reading stands for.
 use Prim.Native.Nat.{ℕ, zero, suc, _+_, _≤_, _<_}
 use native.Mathlib.Omega.{arith}
-use mathlib.Core.Path.{_≡_, refl, ap, sym, _∙_}
+use mathlib.Core.Path.{_≡_, refl, ap, sym}
 use mathlib.Core.Bool.{Bool, true, false, cond}
 use mathlib.Core.List.{List}
 use lib.Dec.{eqb, leb, ltb}
@@ -10,9 +10,9 @@ use borrow.Author.Tests.{ltb-true, ltb-false}
 use Rattle.lexer.specs.Words.{Word, meaning, folded}
 use Rattle.lexer.specs.Keywords.{keywords}
 use Rattle.lexer.specs.Classes.{Gap, Letter, Digit, Mark, classOf, markOf}
-use Rattle.lexer.specs.Refusals.{TooLong, Meaningless, TooMany}
-use Rattle.lexer.specs.Lex.{runEnd, between, valueFrom, numberOf, ofWord, wordAt, numberAt, tokenOf, tokenFrom, tokenAt, ifTaken}
-use Rattle.lexer.specs.Lex.{Item, item, Lexed, refused, whole, ahead, lexFrom, lexed, codesOf, startsOf, filled, lineOf, Placed}
+use Rattle.lexer.specs.Refusals.{TooLong, Meaningless}
+use Rattle.lexer.specs.Lex.{runEnd, between, valueFrom, numberOf, ofWord, wordAt, numberAt, tokenOf, tokenAt, ifTaken}
+use Rattle.lexer.specs.Lex.{Item, Lexed, refused, whole, ahead, lexFrom, lexed, codesOf, startsOf, filled, lineOf, Placed}
 use Rattle.lexer.specs.declared.find.Found.{Found}
 use Rattle.lexer.specs.declared.find.Found.the-variants.{Lexeme, Unknown}
 use Rattle.lexer.specs.declared.lex.Line.{Line}
@@ -23,7 +23,7 @@ use Rattle.lexer.proofs.Places.{answered}
 use Rattle.dates.specs.Parsed.{Parsed, is, nothing, overflow}
 use Rattle.phrase.specs.Tree.{DateTime}
 use Rattle.phrase.specs.DateTimes.{dateTimeOf}
-use Rattle.phrase.specs.Flat.{flat, blank, treeOf, sizeTree}
+use Rattle.phrase.specs.Flat.{flat, blank, treeOf}
 use Rattle.phrase.specs.Refusals.{LexemesLeft}
 use Rattle.phrase.specs.Read.{ReadPhrase, refusal, tree, readCodes, readLexed, readOf, phraseAnswer, readLine, placeOf, offendingOf}
 use Rattle.phrase.specs.declared.read.PhraseRead.{PhraseRead}
@@ -95,34 +95,35 @@ numbered ws s = go (leb (length s) 256)
     go true = numbered-from ws 64 s 0
     go false = omega arith
 
--- the lexemes from the code's arrays, which are filled up
-module _ (items : List Item) (n : ℕ) where
-  starts-filled : (x : Parsed DateTime) →
-      readCodes x (length items) (filled (startsOf items)) n ≡ readCodes x (length items) (startsOf items) n
-  starts-filled (is x t) = go (ltb t (length items)) refl
-    where
-      go : (b : Bool) → ltb t (length items) ≡ b →
-          cond b (refusal LexemesLeft (getD (filled (startsOf items)) t 0) n) (tree x t)
-          ≡ cond b (refusal LexemesLeft (getD (startsOf items) t 0) n) (tree x t)
-      go true e =
-          let below = ltb-true t (length items) e in
-          let starts = length-map items (λ (i : Item). i .start) in
-          rw (filled-at (startsOf items) t (omega arith))
-      go false e = refl
-  starts-filled nothing = refl
-  starts-filled overflow = refl
+-- the place of a lexeme from the code's array, which is filled up
+start-filled : (items : List Item) (t : ℕ) → t < length items → getD (filled (startsOf items)) t 0 ≡ getD (startsOf items) t 0
+start-filled items t h = let same = length-map items (λ (i : Item). i .start) in filled-at (startsOf items) t (omega arith)
 
-  line-read : readLine (lineOf (whole items)) n ≡ readLexed (whole items) n
-  line-read =
-      rw (filled-taken (codesOf items) (length items) (length-map items (λ (i : Item). i .code)))
-      (starts-filled (dateTimeOf (codesOf items)))
+starts-filled : (items : List Item) (n : ℕ) (x : Parsed DateTime) →
+    readCodes x (length items) (filled (startsOf items)) n ≡ readCodes x (length items) (startsOf items) n
+starts-filled items n (is x t) = go (ltb t (length items)) refl
+  where
+    go : (b : Bool) → ltb t (length items) ≡ b →
+        cond b (refusal LexemesLeft (getD (filled (startsOf items)) t 0) n) (tree x t)
+        ≡ cond b (refusal LexemesLeft (getD (startsOf items) t 0) n) (tree x t)
+    go true e = rw (start-filled items t (ltb-true t (length items) e))
+    go false e = refl
+starts-filled items n nothing = refl
+starts-filled items n overflow = refl
+
+-- the lexemes from the code's arrays are read as the lexemes themselves
+line-read : (items : List Item) (n : ℕ) → readLine (lineOf (whole items)) n ≡ readLexed (whole items) n
+line-read items n =
+    rw (filled-taken (codesOf items) (length items) (length-map items (λ (i : Item). i .code)))
+    (starts-filled items n (dateTimeOf (codesOf items)))
 
 -- a line of number 0 holds all the lexemes, any other a refusal
 line-whole : (w : Lexed) (n : ℕ) → Numbered w → lineOf w .number ≡ 0 → readLine (lineOf w) n ≡ readLexed w n
 line-whole (refused k a e) n h z = absurd (omega arith)
 line-whole (whole items) n h z = line-read items n
 
-line-refused : (w : Lexed) (n : ℕ) → (lineOf w .number ≡ 0 → ⊥) → refusal (lineOf w .number) (lineOf w .place) (lineOf w .end) ≡ readLexed w n
+line-refused : (w : Lexed) (n : ℕ) → (lineOf w .number ≡ 0 → ⊥) →
+    refusal (lineOf w .number) (lineOf w .place) (lineOf w .end) ≡ readLexed w n
 line-refused (refused k a e) n h = refl
 line-refused (whole items) n h = absurd (h refl)
 
@@ -141,19 +142,22 @@ abbrev Within : ℕ → ReadPhrase → Type 0
 Within n (refusal k a e) = (a ≤ e) × (e ≤ n)
 Within n (tree x t) = Unit {0}
 
-module _ (items : List Item) (n : ℕ) (placed : Placed n (lineOf (whole items))) where
-  codes-within : (x : Parsed DateTime) → Within n (readCodes x (length items) (filled (startsOf items)) n)
-  codes-within (is x t) = go (ltb t (length items)) refl
-    where
-      go : (b : Bool) → ltb t (length items) ≡ b → Within n (cond b (refusal LexemesLeft (getD (filled (startsOf items)) t 0) n) (tree x t))
-      go true e = let below = placed .start-below t (ltb-true t (length items) e) in omega arith
-      go false e = tt
-  codes-within nothing = omega arith
-  codes-within overflow = omega arith
+codes-within : (items : List Item) (n : ℕ) → Placed n (lineOf (whole items)) → (x : Parsed DateTime) →
+    Within n (readCodes x (length items) (startsOf items) n)
+codes-within items n placed (is x t) = go (ltb t (length items)) refl
+  where
+    go : (b : Bool) → ltb t (length items) ≡ b → Within n (cond b (refusal LexemesLeft (getD (startsOf items) t 0) n) (tree x t))
+    go true e =
+        let below = ltb-true t (length items) e in
+        let start = rw (start-filled items t below) at (placed .start-below t below) in
+        omega arith
+    go false e = tt
+codes-within items n placed nothing = omega arith
+codes-within items n placed overflow = omega arith
 
 lexed-within : (w : Lexed) (n : ℕ) → Placed n (lineOf w) → Within n (readLexed w n)
 lexed-within (refused k a e) n p = (p .place-end, p .end-most)
-lexed-within (whole items) n p = rw (← (line-read items n)) (rw (filled-taken (codesOf items) (length items) (length-map items (λ (i : Item). i .code))) (codes-within items n p (dateTimeOf (codesOf items))))
+lexed-within (whole items) n p = codes-within items n p (dateTimeOf (codesOf items))
 
 read-within : (s : List ℕ) → Within (length s) (readOf keywords s)
 unfolding readOf
@@ -182,12 +186,13 @@ module _ (s : List ℕ) {r : PhraseRead} (answer : r ≡ phraseAnswer (readOf ke
   pub part-is : between s (r .place) (r .end) ≡ offendingOf s (readOf keywords s)
   part-is = rw answer (answer-part s (readOf keywords s))
 
--- a phrase that is read: its lexemes, all of them taken, and the tree that the reading stands for, which is the one that `DateTime::parse` gives
+-- a phrase that is read: its lexemes, all of them taken, and the tree that the reading stands for, as `DateTime::parse` gives it
 pub record ReadWhole (s : List ℕ) (r : PhraseRead) : Type 0 where
   pub items : List Item
   pub lexemes : lexed keywords s ≡ whole items
   pub parsed : dateTimeOf (codesOf items) ≡ is (treeOf (r .reading)) (r .taken)
   pub all : r .taken ≡ length items
+  pub flattened : r .reading ≡ flat (treeOf (r .reading))
   pub few : r .reading .parts .n ≤ 21
 
 -- 1 to 7
@@ -199,7 +204,8 @@ Settled s (refusal k a e) = OneToSeven k
 Settled s (tree x t) = ReadWhole s (phraseAnswer (tree x t))
 
 module _ (s : List ℕ) (items : List Item) (lexemes : lexed keywords s ≡ whole items) (most : length items ≤ 64) where
-  codes-settled : (w : Parsed DateTime) → dateTimeOf (codesOf items) ≡ w → Settled s (readCodes w (length items) (startsOf items) (length s))
+  codes-settled : (w : Parsed DateTime) → dateTimeOf (codesOf items) ≡ w →
+      Settled s (readCodes w (length items) (startsOf items) (length s))
   codes-settled (is x t) e = go (ltb t (length items)) refl
     where
       codes : length (codesOf items) ≡ length items
@@ -219,12 +225,14 @@ module _ (s : List ℕ) (items : List Item) (lexemes : lexed keywords s ≡ whol
             lexemes = lexemes;
             parsed = rw (decoded x parts) e;
             all = omega arith;
+            flattened = sym (ap flat (decoded x parts));
             few = omega arith;
           }
   codes-settled nothing e = omega arith
   codes-settled overflow e = omega arith
 
-lexed-settled : (s : List ℕ) (w : Lexed) → lexed keywords s ≡ w → Numbered w → Placed (length s) (lineOf w) → Settled s (readLexed w (length s))
+lexed-settled : (s : List ℕ) (w : Lexed) → lexed keywords s ≡ w → Numbered w → Placed (length s) (lineOf w) →
+    Settled s (readLexed w (length s))
 lexed-settled s (refused k a e) h n p = omega arith
 lexed-settled s (whole items) h n p = codes-settled s items h (p .count-most) (dateTimeOf (codesOf items)) refl
 

@@ -1,22 +1,24 @@
 -- The flat reading that stands for a tree: links, outermost first, and the base; their durations are rows of parts, one behind the other.
-use Prim.Native.Nat.{ℕ, suc, _+_, _≤_, _<_, _*_}
+use Prim.Native.Nat.{ℕ, _+_}
 use mathlib.Core.Path.{_≡_}
 use mathlib.Core.Bool.{Bool, true, false}
 use mathlib.Core.List.{List, [], _∷_}
 use lib.ListN.{set, take, replicate}
 use lib.Seq.{slice}
-use Rattle.dates.specs.Parsed.{Parsed, is, nothing, overflow}
 use Rattle.dates.specs.Durations.{Duration, part, concat, into, size}
-use Rattle.dates.specs.declared.date.Date.{Date}
 use Rattle.dates.specs.declared.duration.Part.the-variants.{Article}
 use Rattle.dates.specs.declared.duration.Parts.{Parts}
 use Rattle.dates.specs.declared.duration.Slot.{Slot}
 use Rattle.dates.specs.declared.time.Time.{Time}
 use Rattle.dates.specs.declared.time.Time.the-variants.{Empty as NoTime}
 use Rattle.dates.specs.declared.units.Unit.the-variants.{Day}
-use Rattle.phrase.specs.Tree.{DateExpr, date, dateRelative, dateExpressionAfter, dateExpressionBefore, unitRelative, relativeWeekday, weekdayRelative, weekdayExpressionBefore, before, after, weekday, empty, DateTime, dateTime, timeDate, durationAfter, durationBefore, now, around}
+use Rattle.phrase.specs.Tree.{DateExpr, date, dateRelative, dateExpressionAfter, dateExpressionBefore, unitRelative}
+use Rattle.phrase.specs.Tree.{relativeWeekday, weekdayRelative, weekdayExpressionBefore, before, after, weekday, empty, DateTime}
+use Rattle.phrase.specs.Tree.{dateTime, timeDate, durationAfter, durationBefore, now, around}
 use Rattle.phrase.specs.declared.reading.Expr.{Expr}
-use Rattle.phrase.specs.declared.reading.Expr.the-variants.{Date as Dated, DateRelative, DateExpressionAfter, DateExpressionBefore, UnitRelative, RelativeWeekday, WeekdayRelative, WeekdayExpressionBefore, Before, After, Weekday, Empty}
+use Rattle.phrase.specs.declared.reading.Expr.the-variants.{Date as Dated, DateRelative, DateExpressionAfter, DateExpressionBefore}
+use Rattle.phrase.specs.declared.reading.Expr.the-variants.{UnitRelative, RelativeWeekday, WeekdayRelative, WeekdayExpressionBefore}
+use Rattle.phrase.specs.declared.reading.Expr.the-variants.{Before, After, Weekday, Empty}
 use Rattle.phrase.specs.declared.reading.Base.{Base}
 use Rattle.phrase.specs.declared.reading.Base.the-variants.{Now, DateTime as DatedBase, TimeDate as TimedBase}
 use Rattle.phrase.specs.declared.reading.Link.{Link}

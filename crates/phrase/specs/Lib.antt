@@ -1,8 +1,10 @@
 pub mod Tree
 pub mod DateExprs
+pub mod ExprCases
 pub mod DateTimes
 pub mod Flat
 pub mod ExprAnswers
 pub mod TurnAnswers
 pub mod Refusals
 pub mod Read
+pub mod Cases

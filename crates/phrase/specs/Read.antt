@@ -1,7 +1,7 @@
 -- A phrase read whole: refusals 1 to 7 in their order, or the tree.
-use Prim.Native.Nat.{ℕ, _+_}
+use Prim.Native.Nat.{ℕ}
 use mathlib.Core.Bool.{cond}
-use mathlib.Core.List.{List}
+use mathlib.Core.List.{List, []}
 use lib.Dec.{ltb}
 use lib.ListN.{length, getD, take}
 use Rattle.lexer.specs.Words.{Word}
@@ -19,7 +19,7 @@ pub data ReadPhrase : Type 0 where
   refusal : ℕ → ℕ → ℕ → ReadPhrase
   tree : DateTime → ℕ → ReadPhrase
 
--- 5 and 6 have place 0 and no part; 7 has the place of the first of the count lexemes that is left, and its part goes to the phrase's end at n
+-- 5 and 6 have place 0 and no part; 7 has the place of the first of the count lexemes that is left, and its part goes on to the end at n
 abbrev pub readCodes : Parsed DateTime → ℕ → List ℕ → ℕ → ReadPhrase
 readCodes (is x t) count starts n = cond (ltb t count) (refusal LexemesLeft (getD starts t 0) n) (tree x t)
 readCodes nothing count starts n = refusal NothingRead 0 0
@@ -51,4 +51,4 @@ placeOf (tree x t) = 0
 -- "hand back the offending part": empty for refusals 1, 5 and 6 and where nothing is refused
 abbrev pub offendingOf : List ℕ → ReadPhrase → List ℕ
 offendingOf s (refusal k a e) = between s a e
-offendingOf s (tree x t) = between s 0 0
+offendingOf s (tree x t) = []

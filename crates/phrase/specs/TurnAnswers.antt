@@ -1,7 +1,6 @@
 -- The answers of the code's readers of a whole phrase's lexemes: the lexemes taken, and the reading with what was read inside its links.
-use Prim.Native.Nat.{ℕ, _+_, _*_, _≤_, _<_}
-use mathlib.Core.Path.{_≡_}
-use mathlib.Core.Bool.{Bool, true, false, cond, _||_}
+use Prim.Native.Nat.{ℕ, _+_, _*_, _≤_}
+use mathlib.Core.Bool.{true, false, cond, _||_}
 use mathlib.Core.List.{List}
 use lib.ListN.{drop}
 use Rattle.lexer.specs.Lexemes as lexeme
@@ -83,6 +82,7 @@ TurnBounds TurnOverflow q n = Unit
 pub record TurnCounted (x : TurnFound) (n : ℕ) : Type 0 where
   pub bounds : TurnBounds (x .turn) (x .reading) n
 
+-- the bounds of a count
 abbrev pub CountBounds : Count → ℕ → Type 0
 CountBounds (Is t) n = (1 ≤ t) × (t ≤ n)
 CountBounds Nothing n = Unit

@@ -25,12 +25,13 @@ use numbers::slices::rest;
 use numbers::slices::take_if;
 ghost use mathlib.Core.Path.{_≡_};
 ghost use mathlib.Core.Bool.{_||_};
-ghost use Prim.Native.Nat.{_+_, _*_, _≤_, _<_, max};
+ghost use Prim.Native.Nat.{_+_, _≤_, _<_, max};
 ghost use lib.ListN.{length};
 ghost use Rattle.lexer.specs.Lexemes.{Comma};
 ghost use Rattle.numbers.specs.Slices.{isAt, oneIf};
 ghost use Rattle.phrase.specs.DateTimes.{withTimeOf, timedTurnOf, undatedTurnOf, turnOf, dateTimeOf};
-ghost use Rattle.phrase.specs.TurnAnswers.{turnAnswer, readingAnswer, exprTurn, durationTurn, linkedAnswer, Room, TurnCounted, ReadingCounted};
+ghost use Rattle.phrase.specs.TurnAnswers.{turnAnswer, readingAnswer, exprTurn, durationTurn, linkedAnswer, Room, TurnCounted};
+ghost use Rattle.phrase.specs.TurnAnswers.{ReadingCounted};
 
 // One turn: a whole reading, or a link behind which a datetime is read again, with the lexemes taken.
 pub enum Turn {

@@ -1,4 +1,4 @@
-use Prim.Native.Nat.{ℕ, _≤_, _<_}
+use Prim.Native.Nat.{ℕ, _<_}
 use native.Mathlib.Omega.{arith}
 use lib.ListN.{length}
 use denote.Ref.{now}
@@ -90,10 +90,13 @@ module _ (t : ℕ) where
       let read-turn = c .before .before .before .before .before .before .before .read-turn in
       let args = c .before .before .before .before .before .before .before .before .before .args in
       let said = link-read (args .r) (turnOf (now (args .l))) (read-turn .ensures .0) (turn .given .1) in
+      let behind =
+      linked-is dateTimeOf (now (args .l)) (said .back) (said .duration) (turn .given .0 .0) (args .r)
+      (dateTimeOf (now (rest .result))) (rw (rest .ensures .0)) in
       reading-promised (args .r) (now (args .l)) (rw (
         date-time-is (now (args .l)),
         said .reading,
-        ← (linked-is dateTimeOf (now (args .l)) (said .back) (said .duration) (turn .given .0 .0) (args .r) (dateTimeOf (now (rest .result))) (rw (rest .ensures .0))),
+        ← behind,
         ← (said .linked),
         ← (read-date-time .ensures .0),
       ) (c .behind-link .ensures))

@@ -53,8 +53,8 @@ returns-2 c =
     let read-duration = c .before .before .before .before .read-duration in
     let args = c .before .before .before .before .before .before .before .args in
     let pre = c .before .before .before .before .before .before .before .pre in
-    turn-promised (args .r) _ (rw (duration-none (args .r .parts) (durationOf (now (args .l))) (read-duration .ensures .0) (enum-told .given .1) .0) (c .read-timed .ensures .0))
-    (undated-turn-few (now (args .l))) pre
+    let none = duration-none (args .r .parts) (durationOf (now (args .l))) (read-duration .ensures .0) (enum-told .given .1) in
+    turn-promised (args .r) _ (rw (none .0) (c .read-timed .ensures .0)) (undated-turn-few (now (args .l))) pre
 
 returns-3 : tie.Need-returns-3
 unfolding undatedTurnOf
@@ -62,8 +62,8 @@ returns-3 c =
     let read-duration = c .before .before .before .read-duration in
     let args = c .before .before .before .before .before .before .args in
     let pre = c .before .before .before .before .before .before .pre in
-    turn-promised (args .r) _ (rw (duration-overflow (args .r .parts) (durationOf (now (args .l))) (read-duration .ensures .0) (c .enum-told2 .given .1) .0))
-    (undated-turn-few (now (args .l))) pre
+    let over = duration-overflow (args .r .parts) (durationOf (now (args .l))) (read-duration .ensures .0) (c .enum-told2 .given .1) in
+    turn-promised (args .r) _ (rw (over .0)) (undated-turn-few (now (args .l))) pre
 
 pub read-undated-spec : {M : Type 1} → statement M
 read-undated-spec =

@@ -98,7 +98,16 @@ returns-5 c =
     let is-at2 = c .before .before .before .before .before .is-at2 in
     let if1 = c .before .before .before .before .before .before .if1 in
     let is-at = c .before .before .before .before .before .before .before .is-at in
-    rw (← (is-at .ensures .0), if1 .left, ← (is-at2 .ensures .0), if2 .left, ← (is-at3 .ensures .0), if3 .left, ← (is-at4 .ensures .0), c .if4 .left)
+    rw (
+      ← (is-at .ensures .0),
+      if1 .left,
+      ← (is-at2 .ensures .0),
+      if2 .left,
+      ← (is-at3 .ensures .0),
+      if3 .left,
+      ← (is-at4 .ensures .0),
+      c .if4 .left,
+    )
 
 pub with-duration-spec : {M : Type 1} → statement M
 with-duration-spec =

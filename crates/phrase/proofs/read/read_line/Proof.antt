@@ -48,7 +48,8 @@ returns c =
     let read-date-time = c .before .before .before .before .before .before .before .read-date-time in
     let empty = c .before .before .before .before .before .before .before .before .empty in
     let args = c .before .before .before .before .before .before .before .before .before .before .before .args in
-    let said = tree-read (empty .result) (dateTimeOf (take (args .line .count) (args .line .codes))) (read-date-time .ensures .0) (taken .given .1) in
+    let w = dateTimeOf (take (args .line .count) (args .line .codes)) in
+    let said = tree-read (empty .result) w (read-date-time .ensures .0) (taken .given .1) in
     rw (said .reading, lt-ltb (taken .given .0 .0) (args .line .count) (if1 .taken)) (c .refuse .ensures)
 
 enum-told : tie.Need-enum-told
@@ -69,8 +70,9 @@ returns-2 c =
     let read-date-time = c .before .before .before .before .before .read-date-time in
     let empty = c .before .before .before .before .before .before .empty in
     let args = c .before .before .before .before .before .before .before .before .before .args in
-    let answer = read-date-time .ensures .0 ∙ ap (λ (r : Reading). readingAnswer r (dateTimeOf (take (args .line .count) (args .line .codes)))) (empty .ensures) in
-    let said = tree-read blank (dateTimeOf (take (args .line .count) (args .line .codes))) answer (taken .given .1) in
+    let w = dateTimeOf (take (args .line .count) (args .line .codes)) in
+    let answer = read-date-time .ensures .0 ∙ ap (λ (r : Reading). readingAnswer r w) (empty .ensures) in
+    let said = tree-read blank w answer (taken .given .1) in
     rw (said .reading, le-ltb (taken .given .0 .0) (args .line .count) (c .if1 .left), ← (said .flattened))
 
 returns-3 : tie.Need-returns-3
@@ -79,7 +81,8 @@ returns-3 c =
     let read-date-time = c .before .before .before .before .read-date-time in
     let empty = c .before .before .before .before .before .empty in
     let args = c .before .before .before .before .before .before .before .before .args in
-    rw (tree-none (empty .result) (dateTimeOf (take (args .line .count) (args .line .codes))) (read-date-time .ensures .0) (enum-told .given .1)) (c .refuse2 .ensures)
+    let w = dateTimeOf (take (args .line .count) (args .line .codes)) in
+    rw (tree-none (empty .result) w (read-date-time .ensures .0) (enum-told .given .1)) (c .refuse2 .ensures)
 
 returns-4 : tie.Need-returns-4
 returns-4 c =
@@ -87,7 +90,8 @@ returns-4 c =
     let read-date-time = c .before .before .before .before .read-date-time in
     let empty = c .before .before .before .before .before .empty in
     let args = c .before .before .before .before .before .before .before .before .args in
-    rw (tree-overflow (empty .result) (dateTimeOf (take (args .line .count) (args .line .codes))) (read-date-time .ensures .0) (enum-told2 .given .1)) (c .refuse3 .ensures)
+    let w = dateTimeOf (take (args .line .count) (args .line .codes)) in
+    rw (tree-overflow (empty .result) w (read-date-time .ensures .0) (enum-told2 .given .1)) (c .refuse3 .ensures)
 
 pub read-line-spec : {M : Type 1} → statement M
 read-line-spec =

@@ -1,0 +1,79 @@
+-- Worked phrases: what is read of each, from its bytes, computed.
+use mathlib.Core.Path.{_≡_, refl}
+use mathlib.Core.List.{List, [], _∷_, map}
+use Prim.Native.Nat.{ℕ}
+use Prim.Native.String.{String}
+use Rattle.lexer.specs.Words.{bytesOf}
+use Rattle.lexer.specs.Keywords.{keywords}
+use Rattle.lexer.specs.Classes.{classOf, markOf}
+use Rattle.lexer.specs.Refusals.{Meaningless}
+use Rattle.lexer.specs.Lex.{numberOf, wordAt, numberAt, tokenAt, lexed}
+use Rattle.numbers.specs.Slices.{get, isAt, within}
+use Rattle.numbers.specs.Answers.{fitsOf}
+use Rattle.numbers.specs.Numbers.{isEnding, wordOf, literalOf, onesOf, teensOf, tensOf, tensOnesOf, numDoubleOf, sumOf, hundredsOf}
+use Rattle.numbers.specs.Numbers.{tailOf as numTailOf, numTripleOf, numTripleUnitOf, unitsOf, numStep, numIn, numOf}
+use Rattle.dates.specs.Units.{isArticle, unitOf, monthOf, weekdayOf, relativeSpecifierOf}
+use Rattle.dates.specs.Durations.{part, specificOf, articleOf, concreteOf, durationStep, durationIn, durationOf}
+use Rattle.dates.specs.Dates.{namedDayOf, dayMonthYearOf, monthDayOf, isDelim, threeNumbersOf, twoNumbersOf, behindSecondOf, delimitedOf}
+use Rattle.dates.specs.Dates.{dateOf}
+use Rattle.dates.specs.Times.{minuteOf, halfOf, clockOf, timeOf}
+use Rattle.dates.specs.declared.units.Unit.the-variants.{Day, Hour}
+use Rattle.dates.specs.declared.units.RelativeSpecifier.the-variants.{Next}
+use Rattle.dates.specs.declared.duration.Part.the-variants.{Article, Specific}
+use Rattle.dates.specs.declared.date.Date.the-variants.{Today, Tomorrow, Empty as NoDate}
+use Rattle.dates.specs.declared.time.Time.the-variants.{HourMin, HourMinPM, Empty as NoTime}
+use Rattle.phrase.specs.Tree.{date, relativeWeekday, before, after, weekday, empty, dateTime, timeDate, durationAfter}
+use Rattle.phrase.specs.Tree.{durationBefore, now}
+use Rattle.phrase.specs.DateExprs.{inTailOf, durationTailOf, tailOf, withDurationOf, relativeExprOf, weekdayExprOf, undatedOf}
+use Rattle.phrase.specs.DateExprs.{dateExprOf}
+use Rattle.phrase.specs.DateTimes.{withExprOf, withDurationOf as durationTurnOf, withTimeOf, timedTurnOf, undatedTurnOf, turnOf}
+use Rattle.phrase.specs.DateTimes.{dateTimeStep, dateTimeIn, dateTimeOf}
+use Rattle.phrase.specs.Refusals.{NothingRead, SumTooLarge, LexemesLeft}
+use Rattle.phrase.specs.Read.{ReadPhrase, refusal, tree, readOf}
+
+-- a row: the phrase, and what is read of it
+pub record Case : Type 0 where
+  pub phrase : List ℕ
+  pub reading : ReadPhrase
+
+abbrev row : String → ReadPhrase → Case
+row s r = record { phrase = bytesOf s; reading = r }
+
+-- the table
+unfoldable pub cases : List Case
+cases =
+    -- each alternative of `DateTime::parse`
+    row "now" (tree now 1)
+    ∷ row "next friday at 3 pm" (tree (dateTime (relativeWeekday Next 4) (HourMinPM 3 0)) 5)
+    ∷ row "tomorrow, 5:00" (tree (dateTime (date Tomorrow) (HourMin 5 0)) 5)
+    ∷ row "5 days after tomorrow at noon" (tree (dateTime (after (part (Specific 5 Day)) Tomorrow) (HourMin 12 0)) 6)
+    ∷ row "an hour from now" (tree (durationAfter (part (Article Hour)) now) 4)
+    ∷ row "an hour after today" (tree (durationAfter (part (Article Hour)) (dateTime (date Today) NoTime)) 4)
+    ∷ row
+    "an hour before 5 days ago"
+    (tree (durationBefore (part (Article Hour)) (dateTime (before (part (Specific 5 Day)) NoDate) NoTime)) 6)
+    ∷ row "two hours ago" (tree (durationBefore (part (Specific 2 Hour)) now) 3)
+    ∷ row "5 pm on friday" (tree (timeDate (HourMinPM 5 0) (weekday 4)) 4)
+    ∷ row "5" (tree (timeDate (HourMin 5 0) empty) 1)
+    -- a comma, "at" or "on" is taken with nothing behind it
+    ∷ row "today at" (tree (dateTime (date Today) NoTime) 2)
+    ∷ row "5 pm, " (tree (timeDate (HourMinPM 5 0) empty) 3)
+    -- "next" behind a weekday is passed
+    ∷ row "friday next 5:00" (tree (dateTime (weekday 4) (HourMin 5 0)) 5)
+    -- lexemes are left: from the first of them to the phrase's end
+    ∷ row "5/2" (refusal LexemesLeft 1 3)
+    ∷ row "march 24th" (refusal LexemesLeft 8 10)
+    -- nothing is read
+    ∷ row "" (refusal NothingRead 0 0)
+    ∷ row "5 days after" (refusal NothingRead 0 0)
+    -- a number passes 4,294,967,295, also where its alternative would have been given up
+    ∷ row "five billion days ago" (refusal SumTooLarge 0 0)
+    ∷ row "5 pm five billion" (refusal SumTooLarge 0 0)
+    -- lexing refuses first
+    ∷ row "forty days ago" (refusal Meaningless 0 5)
+    ∷ []
+
+-- each row is what `readOf` gives
+pub read-as-listed : map (λ c. readOf keywords (c .phrase)) cases ≡ map (λ c. c .reading) cases
+unfolding cases keywords classOf markOf numberOf wordAt numberAt tokenAt lexed get isAt within isEnding wordOf literalOf onesOf teensOf tensOf tensOnesOf numDoubleOf sumOf numTailOf hundredsOf numTripleOf numTripleUnitOf fitsOf unitsOf numStep numIn numOf isArticle unitOf monthOf weekdayOf relativeSpecifierOf specificOf articleOf concreteOf durationStep durationIn durationOf namedDayOf dayMonthYearOf monthDayOf isDelim threeNumbersOf twoNumbersOf behindSecondOf delimitedOf dateOf minuteOf halfOf clockOf timeOf inTailOf durationTailOf tailOf withDurationOf relativeExprOf weekdayExprOf undatedOf dateExprOf withExprOf durationTurnOf withTimeOf timedTurnOf undatedTurnOf turnOf dateTimeStep dateTimeIn dateTimeOf readOf
+read-as-listed = refl
