@@ -19,7 +19,7 @@ use Rattle.dates.specs.declared.time.Time.the-variants.{Empty as Empty′}
 use Rattle.dates.proofs.Laws.{Arm, none}
 use Rattle.phrase.specs.Tree.{DateExpr, date, weekday, before, after, DateTime, dateTime, durationBefore, now}
 use Rattle.phrase.specs.DateExprs.{Tail, relative, ago, inside, stray, withDate, withWeekday, withDurationOf}
-use Rattle.phrase.specs.DateTimes.{Turn, whole, link, withExprOf, againOf, withDurationOf as durationTurnOf}
+use Rattle.phrase.specs.DateTimes.{whole, link, withExprOf, againOf, withDurationOf as durationTurnOf}
 use Rattle.phrase.specs.Flat.{shape, intoExpr, linkedParts}
 use Rattle.phrase.specs.ExprAnswers.{tailAnswer, exprAnswer, dateTailed, weekdayTailed, afterTaken, withDurationAnswer}
 use Rattle.phrase.specs.TurnAnswers.{turnAnswer, readingAnswer, exprTurnTaken, exprTurn, durationTurn, linkedAnswer}

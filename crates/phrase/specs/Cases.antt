@@ -11,9 +11,10 @@ use Rattle.lexer.specs.Lex.{numberOf, wordAt, numberAt, tokenAt, lexed}
 use Rattle.numbers.specs.Slices.{get, isAt, within}
 use Rattle.numbers.specs.Answers.{fitsOf}
 use Rattle.numbers.specs.Numbers.{isEnding, wordOf, literalOf, onesOf, teensOf, tensOf, tensOnesOf, numDoubleOf, sumOf, hundredsOf}
-use Rattle.numbers.specs.Numbers.{tailOf as numTailOf, numTripleOf, numTripleUnitOf, unitsOf, numStep, numIn, numOf}
+use Rattle.numbers.specs.Numbers.{tailOf as numTailOf, numTripleOf, numTripleUnitOf, unitsOf, numStep, numOf}
 use Rattle.dates.specs.Units.{isArticle, unitOf, monthOf, weekdayOf, relativeSpecifierOf}
-use Rattle.dates.specs.Durations.{part, specificOf, articleOf, concreteOf, durationStep, durationIn, durationOf}
+use Rattle.numbers.specs.Again.{turns, again}
+use Rattle.dates.specs.Durations.{part, specificOf, articleOf, concreteOf, durationStep, durationOf}
 use Rattle.dates.specs.Dates.{namedDayOf, dayMonthYearOf, monthDayOf, isDelim, threeNumbersOf, twoNumbersOf, behindSecondOf, delimitedOf}
 use Rattle.dates.specs.Dates.{dateOf}
 use Rattle.dates.specs.Times.{minuteOf, halfOf, clockOf, timeOf}
@@ -27,7 +28,7 @@ use Rattle.phrase.specs.Tree.{durationBefore, now}
 use Rattle.phrase.specs.DateExprs.{inTailOf, durationTailOf, tailOf, withDurationOf, relativeExprOf, weekdayExprOf, undatedOf}
 use Rattle.phrase.specs.DateExprs.{dateExprOf}
 use Rattle.phrase.specs.DateTimes.{withExprOf, withDurationOf as durationTurnOf, withTimeOf, timedTurnOf, undatedTurnOf, turnOf}
-use Rattle.phrase.specs.DateTimes.{dateTimeStep, dateTimeIn, dateTimeOf}
+use Rattle.phrase.specs.DateTimes.{dateTimeStep, dateTimeOf}
 use Rattle.phrase.specs.Refusals.{NothingRead, SumTooLarge, LexemesLeft}
 use Rattle.phrase.specs.Read.{ReadPhrase, refusal, tree, readOf}
 
@@ -75,5 +76,10 @@ cases =
 
 -- each row is what `readOf` gives
 pub read-as-listed : map (λ c. readOf keywords (c .phrase)) cases ≡ map (λ c. c .reading) cases
-unfolding cases keywords classOf markOf numberOf wordAt numberAt tokenAt lexed get isAt within isEnding wordOf literalOf onesOf teensOf tensOf tensOnesOf numDoubleOf sumOf numTailOf hundredsOf numTripleOf numTripleUnitOf fitsOf unitsOf numStep numIn numOf isArticle unitOf monthOf weekdayOf relativeSpecifierOf specificOf articleOf concreteOf durationStep durationIn durationOf namedDayOf dayMonthYearOf monthDayOf isDelim threeNumbersOf twoNumbersOf behindSecondOf delimitedOf dateOf minuteOf halfOf clockOf timeOf inTailOf durationTailOf tailOf withDurationOf relativeExprOf weekdayExprOf undatedOf dateExprOf withExprOf durationTurnOf withTimeOf timedTurnOf undatedTurnOf turnOf dateTimeStep dateTimeIn dateTimeOf readOf
+unfolding cases keywords classOf markOf numberOf wordAt numberAt tokenAt lexed get isAt within isEnding wordOf literalOf onesOf teensOf
+    tensOf tensOnesOf numDoubleOf sumOf numTailOf hundredsOf numTripleOf numTripleUnitOf fitsOf unitsOf numStep turns again numOf
+    isArticle unitOf monthOf weekdayOf relativeSpecifierOf specificOf articleOf concreteOf durationStep durationOf namedDayOf
+    dayMonthYearOf monthDayOf isDelim threeNumbersOf twoNumbersOf behindSecondOf delimitedOf dateOf minuteOf halfOf clockOf timeOf
+    inTailOf durationTailOf tailOf withDurationOf relativeExprOf weekdayExprOf undatedOf dateExprOf withExprOf durationTurnOf
+    withTimeOf timedTurnOf undatedTurnOf turnOf dateTimeStep dateTimeOf readOf
 read-as-listed = refl

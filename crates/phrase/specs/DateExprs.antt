@@ -1,6 +1,6 @@
 -- `DateExpr::parse`, alternatives in the text's order.
 use Prim.Native.Nat.{ℕ, _+_}
-use mathlib.Core.Bool.{Bool, true, false, _&&_, not}
+use mathlib.Core.Bool.{_&&_, not}
 use mathlib.Core.List.{List}
 use lib.ListN.{drop}
 use Rattle.lexer.specs.Lexemes as lexeme
