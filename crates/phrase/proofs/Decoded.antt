@@ -12,14 +12,17 @@ use Rattle.dates.specs.declared.duration.Part.{Part}
 use Rattle.dates.specs.declared.duration.Parts.{Parts}
 use Rattle.dates.specs.declared.duration.Slot.{Slot}
 use Rattle.dates.proofs.Durations.{into-n}
-use Rattle.phrase.specs.Tree.{DateExpr, date, dateRelative, dateExpressionAfter, dateExpressionBefore, unitRelative}
-use Rattle.phrase.specs.Tree.{relativeWeekday, weekdayRelative, weekdayExpressionBefore, before, after, weekday, empty, DateTime}
+use Rattle.expressions.specs.Tree.{DateExpr, date, dateRelative, dateExpressionAfter, dateExpressionBefore, unitRelative}
+use Rattle.expressions.specs.Tree.{relativeWeekday, weekdayRelative, weekdayExpressionBefore, before, after, weekday, empty}
+use Rattle.phrase.specs.Tree.{DateTime}
 use Rattle.phrase.specs.Tree.{dateTime, timeDate, durationAfter, durationBefore, now, around}
-use Rattle.phrase.specs.Flat.{shape, intoExpr, linkedParts, flatFrom, flat, blank, rowDuration, exprFrom, linksFrom, treeOf}
-use Rattle.phrase.specs.Flat.{sizeExpr, sizeTree}
+use Rattle.expressions.specs.Shapes.{shape, intoExpr, exprFrom}
+use Rattle.phrase.specs.Flat.{linkedParts, flatFrom, flat, blank, rowDuration, linksFrom, treeOf}
+use Rattle.expressions.specs.Shapes.{sizeExpr}
+use Rattle.phrase.specs.Flat.{sizeTree}
 use Rattle.phrase.specs.declared.reading.Link.{Link}
 use Rattle.phrase.specs.declared.reading.Reading.{Reading}
-use Rattle.phrase.proofs.Few.{into-expr-n}
+use Rattle.expressions.proofs.Few.{into-expr-n}
 
 -- the parts of a duration as a row of their own
 abbrev slots : Duration → List Slot

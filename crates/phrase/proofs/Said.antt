@@ -9,23 +9,26 @@ use Rattle.dates.specs.Parsed.{Parsed, is, nothing, overflow}
 use Rattle.dates.specs.Durations.{Duration, into}
 use Rattle.dates.specs.declared.duration.Parts.{Parts}
 use Rattle.dates.proofs.Durations.{into-n}
-use Rattle.phrase.specs.Tree.{DateExpr, DateTime}
+use Rattle.expressions.specs.Tree.{DateExpr}
+use Rattle.phrase.specs.Tree.{DateTime}
 use Rattle.phrase.specs.DateTimes.{Turn, whole, link, dateTimeOf}
-use Rattle.phrase.specs.Flat.{shape, intoExpr, flatFrom, linkedParts, sizeTree}
-use Rattle.phrase.specs.ExprAnswers.{exprAnswer}
+use Rattle.expressions.specs.Shapes.{shape, intoExpr}
+use Rattle.phrase.specs.Flat.{flatFrom, linkedParts, sizeTree}
+use Rattle.expressions.specs.ExprAnswers.{exprAnswer}
 use Rattle.phrase.specs.TurnAnswers.{turnAnswer, readingAnswer, Room, TurnCounted, CountBounds, ReadingCounted}
-use Rattle.phrase.specs.declared.reading.Expr.{Expr}
+use Rattle.expressions.specs.declared.expr.Expr.{Expr}
 use Rattle.phrase.specs.declared.reading.Reading.{Reading}
-use Rattle.phrase.specs.declared.expr.ExprTaken.{ExprTaken}
-use Rattle.phrase.specs.declared.expr.ExprTaken.the-variants as e
-use Rattle.phrase.specs.declared.expr.ExprFound.{ExprFound}
+use Rattle.expressions.specs.declared.expr.ExprTaken.{ExprTaken}
+use Rattle.expressions.specs.declared.expr.ExprTaken.the-variants as e
+use Rattle.expressions.specs.declared.expr.ExprFound.{ExprFound}
 use Rattle.phrase.specs.declared.date_time.Turn.{Turn as TurnTaken}
 use Rattle.phrase.specs.declared.date_time.Turn.the-variants as t
 use Rattle.phrase.specs.declared.date_time.TurnFound.{TurnFound}
 use Rattle.phrase.specs.declared.date_time.Count.{Count}
 use Rattle.phrase.specs.declared.date_time.Count.the-variants as k
 use Rattle.phrase.specs.declared.date_time.ReadingFound.{ReadingFound}
-use Rattle.phrase.proofs.Few.{Few, sizeTurn, date-time-few}
+use Rattle.expressions.proofs.Few.{Few}
+use Rattle.phrase.proofs.Few.{sizeTurn, date-time-few}
 use Rattle.phrase.proofs.Decoded.{some}
 
 -- the date expression that was read: its shape s, and its parts in qs behind those of ps

@@ -8,7 +8,8 @@ use Rattle.numbers.proofs.Again.{again-is}
 use Rattle.dates.specs.Parsed.{Parsed, is, nothing, overflow, andThen}
 use Rattle.phrase.specs.Tree.{DateTime}
 use Rattle.phrase.specs.DateTimes.{Turn, whole, link, turnOf, againOf, dateTimeStep, dateTimeOf}
-use Rattle.phrase.proofs.Few.{Few, sizeTurn, turn-few}
+use Rattle.expressions.proofs.Few.{Few}
+use Rattle.phrase.proofs.Few.{sizeTurn, turn-few}
 
 again-agree : (D E : List ℕ → Parsed DateTime) (l : List ℕ) (x : Turn) (t : ℕ) → 1 ≤ t → t ≤ length l → ((m : List ℕ) → length m < length l → D m ≡ E m) → againOf D l x t ≡ againOf E l x t
 again-agree D E l (whole x) t a b agree = refl

@@ -23,10 +23,11 @@ use Rattle.dates.specs.declared.units.RelativeSpecifier.the-variants.{Next}
 use Rattle.dates.specs.declared.duration.Part.the-variants.{Article, Specific}
 use Rattle.dates.specs.declared.date.Date.the-variants.{Today, Tomorrow, Empty as NoDate}
 use Rattle.dates.specs.declared.time.Time.the-variants.{HourMin, HourMinPM, Empty as NoTime}
-use Rattle.phrase.specs.Tree.{date, relativeWeekday, before, after, weekday, empty, dateTime, timeDate, durationAfter}
+use Rattle.expressions.specs.Tree.{date, relativeWeekday, before, after, weekday, empty}
+use Rattle.phrase.specs.Tree.{dateTime, timeDate, durationAfter}
 use Rattle.phrase.specs.Tree.{durationBefore, now}
-use Rattle.phrase.specs.DateExprs.{inTailOf, durationTailOf, tailOf, withDurationOf, relativeExprOf, weekdayExprOf, undatedOf}
-use Rattle.phrase.specs.DateExprs.{dateExprOf}
+use Rattle.expressions.specs.DateExprs.{inTailOf, durationTailOf, tailOf, withDurationOf, relativeExprOf, weekdayExprOf, undatedOf}
+use Rattle.expressions.specs.DateExprs.{dateExprOf}
 use Rattle.phrase.specs.DateTimes.{withExprOf, withDurationOf as durationTurnOf, withTimeOf, timedTurnOf, undatedTurnOf, turnOf}
 use Rattle.phrase.specs.DateTimes.{dateTimeStep, dateTimeOf}
 use Rattle.phrase.specs.Refusals.{NothingRead, SumTooLarge, LexemesLeft}

@@ -11,8 +11,9 @@ use Rattle.dates.specs.Durations.{Duration, durationOf}
 use Rattle.dates.specs.Times.{timeOf}
 use Rattle.dates.specs.declared.time.Time.{Time}
 use Rattle.dates.specs.declared.time.Time.the-variants.{Empty}
-use Rattle.phrase.specs.Tree.{DateExpr, empty, DateTime, dateTime, timeDate, durationBefore, now, around}
-use Rattle.phrase.specs.DateExprs.{dateExprOf}
+use Rattle.expressions.specs.Tree.{DateExpr, empty}
+use Rattle.phrase.specs.Tree.{DateTime, dateTime, timeDate, durationBefore, now, around}
+use Rattle.expressions.specs.DateExprs.{dateExprOf}
 
 -- what one turn of the reader gives: a whole tree, or a duration with its direction (back: true), behind which a datetime is read again
 pub data Turn : Type 0 where

@@ -1,6 +1,5 @@
 -- The flat reading that stands for a tree: links, outermost first, and the base; their durations are rows of parts, one behind the other.
 use Prim.Native.Nat.{ℕ, _+_}
-use mathlib.Core.Path.{_≡_}
 use mathlib.Core.Bool.{Bool, true, false}
 use mathlib.Core.List.{List, [], _∷_}
 use lib.ListN.{set, take, replicate}
@@ -12,47 +11,12 @@ use Rattle.dates.specs.declared.duration.Slot.{Slot}
 use Rattle.dates.specs.declared.time.Time.{Time}
 use Rattle.dates.specs.declared.time.Time.the-variants.{Empty as NoTime}
 use Rattle.dates.specs.declared.units.Unit.the-variants.{Day}
-use Rattle.phrase.specs.Tree.{DateExpr, date, dateRelative, dateExpressionAfter, dateExpressionBefore, unitRelative}
-use Rattle.phrase.specs.Tree.{relativeWeekday, weekdayRelative, weekdayExpressionBefore, before, after, weekday, empty, DateTime}
+use Rattle.phrase.specs.Tree.{DateTime}
 use Rattle.phrase.specs.Tree.{dateTime, timeDate, durationAfter, durationBefore, now, around}
-use Rattle.phrase.specs.declared.reading.Expr.{Expr}
-use Rattle.phrase.specs.declared.reading.Expr.the-variants.{Date as Dated, DateRelative, DateExpressionAfter, DateExpressionBefore}
-use Rattle.phrase.specs.declared.reading.Expr.the-variants.{UnitRelative, RelativeWeekday, WeekdayRelative, WeekdayExpressionBefore}
-use Rattle.phrase.specs.declared.reading.Expr.the-variants.{Before, After, Weekday, Empty}
 use Rattle.phrase.specs.declared.reading.Base.{Base}
 use Rattle.phrase.specs.declared.reading.Base.the-variants.{Now, DateTime as DatedBase, TimeDate as TimedBase}
 use Rattle.phrase.specs.declared.reading.Link.{Link}
 use Rattle.phrase.specs.declared.reading.Reading.{Reading}
-
--- a date expression without its duration
-abbrev pub shape : DateExpr → Expr
-shape (date d) = Dated d
-shape (dateRelative d s u) = DateRelative d s u
-shape (dateExpressionAfter d dur) = DateExpressionAfter d
-shape (dateExpressionBefore d dur) = DateExpressionBefore d
-shape (unitRelative s u) = UnitRelative s u
-shape (relativeWeekday s w) = RelativeWeekday s w
-shape (weekdayRelative w s u) = WeekdayRelative w s u
-shape (weekdayExpressionBefore w dur) = WeekdayExpressionBefore w
-shape (before dur d) = Before d
-shape (after dur d) = After d
-shape (weekday w) = Weekday w
-shape empty = Empty
-
--- the parts of its duration, where it has one, behind those of a row
-abbrev pub intoExpr : DateExpr → Parts → Parts
-intoExpr (date d) ps = ps
-intoExpr (dateRelative d s u) ps = ps
-intoExpr (dateExpressionAfter d dur) ps = into dur ps
-intoExpr (dateExpressionBefore d dur) ps = into dur ps
-intoExpr (unitRelative s u) ps = ps
-intoExpr (relativeWeekday s w) ps = ps
-intoExpr (weekdayRelative w s u) ps = ps
-intoExpr (weekdayExpressionBefore w dur) ps = into dur ps
-intoExpr (before dur d) ps = into dur ps
-intoExpr (after dur d) ps = into dur ps
-intoExpr (weekday w) ps = ps
-intoExpr empty ps = ps
 
 -- one link more, with its duration's parts behind those that are there
 abbrev pub linkedParts : Bool → Parts → Reading → Reading
@@ -112,21 +76,6 @@ abbrev pub rowDuration : List Slot → Duration
 rowDuration [] = part (blankSlot .part)
 rowDuration (s ∷ ss) = durationFrom s ss
 
--- a date expression with its duration
-abbrev pub exprFrom : Expr → Duration → DateExpr
-exprFrom (Dated d) dur = date d
-exprFrom (DateRelative d s u) dur = dateRelative d s u
-exprFrom (DateExpressionAfter d) dur = dateExpressionAfter d dur
-exprFrom (DateExpressionBefore d) dur = dateExpressionBefore d dur
-exprFrom (UnitRelative s u) dur = unitRelative s u
-exprFrom (RelativeWeekday s w) dur = relativeWeekday s w
-exprFrom (WeekdayRelative w s u) dur = weekdayRelative w s u
-exprFrom (WeekdayExpressionBefore w) dur = weekdayExpressionBefore w dur
-exprFrom (Before d) dur = before dur d
-exprFrom (After d) dur = after dur d
-exprFrom (Weekday w) dur = weekday w
-exprFrom Empty dur = empty
-
 -- the base with its time and its own duration
 abbrev pub baseFrom : Base → Time → Duration → DateTime
 baseFrom Now t dur = now
@@ -143,21 +92,6 @@ unfoldable pub treeOf : Reading → DateTime
 treeOf r =
     linksFrom (take (r .m) (r .links)) (r .parts .items)
     (baseFrom (r .base) (r .time) (rowDuration (slice (r .own) (r .parts .n) (r .parts .items))))
-
--- the parts of a tree's durations
-abbrev pub sizeExpr : DateExpr → ℕ
-sizeExpr (date d) = 0
-sizeExpr (dateRelative d s u) = 0
-sizeExpr (dateExpressionAfter d dur) = size dur
-sizeExpr (dateExpressionBefore d dur) = size dur
-sizeExpr (unitRelative s u) = 0
-sizeExpr (relativeWeekday s w) = 0
-sizeExpr (weekdayRelative w s u) = 0
-sizeExpr (weekdayExpressionBefore w dur) = size dur
-sizeExpr (before dur d) = size dur
-sizeExpr (after dur d) = size dur
-sizeExpr (weekday w) = 0
-sizeExpr empty = 0
 
 -- the parts of a tree: `few` says that three lexemes are taken for each
 abbrev pub sizeTree : DateTime → ℕ

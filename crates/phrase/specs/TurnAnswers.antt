@@ -15,7 +15,7 @@ use Rattle.phrase.specs.Tree.{DateTime}
 use Rattle.phrase.specs.DateTimes.{Turn, whole, link}
 use Rattle.phrase.specs.Flat.{flatFrom, linkedParts, based}
 use Rattle.phrase.specs.declared.reading.Base.the-variants.{Now, DateTime as Dated}
-use Rattle.phrase.specs.declared.reading.Expr.{Expr}
+use Rattle.expressions.specs.declared.expr.Expr.{Expr}
 use Rattle.phrase.specs.declared.reading.Reading.{Reading}
 use Rattle.phrase.specs.declared.date_time.Turn.{Turn as TurnTaken}
 use Rattle.phrase.specs.declared.date_time.Turn.the-variants.{Whole, Link, Nothing as NoTurn, Overflow as TurnOverflow}

@@ -1,8 +1,5 @@
 // The reader of a whole phrase's lexemes: durations, outermost first, around one base.
-use super::expr::ExprTaken;
-use super::expr::read_expr;
 use super::reading::Base;
-use super::reading::Expr;
 use super::reading::Reading;
 use super::reading::with_base;
 use super::reading::with_link;
@@ -12,6 +9,9 @@ use dates::duration::read_duration;
 use dates::time::Time;
 use dates::time::TimeFound;
 use dates::time::read_time;
+use expressions::expr::Expr;
+use expressions::expr::ExprTaken;
+use expressions::expr::read_expr;
 use lexer::lexeme::AFTER;
 use lexer::lexeme::AGO;
 use lexer::lexeme::AT;

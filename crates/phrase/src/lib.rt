@@ -1,6 +1,5 @@
 // The whole phrase: `DateExpr` and `DateTime` of ast.rs, read into a flat reading.
 pub mod date_time;
-pub mod expr;
 pub mod read;
 pub mod reading;
 pub mod refusal;

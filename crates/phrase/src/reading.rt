@@ -1,30 +1,13 @@
 // The flat reading: a chain of durations, outermost first, over one base.
-use dates::date::Date;
 use dates::duration::Part;
 use dates::duration::Parts;
 use dates::duration::Slot;
 use dates::time::Time;
-use dates::units::RelativeSpecifier;
 use dates::units::Unit;
+use expressions::expr::Expr;
 ghost use mathlib.Core.Path.{_≡_};
 ghost use Prim.Native.Nat.{_<_};
 ghost use Rattle.phrase.specs.Flat.{blank, based, linkedParts};
-
-// `enum DateExpr` without its durations, whose parts stand in the reading; a weekday is a number, Monday 0.
-pub enum Expr {
-    Date(Date),
-    DateRelative(Date, RelativeSpecifier, Unit),
-    DateExpressionAfter(Date),
-    DateExpressionBefore(Date),
-    UnitRelative(RelativeSpecifier, Unit),
-    RelativeWeekday(RelativeSpecifier, u32),
-    WeekdayRelative(u32, RelativeSpecifier, Unit),
-    WeekdayExpressionBefore(u32),
-    Before(Date),
-    After(Date),
-    Weekday(u32),
-    Empty,
-}
 
 // What the durations stand around: `DateTime::Now`, `DateTime::DateTime`, `DateTime::TimeDate`.
 pub enum Base {

@@ -11,8 +11,8 @@ use dates::duration::Parts;
 use dates::time::Time;
 use dates::units::RelativeSpecifier;
 use dates::units::Unit;
+use expressions::expr::Expr;
 use phrase::reading::Base;
-use phrase::reading::Expr;
 use phrase::reading::Reading;
 
 // Two numbers behind a name.

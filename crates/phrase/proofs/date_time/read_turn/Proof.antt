@@ -1,6 +1,6 @@
 use native.Mathlib.Omega.{arith}
 use denote.Ref.{now}
-use Rattle.phrase.specs.DateExprs.{dateExprOf}
+use Rattle.expressions.specs.DateExprs.{dateExprOf}
 use Rattle.phrase.specs.DateTimes.{turnOf}
 use Rattle.phrase.proofs.Answers.{expr-turn}
 use Rattle.phrase.proofs.Few.{turn-few}

@@ -1,6 +1,6 @@
 use native.Mathlib.Omega.{arith}
 use denote.Ref.{now}
-use Rattle.phrase.specs.DateExprs.{dateExprOf}
+use Rattle.expressions.specs.DateExprs.{dateExprOf}
 use Rattle.phrase.specs.DateTimes.{withTimeOf}
 use Rattle.phrase.proofs.Few.{with-time-few}
 use Rattle.phrase.proofs.Said.{expr-read, expr-none, expr-overflow, turn-promised}

@@ -1,0 +1,64 @@
+use mathlib.Core.Path.{ap}
+use native.Mathlib.Omega.{arith}
+use Rattle.dates.specs.Dates.{parsedDate}
+use Rattle.dates.proofs.Laws.{found}
+use borrow.Author.Needs.{needs}
+use Rattle.expressions.proofs.expr.read_after.Statement.{statement}
+use Rattle.expressions.proofs.expr.read_after.Tie as tie
+
+rest-requires : tie.Need-rest-requires
+rest-requires c κs = search needs
+
+read-date-requires : tie.Need-read-date-requires
+read-date-requires c κs = search needs
+
+enum-known-d : tie.Need-enum-known-d
+enum-known-d c = search needs
+
+add-t11 : tie.Need-add-t11
+add-t11 c =
+    let rest = c .before .before .before .before .rest in
+    let read-date = c .before .before .before .read-date in
+    let d = c .before .d in
+    let b = found (ap parsedDate (d .given .1)) (read-date .ensures .1) in
+    let left = rest .ensures .1 in
+    omega arith
+
+enum-told : tie.Need-enum-told
+enum-told c = search needs
+
+enum-told-2 : tie.Need-enum-told-2
+enum-told-2 c = search needs
+
+returns : tie.Need-returns
+returns c =
+    let rest = c .before .before .before .before .rest in
+    let read-date = c .before .before .before .read-date in
+    let d = c .before .d in
+    rw (← (rest .ensures .0), ← (read-date .ensures .0), d .given .1)
+
+returns-2 : tie.Need-returns-2
+returns-2 c =
+    let rest = c .before .before .before .rest in
+    let read-date = c .before .before .read-date in
+    rw (← (rest .ensures .0), ← (read-date .ensures .0), c .enum-told .given .1)
+
+returns-3 : tie.Need-returns-3
+returns-3 c =
+    let rest = c .before .before .before .rest in
+    let read-date = c .before .before .read-date in
+    rw (← (rest .ensures .0), ← (read-date .ensures .0), c .enum-told2 .given .1)
+
+pub read-after-spec : {M : Type 1} → statement M
+read-after-spec =
+    tie.close
+    (tie.spec
+    rest-requires
+    read-date-requires
+    enum-known-d
+    add-t11
+    enum-told
+    enum-told-2
+    returns
+    returns-2
+    returns-3)

@@ -1,0 +1,96 @@
+use mathlib.Core.Path.{ap}
+use native.Mathlib.Omega.{arith}
+use denote.Ref.{now}
+use Rattle.dates.specs.Dates.{parsedDate}
+use Rattle.dates.proofs.Laws.{found}
+use Rattle.expressions.specs.DateExprs.{tailOf, dateExprOf}
+use Rattle.expressions.proofs.Answers.{date-tailed}
+use Rattle.expressions.proofs.Few.{tail-wider, expr-few, expr-promised}
+use borrow.Author.Needs.{needs}
+use Rattle.expressions.proofs.expr.read_expr.Statement.{statement}
+use Rattle.expressions.proofs.expr.read_expr.Tie as tie
+
+read-date-requires : tie.Need-read-date-requires
+read-date-requires c κs = search needs
+
+enum-known-d : tie.Need-enum-known-d
+enum-known-d c = search needs
+
+rest-requires : tie.Need-rest-requires
+rest-requires c κs =
+    let read-date = c .before .before .before .read-date in
+    let d = c .before .d in
+    let b = found (ap parsedDate (d .given .1)) (read-date .ensures .1) in
+    omega arith
+
+read-tail-requires : tie.Need-read-tail-requires
+read-tail-requires c κs = search needs
+
+with-date-requires : tie.Need-with-date-requires
+with-date-requires c κs =
+    let read-date = c .before .before .before .before .before .read-date in
+    let d = c .before .before .before .d in
+    let b = found (ap parsedDate (d .given .1)) (read-date .ensures .1) in
+    (omega arith, tail-wider (c .read-tail .ensures .1) (omega arith))
+
+enum-told : tie.Need-enum-told
+enum-told c = search needs
+
+read-undated-requires : tie.Need-read-undated-requires
+read-undated-requires c κs = search needs
+
+enum-told-2 : tie.Need-enum-told-2
+enum-told-2 c = search needs
+
+returns : tie.Need-returns
+unfolding dateExprOf
+returns c =
+    let args = c .before .before .before .before .before .before .before .before .args in
+    let read-date = c .before .before .before .before .before .before .read-date in
+    let d = c .before .before .before .before .d in
+    let rest = c .before .before .rest in
+    let read-tail = c .before .read-tail in
+    expr-promised (args .parts)
+    (rw (
+      ← (read-date .ensures .0),
+      d .given .1,
+      ← (rest .ensures .0),
+      ← (date-tailed (d .given .0 .0) (d .given .0 .1 .0) (args .parts) (tailOf (now (rest .result)))),
+      ← (read-tail .ensures .0),
+    ) (c .with-date .ensures))
+    (expr-few (now (args .l)))
+
+returns-2 : tie.Need-returns-2
+unfolding dateExprOf
+returns-2 c =
+    let args = c .before .before .before .before .before .args in
+    let read-date = c .before .before .before .read-date in
+    let enum-told = c .before .enum-told in
+    expr-promised (args .parts)
+    (rw (← (read-date .ensures .0), enum-told .given .1) (c .read-undated .ensures .0))
+    (expr-few (now (args .l)))
+
+returns-3 : tie.Need-returns-3
+unfolding dateExprOf
+returns-3 c =
+    let args = c .before .before .before .before .args in
+    let read-date = c .before .before .read-date in
+    expr-promised (args .parts)
+    (rw (← (read-date .ensures .0), c .enum-told2 .given .1))
+    (expr-few (now (args .l)))
+
+pub read-expr-spec : {M : Type 1} → statement M
+read-expr-spec =
+    tie.close
+    (tie.spec
+    read-date-requires
+    enum-known-d
+    rest-requires
+    read-tail-requires
+    with-date-requires
+    enum-told
+    read-undated-requires
+    enum-told-2
+    returns
+    returns-2
+    returns-3)

@@ -1,0 +1,5 @@
+pub mod Tree
+pub mod DateExprs
+pub mod Shapes
+pub mod ExprAnswers
+pub mod ExprCases

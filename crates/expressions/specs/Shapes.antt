@@ -1,0 +1,68 @@
+-- A date expression without its duration, its parts, and the way back.
+use Prim.Native.Nat.{ℕ}
+use Rattle.dates.specs.Durations.{Duration, into, size}
+use Rattle.dates.specs.declared.duration.Parts.{Parts}
+use Rattle.expressions.specs.Tree.{DateExpr, date, dateRelative, dateExpressionAfter, dateExpressionBefore, unitRelative}
+use Rattle.expressions.specs.Tree.{relativeWeekday, weekdayRelative, weekdayExpressionBefore, before, after, weekday, empty}
+use Rattle.expressions.specs.declared.expr.Expr.{Expr}
+use Rattle.expressions.specs.declared.expr.Expr.the-variants.{Date as Dated, DateRelative, DateExpressionAfter, DateExpressionBefore, UnitRelative, RelativeWeekday, WeekdayRelative, WeekdayExpressionBefore, Before, After, Weekday, Empty}
+
+-- a date expression without its duration
+abbrev pub shape : DateExpr → Expr
+shape (date d) = Dated d
+shape (dateRelative d s u) = DateRelative d s u
+shape (dateExpressionAfter d dur) = DateExpressionAfter d
+shape (dateExpressionBefore d dur) = DateExpressionBefore d
+shape (unitRelative s u) = UnitRelative s u
+shape (relativeWeekday s w) = RelativeWeekday s w
+shape (weekdayRelative w s u) = WeekdayRelative w s u
+shape (weekdayExpressionBefore w dur) = WeekdayExpressionBefore w
+shape (before dur d) = Before d
+shape (after dur d) = After d
+shape (weekday w) = Weekday w
+shape empty = Empty
+
+-- the parts of its duration, where it has one, behind those of a row
+abbrev pub intoExpr : DateExpr → Parts → Parts
+intoExpr (date d) ps = ps
+intoExpr (dateRelative d s u) ps = ps
+intoExpr (dateExpressionAfter d dur) ps = into dur ps
+intoExpr (dateExpressionBefore d dur) ps = into dur ps
+intoExpr (unitRelative s u) ps = ps
+intoExpr (relativeWeekday s w) ps = ps
+intoExpr (weekdayRelative w s u) ps = ps
+intoExpr (weekdayExpressionBefore w dur) ps = into dur ps
+intoExpr (before dur d) ps = into dur ps
+intoExpr (after dur d) ps = into dur ps
+intoExpr (weekday w) ps = ps
+intoExpr empty ps = ps
+
+-- a date expression with its duration
+abbrev pub exprFrom : Expr → Duration → DateExpr
+exprFrom (Dated d) dur = date d
+exprFrom (DateRelative d s u) dur = dateRelative d s u
+exprFrom (DateExpressionAfter d) dur = dateExpressionAfter d dur
+exprFrom (DateExpressionBefore d) dur = dateExpressionBefore d dur
+exprFrom (UnitRelative s u) dur = unitRelative s u
+exprFrom (RelativeWeekday s w) dur = relativeWeekday s w
+exprFrom (WeekdayRelative w s u) dur = weekdayRelative w s u
+exprFrom (WeekdayExpressionBefore w) dur = weekdayExpressionBefore w dur
+exprFrom (Before d) dur = before dur d
+exprFrom (After d) dur = after dur d
+exprFrom (Weekday w) dur = weekday w
+exprFrom Empty dur = empty
+
+-- how many parts its duration has
+abbrev pub sizeExpr : DateExpr → ℕ
+sizeExpr (date d) = 0
+sizeExpr (dateRelative d s u) = 0
+sizeExpr (dateExpressionAfter d dur) = size dur
+sizeExpr (dateExpressionBefore d dur) = size dur
+sizeExpr (unitRelative s u) = 0
+sizeExpr (relativeWeekday s w) = 0
+sizeExpr (weekdayRelative w s u) = 0
+sizeExpr (weekdayExpressionBefore w dur) = size dur
+sizeExpr (before dur d) = size dur
+sizeExpr (after dur d) = size dur
+sizeExpr (weekday w) = 0
+sizeExpr empty = 0

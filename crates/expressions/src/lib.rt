@@ -1,0 +1,2 @@
+// The readers of date expressions: `DateExpr` of ast.rs.
+pub mod expr;
