@@ -11,8 +11,8 @@ use Rattle.dates.specs.declared.duration.Slot.{Slot}
 use Rattle.dates.specs.declared.time.Time.{Time}
 use Rattle.dates.specs.declared.time.Time.the-variants.{Empty as NoTime}
 use Rattle.dates.specs.declared.units.Unit.the-variants.{Day}
-use Rattle.phrase.specs.Tree.{DateTime}
-use Rattle.phrase.specs.Tree.{dateTime, timeDate, durationAfter, durationBefore, now, around}
+use Rattle.expressions.specs.Shapes.{shape, intoExpr, exprFrom, sizeExpr}
+use Rattle.phrase.specs.Tree.{DateTime, dateTime, timeDate, durationAfter, durationBefore, now, around}
 use Rattle.phrase.specs.declared.reading.Base.{Base}
 use Rattle.phrase.specs.declared.reading.Base.the-variants.{Now, DateTime as DatedBase, TimeDate as TimedBase}
 use Rattle.phrase.specs.declared.reading.Link.{Link}
