@@ -99,6 +99,7 @@ numbered ws s = go (leb (length s) 256)
 start-filled : (items : List Item) (t : ℕ) → t < length items → getD (filled (startsOf items)) t 0 ≡ getD (startsOf items) t 0
 start-filled items t h = let same = length-map items (λ (i : Item). i .start) in filled-at (startsOf items) t (omega arith)
 
+-- and so what is left behind a reading
 starts-filled : (items : List Item) (n : ℕ) (x : Parsed DateTime) →
     readCodes x (length items) (filled (startsOf items)) n ≡ readCodes x (length items) (startsOf items) n
 starts-filled items n (is x t) = go (ltb t (length items)) refl
@@ -195,12 +196,9 @@ pub record ReadWhole (s : List ℕ) (r : PhraseRead) : Type 0 where
   pub flattened : r .reading ≡ flat (treeOf (r .reading))
   pub few : r .reading .parts .n ≤ 21
 
--- 1 to 7
-abbrev OneToSeven : ℕ → Type 0
-OneToSeven k = (1 ≤ k) × (k ≤ 7)
-
+-- refused by 1 to 7, or read whole
 abbrev Settled : List ℕ → ReadPhrase → Type 0
-Settled s (refusal k a e) = OneToSeven k
+Settled s (refusal k a e) = (1 ≤ k) × (k ≤ 7)
 Settled s (tree x t) = ReadWhole s (phraseAnswer (tree x t))
 
 module _ (s : List ℕ) (items : List Item) (lexemes : lexed keywords s ≡ whole items) (most : length items ≤ 64) where
@@ -208,14 +206,11 @@ module _ (s : List ℕ) (items : List Item) (lexemes : lexed keywords s ≡ whol
       Settled s (readCodes w (length items) (startsOf items) (length s))
   codes-settled (is x t) e = go (ltb t (length items)) refl
     where
-      codes : length (codesOf items) ≡ length items
-      codes = length-map items (λ (i : Item). i .code)
-
       go : (b : Bool) → ltb t (length items) ≡ b →
           Settled s (cond b (refusal LexemesLeft (getD (startsOf items) t 0) (length s)) (tree x t))
       go true h = omega arith
       go false h =
-          let same = codes in
+          let same = length-map items (λ (i : Item). i .code) in
           let left = ltb-false t (length items) h in
           let took = (rw e at (date-time-few (codesOf items))) .bounds in
           let parts = at-most-21 (codesOf items) (omega arith) e in

@@ -1,0 +1,107 @@
+-- Every flat reading of a tree of at most 21 parts is formed: no duration without a part.
+use Prim.Native.Nat.{ℕ, _+_, _≤_, _<_}
+use native.Mathlib.Omega.{arith}
+use mathlib.Core.Path.{_≡_, refl}
+use mathlib.Core.Logic.{⊎-elim}
+use mathlib.Core.Bool.{Bool, true, false}
+use mathlib.Core.List.{List}
+use lib.ListN.{length, getD, set, length-set}
+use lib.Seq.{getD-set-same, getD-set-other}
+use Rattle.calendar.proofs.Below.{le-or-lt}
+use Rattle.dates.specs.Durations.{Duration, into, size}
+use Rattle.dates.proofs.Durations.{into-n}
+use Rattle.expressions.specs.Tree.{DateExpr, date, dateRelative, dateExpressionAfter, dateExpressionBefore, unitRelative, relativeWeekday}
+use Rattle.expressions.specs.Tree.{weekdayRelative, weekdayExpressionBefore, before, after, weekday, empty}
+use Rattle.phrase.specs.Tree.{DateTime, dateTime, timeDate, durationAfter, durationBefore, now}
+use Rattle.expressions.specs.Shapes.{shape, sizeExpr}
+use Rattle.phrase.specs.Flat.{linkedParts, flatFrom, flat, blank, blankLink, sizeTree}
+use Rattle.phrase.specs.declared.reading.Link.{Link}
+use Rattle.phrase.specs.declared.reading.Reading.{Reading}
+use Rattle.phrase.proofs.Decoded.{some, tree-count}
+use Rattle.evaluation.specs.Formed.{hasDuration, Formed}
+
+-- what holds of the first m elements and of one that is put behind them holds of the first m + 1
+module _ {A : Type 0} (P : A → Type 0) (l : List A) (m : ℕ) (a d : A) where
+  one-more : m < length l → P a → ((k : ℕ) → k < m → P (getD l k d)) → (k : ℕ) → k < m + 1 → P (getD (set l m a) k d)
+  one-more h p q k below = ⊎-elim at-last ahead (le-or-lt m k)
+    where
+      at-last : m ≤ k → P (getD (set l m a) k d)
+      at-last i = let same : k ≡ m = omega arith in rw (same, getD-set-same l m a d h) p
+
+      ahead : k < m → P (getD (set l m a) k d)
+      ahead i = rw (getD-set-other l m k a d (λ e. omega arith)) (q k i)
+
+-- a link has parts, and they are there
+abbrev HasParts : Link → Type 0
+HasParts k = (k .from < k .to) × (k .to ≤ 21)
+
+-- room for k parts, and for a link each, behind links that have parts
+record Room (r : Reading) (k : ℕ) : Type 0 where
+  parts : r .parts .n + k ≤ 21
+  links : r .m + k ≤ 21
+  all : length (r .links) ≡ 21
+  linked : (j : ℕ) → j < r .m → HasParts (getD (r .links) j blankLink)
+
+-- one link more
+room-inside : (back : Bool) (dur : Duration) (k : ℕ) (r : Reading) → Room r (size dur + k) → Room (linkedParts back (into dur (r .parts)) r) k
+room-inside back dur k r h =
+    let link : Link = record { back = back; from = r .parts .n; to = into dur (r .parts) .n } in
+    let count = into-n dur (r .parts) in
+    let part = some dur in
+    record {
+      parts = omega arith;
+      links = omega arith;
+      all = simp length-set (h .all);
+      linked = one-more HasParts (r .links) (r .m) link blankLink (omega arith) (omega arith, omega arith) (h .linked);
+    }
+
+-- a date expression that has a duration has a part
+own-part : (e : DateExpr) → hasDuration (shape e) ≡ true → 0 < sizeExpr e
+own-part (date d) h = let z : _≡_ {A = ℕ} 0 1 = cc in absurd (omega arith)
+own-part (dateRelative d s u) h = let z : _≡_ {A = ℕ} 0 1 = cc in absurd (omega arith)
+own-part (dateExpressionAfter d dur) h = some dur
+own-part (dateExpressionBefore d dur) h = some dur
+own-part (unitRelative s u) h = let z : _≡_ {A = ℕ} 0 1 = cc in absurd (omega arith)
+own-part (relativeWeekday s w) h = let z : _≡_ {A = ℕ} 0 1 = cc in absurd (omega arith)
+own-part (weekdayRelative w s u) h = let z : _≡_ {A = ℕ} 0 1 = cc in absurd (omega arith)
+own-part (weekdayExpressionBefore w dur) h = some dur
+own-part (before dur d) h = some dur
+own-part (after dur d) h = some dur
+own-part (weekday w) h = let z : _≡_ {A = ℕ} 0 1 = cc in absurd (omega arith)
+own-part empty h = let z : _≡_ {A = ℕ} 0 1 = cc in absurd (omega arith)
+
+-- a tree inside the links of a reading
+formed-inside : (x : DateTime) (r : Reading) → Room r (sizeTree x) → Formed (flatFrom r x)
+formed-inside (dateTime e t) r h =
+    let count = tree-count (dateTime e t) r in
+    record {
+      parts = omega arith;
+      links = omega arith;
+      own = λ has. let part = own-part e has in omega arith;
+      from-to = λ k below. h .linked k below .0;
+      to-most = λ k below. h .linked k below .1;
+    }
+formed-inside (timeDate t e) r h =
+    let count = tree-count (timeDate t e) r in
+    record {
+      parts = omega arith;
+      links = omega arith;
+      own = λ has. let part = own-part e has in omega arith;
+      from-to = λ k below. h .linked k below .0;
+      to-most = λ k below. h .linked k below .1;
+    }
+formed-inside (durationAfter dur x) r h = formed-inside x (linkedParts false (into dur (r .parts)) r) (room-inside false dur (sizeTree x) r h)
+formed-inside (durationBefore dur x) r h = formed-inside x (linkedParts true (into dur (r .parts)) r) (room-inside true dur (sizeTree x) r h)
+formed-inside now r h =
+    record {
+      parts = omega arith;
+      links = omega arith;
+      own = λ has. let z : _≡_ {A = ℕ} 0 1 = cc in absurd (omega arith);
+      from-to = λ k below. h .linked k below .0;
+      to-most = λ k below. h .linked k below .1;
+    }
+
+-- the flat reading of a tree
+pub formed : (x : DateTime) → sizeTree x ≤ 21 → Formed (flat x)
+formed x h =
+    formed-inside x blank (record { parts = omega arith; links = omega arith; all = refl; linked = λ j below. absurd (omega arith) })

@@ -1,0 +1,30 @@
+use native.Mathlib.Omega.{arith}
+use Rattle.evaluation.proofs.Laws.{at-moment}
+use borrow.Author.Needs.{needs}
+use Rattle.evaluation.proofs.expr.weekday_before.Statement.{statement}
+use Rattle.evaluation.proofs.expr.weekday_before.Tie as tie
+
+duration-step-requires : tie.Need-duration-step-requires
+duration-step-requires c κs = search needs
+
+enum-known-x : tie.Need-enum-known-x
+enum-known-x c = search needs
+
+enum-told : tie.Need-enum-told
+enum-told c = search needs
+
+returns : tie.Need-returns
+returns c =
+    let back = c .before .before .duration-step in
+    (rw (← (back .ensures .0), c .enum-told .given .1), back .ensures .1)
+
+back-to-requires : tie.Need-back-to-requires
+back-to-requires c κs = (at-moment (c .before .before .before .duration-step .ensures .1) (c .before .x .given .1), omega arith)
+
+returns-2 : tie.Need-returns-2
+returns-2 c = rw (← (c .before .before .before .before .duration-step .ensures .0), c .before .before .x .given .1) (c .back-to .ensures)
+
+pub weekday-before-spec : {M : Type 1} → statement M
+weekday-before-spec =
+    tie.close
+    (tie.spec duration-step-requires enum-known-x enum-told returns back-to-requires returns-2)

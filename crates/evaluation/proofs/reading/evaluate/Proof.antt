@@ -1,0 +1,133 @@
+use Prim.Native.Nat.{_-_, _≤_}
+use native.Mathlib.Omega.{arith}
+use mathlib.Core.Path.{_≡_, ap, sym, _∙_}
+use lib.ListN.{length, length-map}
+use Rattle.calendar.specs.Moments.{IsMoment, moment}
+use Rattle.evaluation.specs.Steps.{reachedOf}
+use Rattle.evaluation.specs.Evaluate.{evaluate}
+use Rattle.evaluation.proofs.Laws.{moment-valid, at-moment, refused-valid}
+use Rattle.evaluation.proofs.Links.{baseOf, linksAt, reading-walked, no-link, turn, stays}
+use borrow.Author.Needs.{needs}
+use Rattle.evaluation.proofs.reading.evaluate.Statement.{statement}
+use Rattle.evaluation.proofs.reading.evaluate.Tie as tie
+
+abbrev Inv-loop : tie.InvT-loop
+Inv-loop r parts t₀ i₀ t i = (i ≤ r .m) × IsMoment t × (linksAt r i (moment t₀) ≡ moment t)
+
+abbrev μ-loop : tie.MeasureT-loop
+μ-loop r parts t₀ i₀ t i = i
+
+-- the links are all there
+all-there : (c : tie.Start Inv-loop μ-loop) → c .args .t1 .m ≤ length (c .args .t1 .links)
+all-there c = let l = simp length-map at (c .good .0 .1 .1 .1 .1 .1 .1 .1 .0 .1 .0 .1) in omega (arith, c .pre .1 .links)
+
+base-at-requires : tie.Need-base-at-requires Inv-loop μ-loop
+base-at-requires c κs = search needs
+
+enum-known-base : tie.Need-enum-known-base Inv-loop μ-loop
+enum-known-base c = search needs
+
+enum-told : tie.Need-enum-told Inv-loop μ-loop
+enum-told c = search needs
+
+returns : tie.Need-returns Inv-loop μ-loop
+returns c =
+    let start = c .before .before .before in
+    let base = c .before .before .base-at in
+    let r = start .args .t1 in
+    let o = evaluate (baseOf r) (start .args .now) in
+    let given = ap reachedOf (c .enum-told .given .1) in
+    let at-base = sym (base .ensures .0) ∙ given in
+    let all = stays r o (all-there start) (r .m) (omega arith) (no-link r o ∙ at-base) in
+    (given ∙ sym (reading-walked r (start .args .now) ∙ all), base .ensures .1)
+
+loop-holds : tie.Need-loop-holds Inv-loop μ-loop
+loop-holds c =
+    let start = c .before .before .before .before .before in
+    let base = c .before .before .before .before .base-at in
+    (omega arith, at-moment (base .ensures .1) (c .before .before .base .given .1), no-link (start .args .t1) _)
+
+sub-i : tie.Need-sub-i Inv-loop μ-loop
+sub-i c = search needs
+
+mul-link : tie.Need-mul-link Inv-loop μ-loop
+mul-link c = let links = c .before .before .before .before .before .before .before .pre .1 .links in omega arith
+
+element-copy-out-link : tie.Need-element-copy-out-link Inv-loop μ-loop
+element-copy-out-link c = let links = c .before .before .before .before .before .before .before .pre .1 .links in omega arith
+
+duration-step-requires : tie.Need-duration-step-requires Inv-loop μ-loop
+duration-step-requires c κs =
+    let formed = c .before .before .before .before .before .before .before .before .pre .1 in
+    let loop = c .before .before .loop in
+    (formed .from-to (loop .i - 1) (omega arith), formed .to-most (loop .i - 1) (omega arith), loop .inv .1)
+
+enum-known-u : tie.Need-enum-known-u Inv-loop μ-loop
+enum-known-u c = search needs
+
+loop-less : tie.Need-loop-less Inv-loop μ-loop
+loop-less c = omega arith
+
+loop-again : tie.Need-loop-again Inv-loop μ-loop
+loop-again c =
+    let start = c .before .before .before .before .before .before .before .before .before .before .before .before in
+    let loop = c .before .before .before .before .before .before .loop in
+    let step = c .before .before .before .duration-step in
+    let u = c .before .u .given .1 in
+    let test = c .before .before .before .before .before .loop-test .taken in (
+      omega arith,
+      at-moment (step .ensures .1) u,
+      turn (start .args .t1) _ (all-there start) (loop .i) (omega arith) (loop .inv .0) (loop .inv .2) ∙ sym (step .ensures .0) ∙ ap reachedOf u,
+    )
+
+enum-known-k : tie.Need-enum-known-k Inv-loop μ-loop
+enum-known-k c = search needs
+
+returns-2 : tie.Need-returns-2 Inv-loop μ-loop
+returns-2 c =
+    let start = c .before .before .before .before .before .before .before .before .before .before .before .before in
+    let r = start .args .t1 in
+    let base = c .before .before .before .before .before .before .before .before .before .before .before .base-at in
+    let begin = c .before .before .before .before .before .before .before .before .before .base .given in
+    let loop = c .before .before .before .before .before .before .loop in
+    let step = c .before .before .before .duration-step in
+    let k = c .before .k .given in
+    let test = c .before .before .before .before .before .loop-test .taken in
+    let o = moment (begin .0 .0) in
+    let here = turn r o (all-there start) (loop .i) (omega arith) (loop .inv .0) (loop .inv .2) ∙ sym (step .ensures .0) ∙ ap reachedOf (k .1) in
+    let all = stays r o (all-there start) (loop .i - 1) (omega arith) here in
+    let at-base = sym (base .ensures .0) ∙ ap reachedOf (begin .1) in
+    (sym (reading-walked r (start .args .now) ∙ ap (linksAt r 0) at-base ∙ all), refused-valid _)
+
+returns-3 : tie.Need-returns-3 Inv-loop μ-loop
+returns-3 c =
+    let start = c .before .before .before .before .before .before .before in
+    let r = start .args .t1 in
+    let base = c .before .before .before .before .before .before .base-at in
+    let begin = c .before .before .before .before .base .given in
+    let loop = c .before .loop in
+    let done : loop .i ≡ 0 = omega (arith, c .loop-test .left) in
+    let at-base = sym (base .ensures .0) ∙ ap reachedOf (begin .1) in
+    (sym (reading-walked r (start .args .now) ∙ ap (linksAt r 0) at-base ∙ rw done at (loop .inv .2)), moment-valid (loop .inv .1))
+
+pub evaluate-spec : {M : Type 1} → statement M
+evaluate-spec =
+    tie.close
+    (tie.spec
+    Inv-loop
+    μ-loop
+    base-at-requires
+    enum-known-base
+    enum-told
+    returns
+    loop-holds
+    sub-i
+    mul-link
+    element-copy-out-link
+    duration-step-requires
+    enum-known-u
+    loop-less
+    loop-again
+    enum-known-k
+    returns-2
+    returns-3)

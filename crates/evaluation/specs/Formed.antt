@@ -1,0 +1,40 @@
+-- A flat reading whose durations all have parts that are there: every reading of a tree is one (`formed`).
+use Prim.Native.Nat.{ℕ, _≤_, _<_}
+use mathlib.Core.Path.{_≡_}
+use mathlib.Core.Bool.{Bool, true, false}
+use lib.ListN.{getD}
+use Rattle.phrase.specs.Flat.{blankLink}
+use Rattle.expressions.specs.declared.expr.Expr.{Expr}
+use Rattle.expressions.specs.declared.expr.Expr.the-variants.{Date, DateRelative, DateExpressionAfter, DateExpressionBefore, UnitRelative, RelativeWeekday, WeekdayRelative, WeekdayExpressionBefore, Before, After, Weekday, Empty}
+use Rattle.phrase.specs.declared.reading.Base.{Base}
+use Rattle.phrase.specs.declared.reading.Base.the-variants.{Now, DateTime, TimeDate}
+use Rattle.phrase.specs.declared.reading.Reading.{Reading}
+
+-- whether a date expression has a duration
+abbrev pub hasDuration : Expr → Bool
+hasDuration (Date d) = false
+hasDuration (DateRelative d s u) = false
+hasDuration (DateExpressionAfter d) = true
+hasDuration (DateExpressionBefore d) = true
+hasDuration (UnitRelative s u) = false
+hasDuration (RelativeWeekday s w) = false
+hasDuration (WeekdayRelative w s u) = false
+hasDuration (WeekdayExpressionBefore w) = true
+hasDuration (Before d) = true
+hasDuration (After d) = true
+hasDuration (Weekday w) = false
+hasDuration Empty = false
+
+-- whether a base has one
+abbrev pub baseDuration : Base → Bool
+baseDuration Now = false
+baseDuration (DateTime e) = hasDuration e
+baseDuration (TimeDate e) = hasDuration e
+
+-- at most 21 parts and links, and no duration without a part
+pub record Formed (r : Reading) : Type 0 where
+  pub parts : r .parts .n ≤ 21
+  pub links : r .m ≤ 21
+  pub own : baseDuration (r .base) ≡ true → r .own < r .parts .n
+  pub from-to : (k : ℕ) → k < r .m → getD (r .links) k blankLink .from < getD (r .links) k blankLink .to
+  pub to-most : (k : ℕ) → k < r .m → getD (r .links) k blankLink .to ≤ 21

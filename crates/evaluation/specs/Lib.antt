@@ -1,0 +1,10 @@
+pub mod Refusals
+pub mod Steps
+pub mod Weekdays
+pub mod Dates
+pub mod Times
+pub mod Evaluate
+pub mod Formed
+pub mod Answer
+pub mod Cases
+pub mod Starred

@@ -1,0 +1,9 @@
+// A reading at a now: `to_chrono`, `after`, `before`, `after_date` and `before_date` of ast.rs.
+pub mod answer;
+pub mod date;
+pub mod expr;
+pub mod reading;
+pub mod refusal;
+pub mod step;
+pub mod time;
+pub mod weekday;
