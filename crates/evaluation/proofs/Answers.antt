@@ -7,7 +7,7 @@ use mathlib.Core.List.{List}
 use Rattle.lexer.specs.Keywords.{keywords}
 use Rattle.calendar.specs.Moments.{IsMoment, Outcome, isMoment}
 use Rattle.calendar.specs.declared.Moment.{Moment}
-use Rattle.calendar.proofs.Valid.{test-moment}
+use Rattle.calendar.proofs.Valid.{test-range, test-moment}
 use Rattle.dates.specs.declared.time.Time.the-variants.{Empty as NoTime}
 use Rattle.phrase.specs.Tree.{DateTime}
 use Rattle.phrase.specs.Flat.{blank, treeOf, sizeTree}
@@ -20,7 +20,8 @@ use Rattle.evaluation.specs.Evaluate.{evaluate}
 use Rattle.evaluation.specs.Formed.{Formed}
 use Rattle.evaluation.specs.Answer.{Answer, at, refusedAt, placed, answerOf}
 use Rattle.evaluation.proofs.Formed.{formed}
-use Rattle.evaluation.proofs.Leads.{Leads, leads, refuses, timeOf, hasSubDaily, SameTime, valid-leads, second-leads, time-of-day-leads}
+use Rattle.evaluation.proofs.Leads.{Leads, leads, refuses, timeOf, hasSubDaily, SameTime}
+use Rattle.evaluation.proofs.Leads.{valid-leads, second-leads, time-of-day-leads}
 
 -- a phrase that was read: the tree, and a flat reading that is formed and stands for it
 pub record TreeRead (s : List ℕ) (r : PhraseRead) : Type 0 where
@@ -76,10 +77,11 @@ pub data Settled (low : ℕ) : Answer → Type 0 where
 
 placed-settled : {o : Outcome} → Leads IsMoment o → Settled 8 (placed o)
 placed-settled (leads v) = moment-at v
-placed-settled (refuses {k = k} low high) = refusal-at {k = k} (omega arith) high
+placed-settled (refuses {k = k} e) = let b = test-range k 9 13 e in refusal-at {k = k} (omega arith) (b .1)
 
 -- a phrase that is read leads to a moment of the calendar or to a refusal of 8 to 13
-pub read-settled : (s : List ℕ) {x : DateTime} {t : ℕ} → readOf keywords s ≡ tree x t → (n : Moment) → Settled 8 (answerOf keywords s n)
+pub read-settled :
+    (s : List ℕ) {x : DateTime} {t : ℕ} → readOf keywords s ≡ tree x t → (n : Moment) → Settled 8 (answerOf keywords s n)
 read-settled s {x} h n = go (isMoment n) refl
   where
     go : (b : Bool) → isMoment n ≡ b → Settled 8 (answerOf keywords s n)
@@ -120,7 +122,7 @@ pub record ReadAtNoNow (s : List ℕ) (n : Moment) : Type 0 where
 
 led-number : {k : ℕ} {o : Outcome} {a e : ℕ} → Leads IsMoment o → placed o ≡ refusedAt k a e → 9 ≤ k
 led-number (leads v) g = let z : _≡_ {A = ℕ} 0 1 = cc in absurd (omega arith)
-led-number {k = k} (refuses {k = j} low high) g = let same : j ≡ k = cc in omega arith
+led-number {k = k} (refuses {k = j} e) g = let b = test-range j 9 13 e in let same : j ≡ k = cc in omega arith
 
 -- refusal 8 is given only there; `at-no-now` says that it is given wherever that holds
 pub eight-only : (s : List ℕ) (n : Moment) {a e : ℕ} → answerOf keywords s n ≡ refusedAt NoNow a e → ReadAtNoNow s n
@@ -139,7 +141,7 @@ eight-only s n {a} {e} given = go (readOf keywords s) (isMoment n) refl refl
 
 led : {M : Moment → Type 0} {o : Outcome} {t : Moment} → Leads M o → placed o ≡ at t → M t
 led {M} {t = t} (leads {t = u} h) e = let same : u ≡ t = cc in subst M same h
-led (refuses a b) e = let z : _≡_ {A = ℕ} 0 1 = cc in absurd (omega arith)
+led (refuses f) e = let z : _≡_ {A = ℕ} 0 1 = cc in absurd (omega arith)
 
 module _ (s : List ℕ) {x : DateTime} {k : ℕ} (read : readOf keywords s ≡ tree x k) (untimed : timeOf x ≡ NoTime) where
   answered : {M : Moment → Type 0} (n : Moment) {t : Moment} → (IsMoment n → Leads M (evaluate x n)) → answerOf keywords s n ≡ at t → M t

@@ -10,15 +10,22 @@ use lib.Seq.{getD-set-same, getD-set-other}
 use Rattle.calendar.proofs.Below.{le-or-lt}
 use Rattle.dates.specs.Durations.{Duration, into, size}
 use Rattle.dates.proofs.Durations.{into-n}
+use Rattle.dates.specs.declared.duration.Parts.{Parts}
+use Rattle.dates.specs.declared.time.Time.{Time}
 use Rattle.expressions.specs.Tree.{DateExpr, date, dateRelative, dateExpressionAfter, dateExpressionBefore, unitRelative, relativeWeekday}
 use Rattle.expressions.specs.Tree.{weekdayRelative, weekdayExpressionBefore, before, after, weekday, empty}
 use Rattle.phrase.specs.Tree.{DateTime, dateTime, timeDate, durationAfter, durationBefore, now}
 use Rattle.expressions.specs.Shapes.{shape, sizeExpr}
-use Rattle.phrase.specs.Flat.{linkedParts, flatFrom, flat, blank, blankLink, sizeTree}
+use Rattle.phrase.specs.Flat.{linkedParts, based, flatFrom, flat, blank, blankLink, sizeTree}
+use Rattle.phrase.specs.declared.reading.Base.{Base}
 use Rattle.phrase.specs.declared.reading.Link.{Link}
 use Rattle.phrase.specs.declared.reading.Reading.{Reading}
 use Rattle.phrase.proofs.Decoded.{some, tree-count}
-use Rattle.evaluation.specs.Formed.{hasDuration, Formed}
+use Rattle.evaluation.specs.Formed.{hasDuration, baseDuration, Formed}
+
+-- a test is not both
+pub never : {A : Type 0} → false ≡ true → A
+never e = let z : _≡_ {A = ℕ} 0 1 = cc in absurd (omega arith)
 
 -- what holds of the first m elements and of one that is put behind them holds of the first m + 1
 module _ {A : Type 0} (P : A → Type 0) (l : List A) (m : ℕ) (a d : A) where
@@ -43,8 +50,10 @@ record Room (r : Reading) (k : ℕ) : Type 0 where
   linked : (j : ℕ) → j < r .m → HasParts (getD (r .links) j blankLink)
 
 -- one link more
-room-inside : (back : Bool) (dur : Duration) (k : ℕ) (r : Reading) → Room r (size dur + k) → Room (linkedParts back (into dur (r .parts)) r) k
-room-inside back dur k r h =
+room-inside :
+    (back : Bool) (dur : Duration) (x : DateTime) (r : Reading) → Room r (size dur + sizeTree x) →
+    Room (linkedParts back (into dur (r .parts)) r) (sizeTree x)
+room-inside back dur x r h =
     let link : Link = record { back = back; from = r .parts .n; to = into dur (r .parts) .n } in
     let count = into-n dur (r .parts) in
     let part = some dur in
@@ -57,49 +66,39 @@ room-inside back dur k r h =
 
 -- a date expression that has a duration has a part
 own-part : (e : DateExpr) → hasDuration (shape e) ≡ true → 0 < sizeExpr e
-own-part (date d) h = let z : _≡_ {A = ℕ} 0 1 = cc in absurd (omega arith)
-own-part (dateRelative d s u) h = let z : _≡_ {A = ℕ} 0 1 = cc in absurd (omega arith)
+own-part (date d) h = never h
+own-part (dateRelative d s u) h = never h
 own-part (dateExpressionAfter d dur) h = some dur
 own-part (dateExpressionBefore d dur) h = some dur
-own-part (unitRelative s u) h = let z : _≡_ {A = ℕ} 0 1 = cc in absurd (omega arith)
-own-part (relativeWeekday s w) h = let z : _≡_ {A = ℕ} 0 1 = cc in absurd (omega arith)
-own-part (weekdayRelative w s u) h = let z : _≡_ {A = ℕ} 0 1 = cc in absurd (omega arith)
+own-part (unitRelative s u) h = never h
+own-part (relativeWeekday s w) h = never h
+own-part (weekdayRelative w s u) h = never h
 own-part (weekdayExpressionBefore w dur) h = some dur
 own-part (before dur d) h = some dur
 own-part (after dur d) h = some dur
-own-part (weekday w) h = let z : _≡_ {A = ℕ} 0 1 = cc in absurd (omega arith)
-own-part empty h = let z : _≡_ {A = ℕ} 0 1 = cc in absurd (omega arith)
+own-part (weekday w) h = never h
+own-part empty h = never h
+
+-- a base of k parts behind the links of a reading
+formed-base :
+    (b : Base) (t : Time) (ps : Parts) (k : ℕ) (r : Reading) → Room r k → ps .n ≡ r .parts .n + k → (baseDuration b ≡ true → 0 < k) →
+    Formed (based b t ps r)
+formed-base b t ps k r h count part =
+    record {
+      parts = omega arith;
+      links = omega arith;
+      own = λ has. let some = part has in omega arith;
+      from-to = λ j below. h .linked j below .0;
+      to-most = λ j below. h .linked j below .1;
+    }
 
 -- a tree inside the links of a reading
 formed-inside : (x : DateTime) (r : Reading) → Room r (sizeTree x) → Formed (flatFrom r x)
-formed-inside (dateTime e t) r h =
-    let count = tree-count (dateTime e t) r in
-    record {
-      parts = omega arith;
-      links = omega arith;
-      own = λ has. let part = own-part e has in omega arith;
-      from-to = λ k below. h .linked k below .0;
-      to-most = λ k below. h .linked k below .1;
-    }
-formed-inside (timeDate t e) r h =
-    let count = tree-count (timeDate t e) r in
-    record {
-      parts = omega arith;
-      links = omega arith;
-      own = λ has. let part = own-part e has in omega arith;
-      from-to = λ k below. h .linked k below .0;
-      to-most = λ k below. h .linked k below .1;
-    }
-formed-inside (durationAfter dur x) r h = formed-inside x (linkedParts false (into dur (r .parts)) r) (room-inside false dur (sizeTree x) r h)
-formed-inside (durationBefore dur x) r h = formed-inside x (linkedParts true (into dur (r .parts)) r) (room-inside true dur (sizeTree x) r h)
-formed-inside now r h =
-    record {
-      parts = omega arith;
-      links = omega arith;
-      own = λ has. let z : _≡_ {A = ℕ} 0 1 = cc in absurd (omega arith);
-      from-to = λ k below. h .linked k below .0;
-      to-most = λ k below. h .linked k below .1;
-    }
+formed-inside (dateTime e t) r h = formed-base _ t _ (sizeExpr e) r h (tree-count (dateTime e t) r) (own-part e)
+formed-inside (timeDate t e) r h = formed-base _ t _ (sizeExpr e) r h (tree-count (timeDate t e) r) (own-part e)
+formed-inside (durationAfter dur x) r h = formed-inside x _ (room-inside false dur x r h)
+formed-inside (durationBefore dur x) r h = formed-inside x _ (room-inside true dur x r h)
+formed-inside now r h = formed-base _ _ _ 0 r h (tree-count now r) never
 
 -- the flat reading of a tree
 pub formed : (x : DateTime) → sizeTree x ≤ 21 → Formed (flat x)

@@ -32,12 +32,13 @@ use Rattle.evaluation.specs.Steps.{minutesStep, unitStep, partStep, dura
 use Rattle.evaluation.specs.Weekdays.{daysBack, inWeek, fromToday, backTo}
 use Rattle.evaluation.specs.Dates.{statedDate, dateAt}
 use Rattle.evaluation.specs.Times.{statedTime, timeAt}
-use Rattle.evaluation.specs.Evaluate.{byYear, isYear, isWeek, isMonthAndDay, dateRelativeAt, byUnit, unitRelativeAt, weekdayRelativeAt, dateExprAt, evaluate}
+use Rattle.evaluation.specs.Evaluate.{byYear, isYear, isWeek, isMonthAndDay, byUnit, dateExprAt, evaluate}
+use Rattle.evaluation.proofs.Formed.{never}
 
 -- a moment with a property, or a refusal of 9 to 13
 pub data Leads (M : Moment → Type 0) : Outcome → Type 0 where
   leads : {t : Moment} → M t → Leads M (moment t)
-  refuses : {k : ℕ} → 9 ≤ k → k ≤ 13 → Leads M (refused k)
+  refuses : {k : ℕ} → inRange k 9 13 ≡ true → Leads M (refused k)
 
 -- by a test
 tested : {M : Moment → Type 0} (b : Bool) (o p : Outcome) → (b ≡ true → Leads M o) → Leads M p → Leads M (cond b o p)
@@ -47,12 +48,13 @@ tested false o p f g = g
 -- a moment where it is in the calendar
 within : (M : Moment → Type 0) (b : Bool) (u : Moment) → (b ≡ true → M u) → Leads M (inside b u)
 within M true u f = leads (f refl)
-within M false u f = refuses {k = 12} (omega arith) (omega arith)
+within M false u f = refuses {k = 12} refl
 
 -- a step behind another
-behind : {M N : Moment → Type 0} {o : Outcome} (f : Moment → Outcome) → Leads M o → ((t : Moment) → M t → Leads N (f t)) → Leads N (andThen o f)
+behind :
+    {M N : Moment → Type 0} {o : Outcome} (f : Moment → Outcome) → Leads M o → ((t : Moment) → M t → Leads N (f t)) → Leads N (andThen o f)
 behind f (leads {t = t} h) g = g t h
-behind f (refuses a b) g = refuses a b
+behind f (refuses e) g = refuses e
 
 -- a disjunction with a true right side
 or-right : (a : Bool) {b : Bool} → b ≡ true → a || b ≡ true
@@ -67,10 +69,10 @@ days-back : (a k : ℕ) → k ≤ a → k % 1440 ≡ 0 → (a - k) % 1440 ≡ a 
 days-back a k h e = omega arith
 
 -- a property of moments that steps keep: another date, another minute (of another time of day where `sub` is true)
-pub record Kept (M : Moment → Type 0) (sub : Bool) : Type 0 where
-  pub valid : (t : Moment) → M t → IsMoment t
-  pub dated : (t : Moment) (y m d : ℕ) → M t → IsDate y m d → M (withDate y m d t)
-  pub minute : (t : Moment) (n : ℕ) → M t → n < minutes → (sub ≡ true) ⊎ (n % 1440 ≡ minuteNumber t % 1440) → M (atMinute n t)
+record Kept (M : Moment → Type 0) (sub : Bool) : Type 0 where
+  valid : (t : Moment) → M t → IsMoment t
+  dated : (t : Moment) (y m d : ℕ) → M t → IsDate y m d → M (withDate y m d t)
+  minute : (t : Moment) (n : ℕ) → M t → n < minutes → (sub ≡ true) ⊎ (n % 1440 ≡ minuteNumber t % 1440) → M (atMinute n t)
 
 module _ {M : Moment → Type 0} {sub : Bool} (kept : Kept M sub) where
   minutes-lead : (back : Bool) (k : ℕ) (t : Moment) → M t → (sub ≡ true) ⊎ (k % 1440 ≡ 0) → Leads M (minutesStep back k t)
@@ -111,7 +113,7 @@ module _ {M : Moment → Type 0} {sub : Bool} (kept : Kept M sub) where
       }
       )
       ))
-      (refuses (omega arith) (omega arith))
+      (refuses refl)
 
   years-lead : (back : Bool) (k : ℕ) (t : Moment) → M t → Leads M (unitStep back k Year t)
   unfolding yearsLater yearsEarlier
@@ -119,14 +121,15 @@ module _ {M : Moment → Type 0} {sub : Bool} (kept : Kept M sub) where
       let v = kept .valid t h .date in
       tested (ltb k (t .year)) _ _
       (λ e. let below = ltb-true k (t .year) e in in-year-leads _ t h (omega arith) (omega (arith, v .year-high)))
-      (refuses (omega arith) (omega arith))
+      (refuses refl)
   years-lead false k t h =
       let v = kept .valid t h .date in
       tested (leb (t .year + k) 9999) _ _
-      (λ e. in-year-leads _ t h (omega (arith, v .year-low)) (leb-true _ _ e)) (refuses (omega arith) (omega arith))
+      (λ e. in-year-leads _ t h (omega (arith, v .year-low)) (leb-true _ _ e)) (refuses refl)
 
   -- a unit
-  pub unit-leads : (back : Bool) (k : ℕ) (u : Unit) (t : Moment) → (isSubDailyUnit u ≡ true → sub ≡ true) → M t → Leads M (unitStep back k u t)
+  unit-leads :
+      (back : Bool) (k : ℕ) (u : Unit) (t : Moment) → (isSubDailyUnit u ≡ true → sub ≡ true) → M t → Leads M (unitStep back k u t)
   unit-leads back k Day t s h = minutes-lead back (1440 * k) t h (inr (omega arith))
   unit-leads back k Week t s h = minutes-lead back (10080 * k) t h (inr (omega arith))
   unit-leads back k Hour t s h = minutes-lead back (60 * k) t h (inl (s refl))
@@ -139,10 +142,12 @@ module _ {M : Moment → Type 0} {sub : Bool} (kept : Kept M sub) where
   part-leads back (Specific k u) t s h = unit-leads back k u t s h
 
   -- a duration
-  pub duration-leads : (back : Bool) (d : Duration) (t : Moment) → (isSubDaily d ≡ true → sub ≡ true) → M t → Leads M (durationStep back d t)
+  duration-leads :
+      (back : Bool) (d : Duration) (t : Moment) → (isSubDaily d ≡ true → sub ≡ true) → M t → Leads M (durationStep back d t)
   duration-leads back (part p) t s h = part-leads back p t s h
   duration-leads back (concat p d) t s h =
-      behind (durationStep back d) (part-leads back p t (λ e. s (rw e)) h) (λ u w. duration-leads back d u (λ e. s (or-right (isSubDailyPart p) e)) w)
+      behind (durationStep back d) (part-leads back p t (λ e. s (rw e)) h)
+      (λ u w. duration-leads back d u (λ e. s (or-right (isSubDailyPart p) e)) w)
 
 -- the moments of the calendar are kept
 kept-moment : Kept IsMoment true
@@ -158,8 +163,8 @@ module _ (t : Moment) (v : IsMoment t) where
   stated-leads y m d =
       tested (inRange y 1 9999) _ _
       (λ _.
-      tested (isDate y m d) _ _ (λ e. leads (record { date = test-date y m d e; time = v .time })) (refuses (omega arith) (omega arith)))
-      (refuses (omega arith) (omega arith))
+      tested (isDate y m d) _ _ (λ e. leads (record { date = test-date y m d e; time = v .time })) (refuses refl))
+      (refuses refl)
 
   date-leads : (d : Date) → Leads IsMoment (dateAt d t)
   date-leads Today = leads v
@@ -179,7 +184,7 @@ module _ (t : Moment) (v : IsMoment t) where
 
   days-back-lead : (n b : ℕ) → Leads IsMoment (daysBack n b t)
   unfolding daysBack
-  days-back-lead n b = tested (leb b n) _ _ (λ _. on-day-leads (n - b)) (refuses (omega arith) (omega arith))
+  days-back-lead n b = tested (leb b n) _ _ (λ _. on-day-leads (n - b)) (refuses refl)
 
   week-leads : (s : RelativeSpecifier) (w : ℕ) → Leads IsMoment (inWeek s w t)
   week-leads This w = on-day-leads _
@@ -194,7 +199,7 @@ module _ (t : Moment) (v : IsMoment t) where
   by-unit-leads : (s : RelativeSpecifier) (u : Unit) → Leads IsMoment (byUnit s u t)
   by-unit-leads Next u = unit-leads kept-moment false 1 u t (λ e. refl) v
   by-unit-leads Last u = unit-leads kept-moment true 1 u t (λ e. refl) v
-  by-unit-leads This u = refuses {k = 9} (omega arith) (omega arith)
+  by-unit-leads This u = refuses {k = 9} refl
 
 lasts : (back : Bool) (d : Duration) (t : Moment) → IsMoment t → Leads IsMoment (durationStep back d t)
 lasts back d t v = duration-leads kept-moment back d t (λ e. refl) v
@@ -203,25 +208,25 @@ expr-leads : (e : DateExpr) (t : Moment) → IsMoment t → Leads IsMoment (date
 expr-leads (date d) t v = date-leads t v d
 expr-leads (dateRelative d s u) t v =
     tested (isYear u && isMonthAndDay d) _ _
-    (λ _. behind (byYear s) (date-leads t v d) (λ w h. by-year-leads w h s)) (refuses (omega arith) (omega arith))
+    (λ _. behind (byYear s) (date-leads t v d) (λ w h. by-year-leads w h s)) (refuses refl)
 expr-leads (weekdayExpressionBefore w d) t v = behind (backTo (w % 7)) (lasts true d t v) (λ u h. days-back-lead u h _ _)
 expr-leads (dateExpressionAfter d dur) t v = behind (durationStep false dur) (date-leads t v d) (lasts false dur)
 expr-leads (dateExpressionBefore d dur) t v = behind (durationStep true dur) (date-leads t v d) (lasts true dur)
 expr-leads (before dur d) t v = behind (durationStep true dur) (date-leads t v d) (lasts true dur)
 expr-leads (after dur d) t v = behind (durationStep false dur) (date-leads t v d) (lasts false dur)
-expr-leads (unitRelative s u) t v = tested (isSubDailyUnit u) _ _ (λ _. refuses (omega arith) (omega arith)) (by-unit-leads t v s u)
+expr-leads (unitRelative s u) t v = tested (isSubDailyUnit u) _ _ (λ _. refuses refl) (by-unit-leads t v s u)
 expr-leads (relativeWeekday s w) t v = week-leads t v s (w % 7)
-expr-leads (weekdayRelative w s u) t v = tested (isWeek u) _ _ (λ _. week-leads t v s (w % 7)) (refuses (omega arith) (omega arith))
+expr-leads (weekdayRelative w s u) t v = tested (isWeek u) _ _ (λ _. week-leads t v s (w % 7)) (refuses refl)
 expr-leads (weekday w) t v = on-day-leads t v _
 expr-leads empty t v = leads v
 
 stated-time-leads : (b : Bool) (h m : ℕ) (t : Moment) → IsMoment t → Leads IsMoment (statedTime b h m t)
 stated-time-leads b h m t v =
     tested (b && isTime h m 0) _ _
-    (λ e. leads (record { date = v .date; time = test-time h m 0 (and-eq-true-iff b _ .0 e .1) })) (refuses (omega arith) (omega arith))
+    (λ e. leads (record { date = v .date; time = test-time h m 0 (and-eq-true-iff b _ .0 e .1) })) (refuses refl)
 
 -- where a time of day leads
-pub time-leads : (x : Time) (n t : Moment) → IsMoment n → IsMoment t → Leads IsMoment (timeAt x n t)
+time-leads : (x : Time) (n t : Moment) → IsMoment n → IsMoment t → Leads IsMoment (timeAt x n t)
 time-leads NoTime n t w v = leads (record { date = v .date; time = w .time })
 time-leads (HourMin h m) n t w v = stated-time-leads true h m t v
 time-leads (HourMinAM h m) n t w v = stated-time-leads (inRange h 1 12) (h % 12) m t v
@@ -245,7 +250,7 @@ hasSubDaily now = false
 
 module _ {M : Moment → Type 0} {sub : Bool} (kept : Kept M sub) (n : Moment) (own : M n) where
   -- a reading leads to what its time of day gives and its durations keep
-  pub tree-leads :
+  tree-leads :
       (x : DateTime) → ((u : Moment) → IsMoment u → Leads M (timeAt (timeOf x) n u)) → (hasSubDaily x ≡ true → sub ≡ true) →
       Leads M (evaluate x n)
   unfolding evaluate
@@ -299,7 +304,8 @@ kept-time n = record {
       λ t y m d h w. record { valid = record { date = w; time = h .valid .time }; hour = h .hour; minute = h .minute; second = h .second };
   minute =
       λ t k h below s.
-      let day = ⊎-elim (λ e. let z : _≡_ {A = ℕ} 0 1 = cc in absurd (omega arith)) (of-day _ (t .hour) (t .minute) k (h .valid .time .hour) (h .valid .time .minute)) s in
+      let time = h .valid .time in
+      let day = ⊎-elim never (of-day _ (t .hour) (t .minute) k (time .hour) (time .minute)) s in
       record {
         valid = at-minute-moment k t below (h .valid);
         hour = day .0 ∙ h .hour;
@@ -309,7 +315,8 @@ kept-time n = record {
 }
 
 -- without a stated time, and with no hours or minutes around the base
-pub time-of-day-leads : (x : DateTime) (n : Moment) → IsMoment n → timeOf x ≡ NoTime → hasSubDaily x ≡ false → Leads (SameTime n) (evaluate x n)
+pub time-of-day-leads :
+    (x : DateTime) (n : Moment) → IsMoment n → timeOf x ≡ NoTime → hasSubDaily x ≡ false → Leads (SameTime n) (evaluate x n)
 time-of-day-leads x n v e f =
     tree-leads (kept-time n) n (record { valid = v; hour = refl; minute = refl; second = refl }) x
     (λ u h. rw e (leads (record { valid = record { date = h .date; time = v .time }; hour = refl; minute = refl; second = refl })))

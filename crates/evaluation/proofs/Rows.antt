@@ -17,10 +17,12 @@ abbrev pub rowStep : Bool → List Slot → Moment → Outcome
 rowStep back [] t = moment t
 rowStep back (s ∷ ss) t = andThen (partStep back (s .part) t) (rowStep back ss)
 
+-- what follows is the same where it is the same from every moment
 then-same : (o : Outcome) (f g : Moment → Outcome) → ((t : Moment) → f t ≡ g t) → andThen o f ≡ andThen o g
 then-same (moment t) f g e = e t
 then-same (refused k) f g e = refl
 
+-- staying where it led changes nothing
 then-moment : (o : Outcome) → andThen o moment ≡ o
 then-moment (moment t) = refl
 then-moment (refused k) = refl
@@ -41,6 +43,7 @@ module _ (back : Bool) (l : List Slot) (i to : ℕ) (t : Moment) where
       ap (λ (ss : List Slot). rowStep back ss t) (slice-cons i to l blankSlot h k)
       ∙ ap (λ (m : ℕ). andThen (partStep back (getD l i blankSlot .part) t) (rowStep back (slice m to l))) (sym (add-one i))
 
+  -- it is the walk of its duration, where there is a part
   pub row-steps : i < to → to ≤ length l → durationStep back (rowDuration (slice i to l)) t ≡ rowStep back (slice i to l) t
   row-steps h k =
       let first = slice-cons i to l blankSlot h k in

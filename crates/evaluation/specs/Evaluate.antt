@@ -5,12 +5,14 @@ use Rattle.calendar.specs.Moments.{Outcome, moment, refused, andThen, yearsLate
 use Rattle.calendar.specs.declared.Moment.{Moment}
 use Rattle.dates.specs.Durations.{isSubDailyUnit}
 use Rattle.dates.specs.declared.date.Date.{Date}
-use Rattle.dates.specs.declared.date.Date.the-variants.{YearMonthNumDay, MonthNumDayYear, DayMonthYear, MonthDayYear, MonthNumDay, MonthDay, Today, Tomorrow, Yesterday, Empty}
+use Rattle.dates.specs.declared.date.Date.the-variants.{YearMonthNumDay, MonthNumDayYear, DayMonthYear, MonthDayYear}
+use Rattle.dates.specs.declared.date.Date.the-variants.{MonthNumDay, MonthDay, Today, Tomorrow, Yesterday, Empty}
 use Rattle.dates.specs.declared.units.Unit.{Unit}
 use Rattle.dates.specs.declared.units.Unit.the-variants.{Day, Week, Hour, Minute, Month, Year}
 use Rattle.dates.specs.declared.units.RelativeSpecifier.{RelativeSpecifier}
 use Rattle.dates.specs.declared.units.RelativeSpecifier.the-variants.{This, Next, Last}
-use Rattle.expressions.specs.Tree.{DateExpr, date, dateRelative, dateExpressionAfter, dateExpressionBefore, unitRelative, relativeWeekday, weekdayRelative, weekdayExpressionBefore, before, after, weekday, empty}
+use Rattle.expressions.specs.Tree.{DateExpr, date, dateRelative, dateExpressionAfter, dateExpressionBefore, unitRelative}
+use Rattle.expressions.specs.Tree.{relativeWeekday, weekdayRelative, weekdayExpressionBefore, before, after, weekday, empty}
 use Rattle.phrase.specs.Tree.{DateTime, dateTime, timeDate, durationAfter, durationBefore, now}
 use Rattle.evaluation.specs.Refusals.{NoSense}
 use Rattle.evaluation.specs.Steps.{unitStep, durationStep}

@@ -1,14 +1,22 @@
--- A flat reading whose durations all have parts that are there: every reading of a tree is one (`formed`).
+-- A flat reading: its base, and that its durations all have parts that are there, as every reading of a tree does (`formed`).
 use Prim.Native.Nat.{ℕ, _≤_, _<_}
 use mathlib.Core.Path.{_≡_}
 use mathlib.Core.Bool.{Bool, true, false}
 use lib.ListN.{getD}
-use Rattle.phrase.specs.Flat.{blankLink}
+use lib.Seq.{slice}
+use Rattle.phrase.specs.Tree.{DateTime as Tree}
+use Rattle.phrase.specs.Flat.{rowDuration, baseFrom, blankLink}
 use Rattle.expressions.specs.declared.expr.Expr.{Expr}
-use Rattle.expressions.specs.declared.expr.Expr.the-variants.{Date, DateRelative, DateExpressionAfter, DateExpressionBefore, UnitRelative, RelativeWeekday, WeekdayRelative, WeekdayExpressionBefore, Before, After, Weekday, Empty}
+use Rattle.expressions.specs.declared.expr.Expr.the-variants.{Date, DateRelative, DateExpressionAfter, DateExpressionBefore, UnitRelative}
+use Rattle.expressions.specs.declared.expr.Expr.the-variants.{RelativeWeekday, WeekdayRelative, WeekdayExpressionBefore, Before, After}
+use Rattle.expressions.specs.declared.expr.Expr.the-variants.{Weekday, Empty}
 use Rattle.phrase.specs.declared.reading.Base.{Base}
 use Rattle.phrase.specs.declared.reading.Base.the-variants.{Now, DateTime, TimeDate}
 use Rattle.phrase.specs.declared.reading.Reading.{Reading}
+
+-- what the links of a reading stand around
+abbrev pub baseOf : Reading → Tree
+baseOf r = baseFrom (r .base) (r .time) (rowDuration (slice (r .own) (r .parts .n) (r .parts .items)))
 
 -- whether a date expression has a duration
 abbrev pub hasDuration : Expr → Bool

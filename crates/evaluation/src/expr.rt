@@ -24,7 +24,8 @@ ghost use Rattle.expressions.specs.Shapes.{exprFrom};
 ghost use Rattle.phrase.specs.Flat.{rowDuration};
 ghost use Rattle.evaluation.specs.Steps.{reachedOf, Valid, durationStep};
 ghost use Rattle.evaluation.specs.Weekdays.{backTo};
-ghost use Rattle.evaluation.specs.Evaluate.{byYear, isYear, isWeek, isMonthAndDay, dateRelativeAt, unitRelativeAt, weekdayRelativeAt, dateExprAt};
+ghost use Rattle.evaluation.specs.Evaluate.{byYear, isYear, isWeek, isMonthAndDay};
+ghost use Rattle.evaluation.specs.Evaluate.{dateRelativeAt, unitRelativeAt, weekdayRelativeAt, dateExprAt};
 ghost use Rattle.evaluation.specs.Formed.{hasDuration};
 
 // A date moved by a year, by its specifier.

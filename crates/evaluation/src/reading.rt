@@ -8,14 +8,12 @@ use dates::time::Time;
 use phrase::reading::Base;
 use phrase::reading::Reading;
 ghost use mathlib.Core.Path.{_≡_};
-ghost use Prim.Native.Nat.{_<_};
-ghost use lib.Seq.{slice};
 ghost use Rattle.calendar.specs.Moments.{IsMoment, andThen};
-ghost use Rattle.phrase.specs.Flat.{rowDuration, baseFrom, treeOf};
+ghost use Rattle.phrase.specs.Flat.{treeOf};
 ghost use Rattle.evaluation.specs.Steps.{reachedOf, Valid};
 ghost use Rattle.evaluation.specs.Times.{timeAt};
 ghost use Rattle.evaluation.specs.Evaluate.{evaluate};
-ghost use Rattle.evaluation.specs.Formed.{Formed};
+ghost use Rattle.evaluation.specs.Formed.{baseOf, Formed};
 
 // The time of day on a date that was reached.
 fn timed(x: Reached, time: Time, now: Moment) -> Reached
@@ -32,7 +30,7 @@ fn timed(x: Reached, time: Time, now: Moment) -> Reached
 // What the durations stand around.
 fn base_at(r: Reading, now: Moment) -> Reached
     requires { ⌜ IsMoment now × Formed r ⌝ }
-    ensures { λ x. ⌜ reachedOf x ≡ evaluate (baseFrom (r .base) (r .time) (rowDuration (slice (r .own) (r .parts .n) (r .parts .items)))) now ⌝ }
+    ensures { λ x. ⌜ reachedOf x ≡ evaluate (baseOf r) now ⌝ }
     ensures { λ x. ⌜ Valid (reachedOf x) ⌝ }
 {
     let base = r.base;

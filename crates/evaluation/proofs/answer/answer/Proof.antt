@@ -16,13 +16,15 @@ use Rattle.evaluation.proofs.answer.answer.Tie as tie
 abbrev nowOf : tie.Start → Moment
 nowOf c = let a = c .args in momentOf (a .year) (a .month) (a .day) (a .hour) (a .minute) (a .second)
 
+-- the code makes it
 made : (c : tie.After-valid) → c .before .with-time .result ≡ nowOf (c .before .before .before .before .before .before .before)
 made c = rw (c .before .with-time .ensures, c .before .before .with-date .ensures)
 
 -- what the code tests is whether it is one of the calendar
-tested : (c : tie.After-valid) {b : Bool} → c .valid .result ≡ b → isMoment (nowOf (c .before .before .before .before .before .before .before)) ≡ b
-tested c e =
-    rw (made c) at (sym (c .valid .ensures) ∙ e)
+tested :
+    (c : tie.After-valid) {b : Bool} → c .valid .result ≡ b →
+    isMoment (nowOf (c .before .before .before .before .before .before .before)) ≡ b
+tested c e = rw (made c) at (sym (c .valid .ensures) ∙ e)
 
 -- the phrase was read
 was-read : (c : tie.Then1) → TreeRead (now (c .before .before .before .args .phrase)) (c .before .read .result)
@@ -55,10 +57,10 @@ returns : tie.Need-returns
 returns c =
     let valid = c .before .before .before .before in
     let start = valid .before .before .before .before .before .before .before in
-    let read = was-read (valid .before .before .before .before) in
+    let was = was-read (valid .before .before .before .before) .read in
     c .place .ensures ∙ ap placed (c .before .evaluate .ensures .0)
     ∙ ap (λ (n : Moment). placed (evaluate (treeOf (valid .before .before .before .before .before .read .result .reading)) n)) (made valid)
-    ∙ sym (at-now (now (start .args .phrase)) (read .read) (nowOf start) (tested valid (c .before .before .before .if2 .taken)))
+    ∙ sym (at-now (now (start .args .phrase)) was (nowOf start) (tested valid (c .before .before .before .if2 .taken)))
 
 place-requires-2 : tie.Need-place-requires-2
 place-requires-2 c κs = search needs
@@ -66,13 +68,15 @@ place-requires-2 c κs = search needs
 returns-2 : tie.Need-returns-2
 returns-2 c =
     let valid = c .before .before in
-    let start = c .before .before .before .before .before .before .before .before .before in
-    c .place2 .ensures ∙ sym (at-no-now (now (start .args .phrase)) (was-read (valid .before .before .before .before) .read) (nowOf start) (tested valid (c .before .if2 .left)))
+    let start = valid .before .before .before .before .before .before .before in
+    let was = was-read (valid .before .before .before .before) .read in
+    c .place2 .ensures ∙ sym (at-no-now (now (start .args .phrase)) was (nowOf start) (tested valid (c .before .if2 .left)))
 
 returns-3 : tie.Need-returns-3
 returns-3 c =
     let start = c .before .before .before in
-    sym (refused-reading (now (start .args .phrase)) (number-other (now (start .args .phrase)) (c .before .read .ensures) (c .if1 .left)) (nowOf start))
+    let s = now (start .args .phrase) in
+    sym (refused-reading s (number-other s (c .before .read .ensures) (c .if1 .left)) (nowOf start))
 
 pub answer-spec : {M : Type 1} → statement M
 answer-spec =

@@ -29,7 +29,9 @@ years-step-requires-2 : tie.Need-years-step-requires-2
 years-step-requires-2 c κs = at-moment (c .before .before .before .before .before .pre) (c .before .before .before .x .given .1)
 
 returns-2 : tie.Need-returns-2
-returns-2 c = rw (c .before .before .before .x .given .1, c .enum-told2 .given .1) (refl, moment-valid (at-moment (c .before .before .before .before .before .pre) (c .before .before .before .x .given .1)))
+returns-2 c =
+    let date = c .before .before .before in
+    rw (date .x .given .1, c .enum-told2 .given .1) (refl, moment-valid (at-moment (date .before .before .pre) (date .x .given .1)))
 
 returns-3 : tie.Need-returns-3
 returns-3 c = rw (c .before .before .before .before .x .given .1, c .before .enum-told3 .given .1) (c .years-step .ensures)

@@ -32,7 +32,8 @@ returns c =
 returns-2 : tie.Need-returns-2
 returns-2 c =
     let year = c .before .before in
-    (rw (← (year .before .is-year .ensures), year .if1 .taken, ← (c .before .is-month-and-day .ensures), c .if2 .left), refused-valid NoSense)
+    let date = c .before .is-month-and-day in
+    (rw (← (year .before .is-year .ensures), year .if1 .taken, ← (date .ensures), c .if2 .left), refused-valid NoSense)
 
 returns-3 : tie.Need-returns-3
 returns-3 c = (rw (← (c .before .is-year .ensures), c .if1 .left), refused-valid NoSense)

@@ -1,4 +1,4 @@
-use Prim.Native.Nat.{_<_}
+use Prim.Native.Nat.{_≤_, _<_}
 use mathlib.Core.Path.{_≡_, refl, ap, _∙_}
 use mathlib.Core.Bool.{true}
 use Rattle.expressions.specs.declared.expr.Expr.{Expr}
@@ -8,9 +8,11 @@ use borrow.Author.Needs.{needs}
 use Rattle.evaluation.proofs.expr.expr_at.Statement.{statement}
 use Rattle.evaluation.proofs.expr.expr_at.Tie as tie
 
--- an expression with a duration has a part of its own
-own : (c : tie.Start) {e : Expr} → c .args .expr ≡ e → hasDuration e ≡ true → c .args .own < c .args .parts .n
-own c h d = c .pre .2 (ap hasDuration h ∙ d)
+-- once its walk has a beginning: an expression with a duration has parts of its own, and the row has at most 21
+own :
+    (c : tie.Start) {e : Expr} {Begun : Type 0} → c .args .expr ≡ e → hasDuration e ≡ true → Begun →
+    Begun × (c .args .own < c .args .parts .n) × (c .args .parts .n ≤ 21)
+own c h d b = (b, c .pre .2 (ap hasDuration h ∙ d), c .pre .1)
 
 enum-known-expr : tie.Need-enum-known-expr
 enum-known-expr c = search needs
@@ -31,7 +33,7 @@ date-at-requires-2 : tie.Need-date-at-requires-2
 date-at-requires-2 c κs = search needs
 
 from-date-requires : tie.Need-from-date-requires
-from-date-requires c κs = (c .date-at2 .ensures .1, own (c .before .before .before .before) (c .before .before .expr3 .given .1) refl, c .before .before .before .before .pre .1)
+from-date-requires c κs = own (c .before .before .before .before) (c .before .before .expr3 .given .1) refl (c .date-at2 .ensures .1)
 
 enum-known-expr-4 : tie.Need-enum-known-expr-4
 enum-known-expr-4 c = search needs
@@ -40,7 +42,7 @@ date-at-requires-3 : tie.Need-date-at-requires-3
 date-at-requires-3 c κs = search needs
 
 from-date-requires-2 : tie.Need-from-date-requires-2
-from-date-requires-2 c κs = (c .date-at3 .ensures .1, own (c .before .before .before .before) (c .before .before .expr4 .given .1) refl, c .before .before .before .before .pre .1)
+from-date-requires-2 c κs = own (c .before .before .before .before) (c .before .before .expr4 .given .1) refl (c .date-at3 .ensures .1)
 
 enum-known-expr-5 : tie.Need-enum-known-expr-5
 enum-known-expr-5 c = search needs
@@ -64,7 +66,7 @@ enum-known-expr-8 : tie.Need-enum-known-expr-8
 enum-known-expr-8 c = search needs
 
 weekday-before-requires : tie.Need-weekday-before-requires
-weekday-before-requires c κs = (c .before .before .before .pre .0, own (c .before .before .before) (c .before .expr8 .given .1) refl, c .before .before .before .pre .1)
+weekday-before-requires c κs = own (c .before .before .before) (c .before .expr8 .given .1) refl (c .before .before .before .pre .0)
 
 enum-known-expr-9 : tie.Need-enum-known-expr-9
 enum-known-expr-9 c = search needs
@@ -73,7 +75,7 @@ date-at-requires-4 : tie.Need-date-at-requires-4
 date-at-requires-4 c κs = search needs
 
 from-date-requires-3 : tie.Need-from-date-requires-3
-from-date-requires-3 c κs = (c .date-at4 .ensures .1, own (c .before .before .before .before) (c .before .before .expr9 .given .1) refl, c .before .before .before .before .pre .1)
+from-date-requires-3 c κs = own (c .before .before .before .before) (c .before .before .expr9 .given .1) refl (c .date-at4 .ensures .1)
 
 enum-known-expr-10 : tie.Need-enum-known-expr-10
 enum-known-expr-10 c = search needs
@@ -82,7 +84,7 @@ date-at-requires-5 : tie.Need-date-at-requires-5
 date-at-requires-5 c κs = search needs
 
 from-date-requires-4 : tie.Need-from-date-requires-4
-from-date-requires-4 c κs = (c .date-at5 .ensures .1, own (c .before .before .before .before) (c .before .before .expr10 .given .1) refl, c .before .before .before .before .pre .1)
+from-date-requires-4 c κs = own (c .before .before .before .before) (c .before .before .expr10 .given .1) refl (c .date-at5 .ensures .1)
 
 enum-known-expr-11 : tie.Need-enum-known-expr-11
 enum-known-expr-11 c = search needs

@@ -4,7 +4,8 @@ use mathlib.Core.List.{[], _∷_}
 use types.Run.{OneOf, miss}
 use denote.Enum.Declared.{tagOf}
 use Rattle.dates.specs.declared.date.Date.{Date}
-use Rattle.dates.specs.declared.date.Date.the-variants.{YearMonthNumDay, MonthNumDayYear, DayMonthYear, MonthDayYear, MonthNumDay, MonthDay, Today, Tomorrow, Yesterday, Empty}
+use Rattle.dates.specs.declared.date.Date.the-variants.{YearMonthNumDay, MonthNumDayYear, DayMonthYear, MonthDayYear}
+use Rattle.dates.specs.declared.date.Date.the-variants.{MonthNumDay, MonthDay, Today, Tomorrow, Yesterday, Empty}
 use Rattle.dates.proofs.date.Date.{the-type}
 use Rattle.evaluation.specs.Evaluate.{isMonthAndDay}
 use borrow.Author.Needs.{needs}

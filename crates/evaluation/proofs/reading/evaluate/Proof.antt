@@ -3,10 +3,13 @@ use native.Mathlib.Omega.{arith}
 use mathlib.Core.Path.{_≡_, ap, sym, _∙_}
 use lib.ListN.{length, length-map}
 use Rattle.calendar.specs.Moments.{IsMoment, moment}
+use Rattle.phrase.specs.Flat.{treeOf}
 use Rattle.evaluation.specs.Steps.{reachedOf}
 use Rattle.evaluation.specs.Evaluate.{evaluate}
+use Rattle.evaluation.specs.Formed.{baseOf}
+use Rattle.evaluation.specs.declared.step.Reached.{Reached}
 use Rattle.evaluation.proofs.Laws.{moment-valid, at-moment, refused-valid}
-use Rattle.evaluation.proofs.Links.{baseOf, linksAt, reading-walked, no-link, turn, stays}
+use Rattle.evaluation.proofs.Links.{linksAt, reading-walked, no-link, turn, stays}
 use borrow.Author.Needs.{needs}
 use Rattle.evaluation.proofs.reading.evaluate.Statement.{statement}
 use Rattle.evaluation.proofs.reading.evaluate.Tie as tie
@@ -20,6 +23,31 @@ abbrev μ-loop : tie.MeasureT-loop
 -- the links are all there
 all-there : (c : tie.Start Inv-loop μ-loop) → c .args .t1 .m ≤ length (c .args .t1 .links)
 all-there c = let l = simp length-map at (c .good .0 .1 .1 .1 .1 .1 .1 .1 .0 .1 .0 .1) in omega (arith, c .pre .1 .links)
+
+-- the reading leads where its links lead from the base
+whole :
+    (c : tie.After-parts Inv-loop μ-loop) →
+    let start = c .before .before .before .before .before in
+    evaluate (treeOf (start .args .t1)) (start .args .now) ≡ linksAt (start .args .t1) 0 (moment (c .before .before .base .given .0 .0))
+whole c =
+    let start = c .before .before .before .before .before in
+    let base = c .before .before .before .before .base-at in
+    reading-walked (start .args .t1) (start .args .now)
+    ∙ ap (linksAt (start .args .t1) 0) (sym (base .ensures .0) ∙ ap reachedOf (c .before .before .base .given .1))
+
+-- one turn: the links from i - 1 on lead where the duration of link i - 1 leads
+turned :
+    (c : tie.After-duration-step Inv-loop μ-loop) {x : Reached} → c .duration-step .result ≡ x →
+    let parts = c .before .before .before .before in
+    linksAt (parts .before .before .before .before .before .args .t1) (c .before .before .before .loop .i - 1) (
+    moment (parts .before .before .base .given .0 .0)
+    )
+    ≡ reachedOf x
+turned c e =
+    let start = c .before .before .before .before .before .before .before .before .before in
+    let loop = c .before .before .before .loop in
+    turn (start .args .t1) _ (all-there start) (loop .i) (c .before .before .loop-test .taken) (loop .inv .0) (loop .inv .2)
+    ∙ sym (c .duration-step .ensures .0) ∙ ap reachedOf e
 
 base-at-requires : tie.Need-base-at-requires Inv-loop μ-loop
 base-at-requires c κs = search needs
@@ -51,10 +79,10 @@ sub-i : tie.Need-sub-i Inv-loop μ-loop
 sub-i c = search needs
 
 mul-link : tie.Need-mul-link Inv-loop μ-loop
-mul-link c = let links = c .before .before .before .before .before .before .before .pre .1 .links in omega arith
+mul-link c = omega (arith, c .before .before .before .before .before .before .before .pre .1 .links)
 
 element-copy-out-link : tie.Need-element-copy-out-link Inv-loop μ-loop
-element-copy-out-link c = let links = c .before .before .before .before .before .before .before .pre .1 .links in omega arith
+element-copy-out-link c = omega (arith, c .before .before .before .before .before .before .before .pre .1 .links)
 
 duration-step-requires : tie.Need-duration-step-requires Inv-loop μ-loop
 duration-step-requires c κs =
@@ -70,45 +98,27 @@ loop-less c = omega arith
 
 loop-again : tie.Need-loop-again Inv-loop μ-loop
 loop-again c =
-    let start = c .before .before .before .before .before .before .before .before .before .before .before .before in
-    let loop = c .before .before .before .before .before .before .loop in
-    let step = c .before .before .before .duration-step in
+    let step = c .before .before .before in
     let u = c .before .u .given .1 in
-    let test = c .before .before .before .before .before .loop-test .taken in (
-      omega arith,
-      at-moment (step .ensures .1) u,
-      turn (start .args .t1) _ (all-there start) (loop .i) (omega arith) (loop .inv .0) (loop .inv .2) ∙ sym (step .ensures .0) ∙ ap reachedOf u,
-    )
+    (omega arith, at-moment (step .duration-step .ensures .1) u, turned step u)
 
 enum-known-k : tie.Need-enum-known-k Inv-loop μ-loop
 enum-known-k c = search needs
 
 returns-2 : tie.Need-returns-2 Inv-loop μ-loop
 returns-2 c =
-    let start = c .before .before .before .before .before .before .before .before .before .before .before .before in
-    let r = start .args .t1 in
-    let base = c .before .before .before .before .before .before .before .before .before .before .before .base-at in
-    let begin = c .before .before .before .before .before .before .before .before .before .base .given in
-    let loop = c .before .before .before .before .before .before .loop in
-    let step = c .before .before .before .duration-step in
-    let k = c .before .k .given in
-    let test = c .before .before .before .before .before .loop-test .taken in
-    let o = moment (begin .0 .0) in
-    let here = turn r o (all-there start) (loop .i) (omega arith) (loop .inv .0) (loop .inv .2) ∙ sym (step .ensures .0) ∙ ap reachedOf (k .1) in
-    let all = stays r o (all-there start) (loop .i - 1) (omega arith) here in
-    let at-base = sym (base .ensures .0) ∙ ap reachedOf (begin .1) in
-    (sym (reading-walked r (start .args .now) ∙ ap (linksAt r 0) at-base ∙ all), refused-valid _)
+    let step = c .before .before .before in
+    let loop = step .before .before .before .loop in
+    let parts = step .before .before .before .before in
+    let start = parts .before .before .before .before .before in
+    let refused = stays (start .args .t1) _ (all-there start) (loop .i - 1) (omega arith) (turned step (c .before .k .given .1)) in
+    (sym (whole parts ∙ refused), refused-valid _)
 
 returns-3 : tie.Need-returns-3 Inv-loop μ-loop
 returns-3 c =
-    let start = c .before .before .before .before .before .before .before in
-    let r = start .args .t1 in
-    let base = c .before .before .before .before .before .before .base-at in
-    let begin = c .before .before .before .before .base .given in
     let loop = c .before .loop in
     let done : loop .i ≡ 0 = omega (arith, c .loop-test .left) in
-    let at-base = sym (base .ensures .0) ∙ ap reachedOf (begin .1) in
-    (sym (reading-walked r (start .args .now) ∙ ap (linksAt r 0) at-base ∙ rw done at (loop .inv .2)), moment-valid (loop .inv .1))
+    (sym (whole (c .before .before) ∙ rw done at (loop .inv .2)), moment-valid (loop .inv .1))
 
 pub evaluate-spec : {M : Type 1} → statement M
 evaluate-spec =
