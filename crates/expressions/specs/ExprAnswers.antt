@@ -85,6 +85,7 @@ withDurationAnswer l t subDaily with ps =
     (cond (isAt l t lexeme.From) (afterAnswer l (t + 1) with ps)
     (record { expr = Nothing; parts = ps }))))
 
+-- what a tail says of the parts: k of them behind m, and of its lexemes, at most n
 abbrev pub TailBounds : TailTaken → ℕ → ℕ → ℕ → Type 0
 TailBounds (Relative s u t) m k n = (k ≡ m) × (t ≤ n)
 TailBounds (Ago t) m k n = (3 * k ≤ 3 * m + t) × (t ≤ n)

@@ -95,7 +95,7 @@ cases =
 pub read-as-listed : map (λ c. dateExprOf (c .lexemes)) cases ≡ map (λ c. c .reading) cases
 unfolding cases get isAt within fitsOf number.isEnding number.wordOf number.literalOf number.onesOf number.teensOf number.tensOf
     number.tensOnesOf number.numDoubleOf number.sumOf number.tailOf number.hundredsOf number.numTripleOf number.numTripleUnitOf
-    number.unitsOf number.numStep turns again number.numOf isArticle unitOf monthOf weekdayOf relativeSpecifierOf specificOf articleOf concreteOf
-    durationStep durationOf namedDayOf dayMonthYearOf monthDayOf isDelim threeNumbersOf twoNumbersOf behindSecondOf delimitedOf dateOf
-    inTailOf durationTailOf tailOf withDurationOf relativeExprOf weekdayExprOf undatedOf dateExprOf
+    number.unitsOf number.numStep turns again number.numOf isArticle unitOf monthOf weekdayOf relativeSpecifierOf specificOf articleOf
+    concreteOf durationStep durationOf namedDayOf dayMonthYearOf monthDayOf isDelim threeNumbersOf twoNumbersOf behindSecondOf
+    delimitedOf dateOf inTailOf durationTailOf tailOf withDurationOf relativeExprOf weekdayExprOf undatedOf dateExprOf
 read-as-listed = refl
