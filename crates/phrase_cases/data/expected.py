@@ -14,6 +14,22 @@ oracle = crate.parent.parent / "oracle"
 rows = [(oracle / name).read_text().splitlines() for name in ("list.txt", "recorded.txt", "expected.txt")]
 
 
+# a number word's code is its value, every other lexeme of the Rust's enum but Num has its code from 100 on, in the enum's order
+VALUES = """One Two Three Four Five Six Seven Eight Nine Ten Eleven Twelve Thirteen Fourteen Fifteen Sixteen Seventeen Eighteen
+Nineteen""".split()
+TENS = "Twenty Thirty Fourty Fifty Sixty Seventy Eighty Ninety".split()
+OTHERS = """A An On In At The Dash Today Tomorrow Yesterday From Now And Comma Colon Dot After This Next Monday Tuesday Wednesday
+Thursday Friday Saturday Sunday January February March April May June July August September October November December AM PM Day Week
+Hour Minute Month Year Slash Before Ago Midnight Noon Zero Hundred Thousand Million Billion Last ST ND RD TH""".split()
+CODES = {name: k + 1 for k, name in enumerate(VALUES)} | {name: 10 * k + 20 for k, name in enumerate(TENS)}
+CODES |= {name: 100 + k for k, name in enumerate(OTHERS)}
+
+
+def code_of(name):
+    number = re.match(r"Num\((\d+)\)", name)
+    return str(1000 + int(number.group(1)) if number else CODES[name])
+
+
 def phrase_of(line):
     text = line.split("|", 1)[1]
     return re.sub(rb"\\x([0-9a-f]{2})", lambda m: bytes([int(m.group(1), 16)]), text.encode())
@@ -27,7 +43,7 @@ def answer(rust, model):
         return last if rust[len(model) - 1] in ("error", "panic") and rust[:len(model) - 1] == model[:len(model) - 1] else None
     if len(rust) < 4 or rust[:3] != model[:3]:
         return None
-    return f"{len(rust[0].split())}|{rust[1]}|{rust[2]}"
+    return f"{' '.join(code_of(name) for name in rust[0].split())}|{rust[1]}|{rust[2]}"
 
 
 answers, size = {}, 0

@@ -1,6 +1,7 @@
-// Reads each line of standard input as a phrase and writes a line for each: the lexemes' number, the reading as the Rust's Debug prints it
+// Reads each line of standard input as a phrase and writes a line for each: the lexemes' codes, the reading as the Rust's Debug prints it
 // without blanks and the lexemes taken; or the refusal with its place and the end of its part.
 use bytes::scan;
+use lexer::lex::Line;
 use lexer::lex::lex;
 use out::number;
 use out::text;
@@ -11,11 +12,27 @@ mod name;
 mod out;
 mod reading;
 
+// The lexemes' codes.
+fn write_lexemes(line: Line) {
+    let count = line.count;
+    let mut i: usize = 0;
+    while i < count {
+        if 64 <= i {
+            return;
+        }
+        if 0 < i {
+            text(b" ");
+        }
+        number(b"", line.codes[i]);
+        i += 1;
+    }
+}
+
 // What reading answers to a phrase.
 fn write_answer(phrase: &[u8]) {
     let r = read(phrase);
     if r.number == 0 {
-        number(b"", lex(phrase).count as u64);
+        write_lexemes(lex(phrase));
         text(b"|");
         let reading = r.reading;
         write_reading(reading);
