@@ -2,6 +2,7 @@ use native.Mathlib.Omega.{arith}
 use lib.ListN.{length}
 use borrow.Author.Tests.{le-leb, lt-leb}
 use Rattle.numbers.proofs.Laws.{found as number-found}
+use Rattle.numbers.proofs.Places.{there}
 use Rattle.dates.specs.Dates.{behindSecondOf}
 use Rattle.dates.proofs.Laws.{number-arm, unread, promised}
 use Rattle.dates.proofs.Bounds.{behind-second-took}
@@ -23,7 +24,7 @@ add-rest : tie.Need-add-rest
 add-rest c = search needs
 
 rest-requires : tie.Need-rest-requires
-rest-requires c κs = search needs
+rest-requires c κs = let room = there (c .before .is-at .ensures .1) (c .if2 .taken) in omega arith
 
 num-requires : tie.Need-num-requires
 num-requires c κs = search needs
@@ -44,6 +45,7 @@ returns-2 c =
     let rest = c .before .before .before .rest in
     let num = c .before .before .num in
     let arm = c .before .match in
+    let room = there (is-at .ensures .1) (if2 .taken) in
     promised
     (rw (lt-leb (length l) (entry .args .t) (omega arith), ← (is-at .ensures .0), if2 .taken, ← (rest .ensures .0), ← (num .ensures .0))
     (unread _ _ (number-arm (num .result) (arm .keys2)) (c .date-stopped .ensures)))
@@ -72,6 +74,7 @@ returns-3 c =
     let rest = c .before .before .before .before .before .rest in
     let num = c .before .before .before .before .num in
     let a = c .before .before .a in
+    let room = there (is-at .ensures .1) (if2 .taken) in
     promised
     (rw (
       lt-leb (length l) (entry .args .t) (omega arith),
