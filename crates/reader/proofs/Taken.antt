@@ -26,10 +26,11 @@ taken-from zero r = refl
 taken-from (suc room) r =
     let s = now (r .phrase) in
     let t = nextOf r in
-    same-behind t (λ k a e. ahead (item k a ∷ []) (taken room (behindOf r t))) (λ k a e. ahead (item k a ∷ []) (lexFrom keywords room s e)) (λ k a e q.
-    ap (ahead (item k a ∷ [])) (taken-from room (behindOf r t) ∙ ap (λ (x : Token). lexFrom keywords room s (placeBehind (r .at) x)) q))
+    same-behind t (λ k a e. ahead (item k a ∷ []) (taken room (behindOf r t))) (λ k a e. ahead (item k a ∷ []) (lexFrom keywords room s e))
+    (λ k a e q. ap (ahead (item k a ∷ [])) (taken-from room (behindOf r t) ∙ ap (λ (x : Token). lexFrom keywords room s (placeBehind (r .at) x)) q))
 
--- a phrase of at most 256 bytes, taken token by token until the end with room for 64 lexemes, gives exactly lexing's lexemes and places, or its refusal
-pub reads : (s : RefT (List ℕ)) → lexed keywords (now s) ≡ cond (leb (length (now s)) 256) (taken 64 (newOf s)) (refused TooLong 0 0)
+-- tokens taken one after the other from a new reader until the end, with room for 64 lexemes, behind the test for 256 bytes: exactly lexing's lexemes
+-- and their places, or its refusal
+pub lexed-is : (s : RefT (List ℕ)) → lexed keywords (now s) ≡ cond (leb (length (now s)) 256) (taken 64 (newOf s)) (refused TooLong 0 0)
 unfolding lexed
-reads s = ap (λ (x : Lexed). cond (leb (length (now s)) 256) x (refused TooLong 0 0)) (sym (taken-from 64 (newOf s)))
+lexed-is s = ap (λ (x : Lexed). cond (leb (length (now s)) 256) x (refused TooLong 0 0)) (sym (taken-from 64 (newOf s)))

@@ -1,5 +1,5 @@
--- A function that takes a reader apart and calls one on the slice and the number: it promises what its callee promises there. All that is known of the
--- callee is that it meets its contract. Assumes nothing.
+-- A function that takes a reader apart and calls one on the slice and the number: it promises what its callee promises there. All that is known
+-- of the callee is that it meets its contract. Assumes nothing.
 use mathlib.Core.Path.{refl}
 use mathlib.Core.List.{List, [], _∷_}
 use Prim.Native.Nat.{ℕ}
@@ -18,25 +18,23 @@ use types.Run.{look, init, forget, stop, fld, from, load, of-opd, and-then, no-m
 use types.Run.{enter, alloc1, alloc0, params1, pass1, pass0, free1, free0}
 use sound.WpLaws.{fmOf}
 use contract.Lifetimes.{Lfts, toks}
-use denote.Builtin.{u8, usize}
+use denote.Builtin.{usize}
 use denote.RattleType.{owns}
 use denote.Laws.{Is}
 use denote.Ref.{RefT}
-use denote.Signature.{Slot, plain, shrSliceOf}
+use denote.Signature.{Slot, plain}
 use denote.Slice.{sliceVal, sliceTy}
 use denote.Steps.{nothing}
-use denote.Struct.Laws as LL
 use denote.Triple.Call.{calls-at}
 use denote.Triple.Clauses.{Clauses, Ended, closing}
 use denote.Triple.Entry.{onEntry}
 use denote.Triple.Spec.{Meets}
 use denote.Triple.Statement.{Triple}
-use denote.Triple.Walked.{Stays, stay-dropped, goes-dropped, walkOf, ends-at}
+use denote.Triple.Walked.{Stays, stay-dropped, walkOf, ends-at}
 use denote.Exit.{yes}
 use Rattle.reader.specs.declared.Lexer.{Lexer}
 use Rattle.reader.proofs.Walks.{Promise, meets, brings, answered}
-use Rattle.reader.proofs.Held.{α, Held, Fields, opened, typed}
-use Rattle.reader.proofs.Lexer as T
+use Rattle.reader.proofs.Held.{Phrase, Held, vals, tells, Fields, held-goes, opened, typed}
 use Rattle.reader.proofs.Lexer.Laws as T′
 
 -- the function and its callee, with the result's type ρ
@@ -45,7 +43,7 @@ Outer ρ = record { signature = record { lifetimes = 1; outlives = []; params = 
 
 abbrev pub Inner : Slot 1 → Ended
 Inner ρ = record {
-  signature = record { lifetimes = 1; outlives = []; params = shrSliceOf (0 ∷ []) tt (plain (λ _. u8)) ∷ plain (λ _. usize) ∷ []; result = ρ };
+  signature = record { lifetimes = 1; outlives = []; params = Phrase ∷ plain (λ _. usize) ∷ []; result = ρ };
   kept = (yes, (yes, tt));
 }
 
@@ -116,7 +114,7 @@ module _ {M : Type 1} (𝓤 : URA M) (H : Heap 𝓤) (A : Atoms 𝓤) (W : Given
           assigns ! (of-opd ! (load ! (from ! (fld ! refl (stop !))) (look-in ! 4 (sub ! 1 refl (whole !))))) (from ! (stop !))
           (init ! 0 refl (tt, wt .1 .1 .0)) $
           -- [_3; …; _2; …; _1; …; room for _0; …; the token; what the reader owns]
-          move ! (9 ∷ []) $ fsplit ! $ use1 W (‵ (Fields 𝓤 H A W (κ, tt) d)) (opened 𝓤 H A W (κ, tt) d) $
+          move ! (9 ∷ []) $ fsplit ! $ use1 W (‵ (Fields (κ, tt) d)) (opened 𝓤 H A W (κ, tt) d) $
           move ! (1 ∷ []) $ drop ! $ move ! (9 ∷ 0 ∷ []) $ brings ! (Inner ρ) (inner 𝓤 ρ E) to (id⊢ 𝓤 (emp 𝓤)) $
           calls-at ! (fmOf 𝓤 H (W .laws) 𝓣) (Promise 𝓤 H A (Inner ρ) (inner 𝓤 ρ E)) known to
           (and-then ! (load ! (from ! (stop !)) (look ! 3 refl)) (and-then ! (load ! (from ! (stop !)) (look ! 1 refl)) (no-more !))) (λ u.
@@ -131,6 +129,6 @@ module _ {M : Type 1} (𝓤 : URA M) (H : Heap 𝓤) (A : Atoms 𝓤) (W : Given
       → ((κs : Lfts 1) (r : ρ .row κs .Denot) (u : Val) → Is (ρ .row κs) r (u ∷ []) → Holds (hasTy τ u) × WT u)
       → Meets 𝓤 H A (Outer ρ .signature) (WpFn 𝓤 H (𝓣 .C) (𝓣 .Λ) (thin f τ)) (closing 𝓤 H A (Outer ρ) (outer 𝓤 ρ E))
   thin-meets f τ 𝓣 known has-type =
-      meets 𝓤 H A (Outer ρ) (outer 𝓤 ρ E) W (stayed ρ) 𝓣 (thin f τ) (goes-dropped 𝓤 H A W 1 (plain Held) yes (λ κs x f. refl), tt)
-      (λ κs. (LL.vals (T.the-type (α κs)) (T′.the-laws (α κs)), tt)) (λ κs. (LL.tells (T.the-type (α κs)) (T′.the-laws (α κs)), tt))
+      meets 𝓤 H A (Outer ρ) (outer 𝓤 ρ E) W (stayed ρ) 𝓣 (thin f τ) (held-goes 𝓤 H A W, tt)
+      (λ κs. (vals κs, tt)) (λ κs. (tells κs, tt))
       (λ κs qs bounds a g are. walk (κs .0) (qs .0) (a .0) f τ 𝓣 known (has-type κs) (are .0))

@@ -24,7 +24,7 @@ abbrev pub longer : Line → ℕ → ℕ → Line
 longer l k a =
     record { number = 0; place = 0; end = 0; count = l .count + 1; codes = set (l .codes) (l .count) k; starts = set (l .starts) (l .count) a }
 
--- one token more: a lexeme is counted after it is judged
+-- one token more: the end, a refusal and "a 65th lexeme" end the reading
 abbrev pub joinedTo : Gathered → Token → Gathered
 joinedTo g Finish = over (g .line)
 joinedTo g (Refused n a e) = over (refusedLine n a e)

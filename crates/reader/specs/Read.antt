@@ -1,4 +1,4 @@
--- A reader that holds the phrase and its place, and what it reads. Assumes nothing.
+-- "A reader that holds the phrase and its place": the lexer's definitions through it. Assumes nothing.
 use Prim.Native.Nat.{ℕ, zero, suc, min}
 use mathlib.Core.List.{List, [], _∷_}
 use lib.ListN.{length}
@@ -10,11 +10,11 @@ use Rattle.lexer.specs.declared.lex.Token.{Token}
 use Rattle.lexer.specs.declared.lex.Token.the-variants.{Finish, Taken, Refused}
 use Rattle.reader.specs.declared.Lexer.{Lexer}
 
--- a reader at the start of a phrase
+-- the borrow goes into the reader, which stands at the start
 abbrev pub newOf : RefT (List ℕ) → Lexer
 newOf s = record { phrase = s; at = 0 }
 
--- its next token: the first lexeme at or after its place
+-- its next token: what the lexer finds at its place
 abbrev pub nextOf : Lexer → Token
 nextOf r = tokenAt keywords (now (r .phrase)) (r .at)
 
@@ -28,11 +28,11 @@ placeBehind at (Refused n a e) = e
 abbrev pub behindOf : Lexer → Token → Lexer
 behindOf r t = record { phrase = r .phrase; at = placeBehind (r .at) t }
 
--- where the unread rest begins: at the reader's place, or behind the last byte
+-- "the unread rest" begins at the reader's place; past the last byte there is none
 abbrev pub restStart : Lexer → ℕ
 restStart r = min (r .at) (length (now (r .phrase)))
 
--- tokens taken one after the other until the end, with room for so many lexemes
+-- tokens taken one after the other until the end, with room for so many lexemes: "a word or number is judged before it is counted"
 abbrev pub taken : ℕ → Lexer → Lexed
 taken zero r = ifTaken (nextOf r) (λ k a e. refused TooMany a e)
 taken (suc room) r = ifTaken (nextOf r) (λ k a e. ahead (item k a ∷ []) (taken room (behindOf r (nextOf r))))

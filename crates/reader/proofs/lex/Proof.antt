@@ -5,7 +5,7 @@ use lib.ListN.{length}
 use Rattle.lexer.specs.Keywords.{keywords}
 use Rattle.lexer.proofs.Places.{answered}
 use Rattle.reader.specs.Read.{taken}
-use Rattle.reader.proofs.Taken.{reads}
+use Rattle.reader.proofs.Taken.{lexed-is}
 use Rattle.reader.proofs.lex.Statement.{statement}
 use Rattle.reader.proofs.lex.Tie as tie
 
@@ -15,7 +15,7 @@ refuse-requires c κs = search needs
 returns : tie.Need-returns
 returns c =
     let s = c .before .before .before .args .phrase in
-    answered keywords (s .now) (rw (reads s, lt-leb (length (s .now)) 256 (c .before .if1 .taken)) (c .refuse .ensures))
+    answered keywords (s .now) (rw (lexed-is s, lt-leb (length (s .now)) 256 (c .before .if1 .taken)) (c .refuse .ensures))
 
 read-requires : tie.Need-read-requires
 read-requires c κs = search needs
@@ -23,7 +23,7 @@ read-requires c κs = search needs
 returns-2 : tie.Need-returns-2
 returns-2 c =
     let s = c .before .before .before .args .phrase in
-    answered keywords (s .now) (rw (reads s, le-leb (length (s .now)) 256 (c .before .if1 .left)) (c .read .ensures))
+    answered keywords (s .now) (rw (lexed-is s, le-leb (length (s .now)) 256 (c .before .if1 .left)) (c .read .ensures))
 
 pub lex-spec : {M : Type 1} → statement M
 lex-spec = tie.close (tie.spec refuse-requires returns read-requires returns-2)

@@ -1,5 +1,6 @@
--- `reader::read` meets its contract: a walk of its MIR, by hand. A reader is made, and each turn of the loop takes its next token and goes on behind it.
--- All that the proof knows of the functions that are called is that each meets its contract; what the turns add up to is proofs/Turns.antt. Assumes nothing.
+-- `reader::read` meets its contract: a walk of its MIR, by hand. A reader is made, and each turn of the loop takes its next token and goes on
+-- behind it. All that the proof knows of the functions that are called is that each meets its contract; what the turns add up to is
+-- proofs/Turns.antt. Assumes nothing.
 use mathlib.Core.Path.{_≡_, refl, ap, subst}
 use mathlib.Core.Bool.{Bool, true, false}
 use mathlib.Core.List.{List, [], _∷_}
@@ -30,7 +31,6 @@ use denote.RattleType.{owns}
 use denote.Laws.{Is}
 use denote.Builtin.{u8}
 use denote.Ref.{RefT, NamedLft}
-use denote.Signature.{plain, shrSliceOf}
 use denote.Slice.{sliceTy, sliceVal, ShrSlice, slice-vals, shr-slice-tells, shr-slice-lawful}
 use denote.Steps.{only, owned, nothing as none}
 use denote.Enum.Laws as EL
@@ -39,7 +39,7 @@ use denote.Triple.Call.{calls-at, calls-at-last}
 use denote.Triple.Entry.{onEntry}
 use denote.Triple.Statement.{Contract, Triple}
 use denote.Triple.Table.{entered, cited}
-use denote.Triple.Walked.{says, Stays, stay-dropped, goes-dropped, walkOf, ends-at}
+use denote.Triple.Walked.{says, Stays, stay-dropped, walkOf, ends-at}
 use denote.Exit.{yes}
 use Rattle.lexer.specs.Lex.{lineOf}
 use Rattle.lexer.specs.declared.lex.Line.{Line}
@@ -54,7 +54,7 @@ use Rattle.reader.specs.Read.{newOf, nextOf, behindOf, taken}
 use Rattle.reader.specs.Gather.{nothing, joinedTo}
 use Rattle.reader.proofs.Turns.{Reading, begins, turned, stopped}
 use Rattle.reader.proofs.Walks.{Promise, meets, brings, told}
-use Rattle.reader.proofs.Held.{α, Held}
+use Rattle.reader.proofs.Held.{Phrase, α, Held, phrase-goes}
 use Rattle.reader.proofs.Lexer as T
 use Rattle.reader.proofs.Lexer.Laws as T′
 use Rattle.reader.proofs.gather.Gathered as G
@@ -80,7 +80,7 @@ use Rattle.reader.proofs.read.Key.{name as #read}
 use Rattle.reader.proofs.read.Statement.{statement}
 
 abbrev stayed : Stays (read.ended .signature .params) (read.ended .kept)
-stayed = (stay-dropped (shrSliceOf (0 ∷ []) tt (plain (λ _. u8))) yes, tt)
+stayed = (stay-dropped Phrase yes, tt)
 
 -- what was gathered stands in memory as its fields do, and the line in it is a line
 lowered-is : (g : Gathered) (u : Val) → Is G.the-row g (u ∷ []) → u ≡ G′.lowered g
@@ -331,6 +331,6 @@ read-spec 𝓤 H 𝓜 𝓖 𝓡 =
     } in
     entered 𝓤 H (Promise 𝓤 H A read.ended clauses) (𝓣 .C) (𝓣 .Λ) #read code.function (code.unfolded 𝓤 H 𝓜 𝓡)
     (meets 𝓤 H A read.ended clauses W stayed (tablesOf 𝓤 H 𝓜 𝓣) code.function
-    (goes-dropped 𝓤 H A W 1 (shrSliceOf (0 ∷ []) tt (plain (λ _. u8))) yes (λ κs x f. refl), tt)
+    (phrase-goes 𝓤 H A W, tt)
     (λ κs. (slice-vals, tt)) (λ κs. (shr-slice-tells (named 0) (κs .0) u8, tt))
     (λ κs qs bounds a g are. walk 𝓤 H A W mem run (κs .0) (qs .0) (a .0) (tablesOf 𝓤 H 𝓜 𝓣) known (are .0)))

@@ -1,5 +1,5 @@
--- `reader::Lexer::behind` meets its contract: a walk of its MIR, by hand. `place_behind` is called on the number and the token, and its answer takes the
--- number's place beside the same slice. All that the proof knows of it is that it meets its contract. Assumes nothing.
+-- `reader::Lexer::behind` meets its contract: a walk of its MIR, by hand. `place_behind` is called on the number and the token, and its answer
+-- takes the number's place beside the same slice. All that the proof knows of it is that it meets its contract. Assumes nothing.
 use mathlib.Core.Path.{_≡_, refl, ap}
 use mathlib.Core.List.{[], _∷_}
 use Prim.Native.Nat.{ℕ, _<_, _^_}
@@ -28,7 +28,6 @@ use denote.Builtin.{usize}
 use denote.Signature.{plain}
 use denote.Steps.{only, nothing, owned}
 use denote.Enum.Laws as EL
-use denote.Struct.Laws as LL
 use denote.Struct.Rest.{own-put}
 use denote.Triple.Call.{calls-at}
 use denote.Triple.Entry.{Vals, onEntry}
@@ -42,7 +41,7 @@ use Rattle.lexer.proofs.lex.Token.Laws as S′
 use Rattle.reader.specs.declared.Lexer.{Lexer}
 use Rattle.reader.specs.Read.{placeBehind}
 use Rattle.reader.proofs.Walks.{Promise, meets, brings, told}
-use Rattle.reader.proofs.Held.{α, Held, typed}
+use Rattle.reader.proofs.Held.{α, Held, vals, tells, held-goes, typed}
 use Rattle.reader.proofs.Lexer as T
 use Rattle.reader.proofs.Lexer.Laws as T′
 use Rattle.reader.proofs.place.place_behind as callee
@@ -131,7 +130,7 @@ behind-spec 𝓤 H 𝓜 𝓖 𝓡 =
     let known = cited 𝓤 H promise 𝓜 𝓡 code.env callee-def.name callee-def.routine code.calls-reader·place·place-behind (callee-thm.met 𝓤 H 𝓜 𝓖 𝓡) in
     entered 𝓤 H (Promise 𝓤 H A behind.ended clauses) (𝓣 .C) (𝓣 .Λ) #behind code.function (code.unfolded 𝓤 H 𝓜 𝓡)
     (meets 𝓤 H A behind.ended clauses W stayed (tablesOf 𝓤 H 𝓜 𝓣) code.function
-    (goes-dropped 𝓤 H A W 1 (plain Held) yes (λ κs x f. refl), (goes-dropped 𝓤 H A W 1 (plain (λ _. S.the-row)) yes (λ κs x f. refl), tt))
-    (λ κs. (LL.vals (T.the-type (α κs)) (T′.the-laws (α κs)), (EL.vals S.the-type S′.the-laws, tt)))
-    (λ κs. (LL.tells (T.the-type (α κs)) (T′.the-laws (α κs)), (EL.tells S.the-type S′.the-laws, tt)))
+    (held-goes 𝓤 H A W, (goes-dropped 𝓤 H A W 1 (plain (λ _. S.the-row)) yes (λ κs x f. refl), tt))
+    (λ κs. (vals κs, (EL.vals S.the-type S′.the-laws, tt)))
+    (λ κs. (tells κs, (EL.tells S.the-type S′.the-laws, tt)))
     (λ κs qs bounds a g are. walk 𝓤 H A W (𝓜 .mem) (𝓡 .run) (κs .0) (qs .0) (a .0) (a .1 .0) (tablesOf 𝓤 H 𝓜 𝓣) known (are .0) (are .1 .0)))

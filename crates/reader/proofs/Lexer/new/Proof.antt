@@ -23,16 +23,16 @@ use denote.RattleType.{owns}
 use denote.Laws.{Is}
 use denote.Plain.{uint-makes}
 use denote.Builtin.{u8, usize}
-use denote.Ref.{RefT, NamedLft}
-use denote.Signature.{plain, namedLft, shrSliceOf}
+use denote.Ref.{RefT}
 use denote.Slice.{sliceVal, ShrSlice, slice-vals, shr-slice-tells, shr-slice-lawful}
 use denote.Steps.{nothing, owned}
 use denote.Struct.Rest.{own-shut}
 use denote.Triple.Entry.{alive, onEntry}
 use denote.Triple.Table.{entered}
-use denote.Triple.Walked.{says, Stays, stay-dropped, goes-dropped, walkOf, ends-at}
+use denote.Triple.Walked.{says, Stays, stay-dropped, walkOf, ends-at}
 use denote.Exit.{yes}
 use Rattle.reader.specs.Read.{newOf}
+use Rattle.reader.proofs.Held.{Phrase, α, phrase-goes, typed}
 use Rattle.reader.proofs.Walks.{Promise, meets}
 use Rattle.reader.proofs.Lexer as T
 use Rattle.reader.proofs.Lexer.Laws as T′
@@ -42,13 +42,10 @@ use Rattle.reader.proofs.Lexer.new.Key.{name as #new}
 use Rattle.reader.proofs.Lexer.new.Statement.{statement}
 
 abbrev stayed : Stays (new.ended .signature .params) (new.ended .kept)
-stayed = (stay-dropped (shrSliceOf (0 ∷ []) tt (plain (λ _. u8))) yes, tt)
+stayed = (stay-dropped Phrase yes, tt)
 
 module _ {M : Type 1} (𝓤 : URA M) (H : Heap 𝓤) (A : Atoms 𝓤) (W : Given 𝓤 H A) (mem : Memory → SProp 𝓤) (run : Routine → Fun 𝓤)
     (κ : Lft) (q : Share) (s : RefT (List ℕ)) where
-  abbrev α : NamedLft
-  α = namedLft 1 0 tt (κ, tt)
-
   -- the slice's machine value
   abbrev v : Val
   v = sliceVal (s .ptr) (length (s .now))
@@ -66,7 +63,7 @@ module _ {M : Type 1} (𝓤 : URA M) (H : Heap 𝓤) (A : Atoms 𝓤) (W : Given
       says ! refl $ frame ! $ nothing ! $ nothing ! $ fjoin ! $ frame ! $ fsplit ! $
       -- [what the slice owns; nothing]
       owned ! usize (Is usize) (uint-makes 𝓤 H A W w64) 0 _ (refl, lit< tt) $ move ! (0 ∷ 2 ∷ []) $ fjoin ! $ move ! (1 ∷ 0 ∷ []) $ fjoin ! $
-      by ! (own-shut 𝓤 H A W (T.the-type α) (T′.the-laws α) (s, (0, tt)))
+      by ! (own-shut 𝓤 H A W (T.the-type (α (κ, tt))) (T′.the-laws (α (κ, tt))) (s, (0, tt)))
 
   walk : (C : Calls 𝓤 H) (Λ : Loops 𝓤 H) → Is (ShrSlice (named 0) κ u8) s (v ∷ [])
       → ent 𝓤 (onEntry 𝓤 H A new.signature (κ, tt) (q, tt) (s, tt) (v ∷ [], tt)) (WpFn 𝓤 H C Λ code.function (v ∷ []) Post)
@@ -87,6 +84,6 @@ new-spec 𝓤 H 𝓜 𝓖 𝓡 =
     let 𝓣 = tables 𝓤 H 𝓜 𝓡 code.env in
     entered 𝓤 H (Promise 𝓤 H A new.ended clauses) (𝓣 .C) (𝓣 .Λ) #new code.function (code.unfolded 𝓤 H 𝓜 𝓡)
     (meets 𝓤 H A new.ended clauses W stayed (tablesOf 𝓤 H 𝓜 𝓣) code.function
-    (goes-dropped 𝓤 H A W 1 (shrSliceOf (0 ∷ []) tt (plain (λ _. u8))) yes (λ κs x f. refl), tt)
+    (phrase-goes 𝓤 H A W, tt)
     (λ κs. (slice-vals, tt)) (λ κs. (shr-slice-tells (named 0) (κs .0) u8, tt))
     (λ κs qs bounds a g are. walk 𝓤 H A W (𝓜 .mem) (𝓡 .run) (κs .0) (qs .0) (a .0) (𝓣 .C) (𝓣 .Λ) (are .0)))

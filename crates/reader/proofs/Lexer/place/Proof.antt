@@ -24,15 +24,13 @@ use denote.Plain.{uint-makes}
 use denote.Builtin.{usize}
 use denote.Signature.{plain}
 use denote.Steps.{nothing, owned}
-use denote.Struct.Laws as LL
 use denote.Triple.Entry.{onEntry}
 use denote.Triple.Table.{entered}
-use denote.Triple.Walked.{says, Stays, stay-dropped, goes-dropped, walkOf, ends-at}
+use denote.Triple.Walked.{says, Stays, stay-dropped, walkOf, ends-at}
 use denote.Exit.{yes}
 use Rattle.reader.specs.declared.Lexer.{Lexer}
 use Rattle.reader.proofs.Walks.{Promise, meets}
-use Rattle.reader.proofs.Held.{α, Held, typed}
-use Rattle.reader.proofs.Lexer as T
+use Rattle.reader.proofs.Held.{Held, vals, tells, held-goes, typed}
 use Rattle.reader.proofs.Lexer.Laws as T′
 use Rattle.reader.proofs.Lexer.place as place
 use Rattle.reader.proofs.Lexer.place.Code as code
@@ -78,6 +76,6 @@ place-spec 𝓤 H 𝓜 𝓖 𝓡 =
     let clauses = place.clauses 𝓤 H A (𝓜 .mem) (𝓡 .run) in
     let 𝓣 = tables 𝓤 H 𝓜 𝓡 code.env in
     entered 𝓤 H (Promise 𝓤 H A place.ended clauses) (𝓣 .C) (𝓣 .Λ) #place code.function (code.unfolded 𝓤 H 𝓜 𝓡)
-    (meets 𝓤 H A place.ended clauses W stayed (tablesOf 𝓤 H 𝓜 𝓣) code.function (goes-dropped 𝓤 H A W 1 (plain Held) yes (λ κs x f. refl), tt)
-    (λ κs. (LL.vals (T.the-type (α κs)) (T′.the-laws (α κs)), tt)) (λ κs. (LL.tells (T.the-type (α κs)) (T′.the-laws (α κs)), tt))
+    (meets 𝓤 H A place.ended clauses W stayed (tablesOf 𝓤 H 𝓜 𝓣) code.function (held-goes 𝓤 H A W, tt)
+    (λ κs. (vals κs, tt)) (λ κs. (tells κs, tt))
     (λ κs qs bounds a g are. walk 𝓤 H A W (𝓜 .mem) (𝓡 .run) (κs .0) (qs .0) (a .0) (𝓣 .C) (𝓣 .Λ) (are .0)))

@@ -1,6 +1,5 @@
 -- `reader::Lexer::unread` meets its contract: it takes the reader apart and calls `rest_from` (proofs/Thin.antt). Assumes nothing.
 use mathlib.Core.Path.{_≡_}
-use mathlib.Core.List.{[], _∷_}
 use Prim.Native.Nat.{_+_, min}
 use lib.ListN.{length, drop}
 use mir.Syntax.{named, imm, w8, tyInt, tyRef}
@@ -9,9 +8,9 @@ use contract.Monad.{fact}
 use contract.Running.{givenOf, tables, tablesOf}
 use denote.Builtin.{u8}
 use denote.Ref.{now}
-use denote.Signature.{Slot, plain, shrSliceOf}
 use denote.Slice.{sliceTy, shr-slice-lawful}
 use denote.Triple.Table.{entered, cited}
+use Rattle.reader.proofs.Held.{Phrase}
 use Rattle.reader.proofs.Walks.{Promise}
 use Rattle.reader.proofs.Thin.{Promised, Inner, Outer, inner, outer, thin-meets}
 use Rattle.reader.proofs.place.rest_from.Symbol as callee
@@ -25,7 +24,7 @@ unfolding code.routine tablesOf
 unread-spec 𝓤 H 𝓜 𝓖 𝓡 =
     let A = 𝓖 .A in
     let W = givenOf 𝓤 H 𝓜 𝓖 in
-    let ρ : Slot 1 = shrSliceOf (0 ∷ []) tt (plain (λ _. u8)) in
+    let ρ = Phrase in
     let E : Promised 𝓤 ρ = λ κs s at r.
     sep 𝓤 (fact 𝓤 (now r ≡ drop at (now s))) (fact 𝓤 (r .ptr ≡ (s .ptr .0, min at (length (now s)) + s .ptr .1))) in
     let 𝓣 = tables 𝓤 H 𝓜 𝓡 code.env in
