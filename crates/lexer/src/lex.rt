@@ -162,7 +162,7 @@ pub fn token_at(s: &[u8], at: usize) -> Token
 }
 
 // A refusal's line.
-fn refuse(number: u8, place: usize, end: usize) -> Line
+pub fn refuse(number: u8, place: usize, end: usize) -> Line
     ensures { λ r. ⌜ r ≡ refusedLine number place end ⌝ }
 {
     Line {

@@ -1,5 +1,6 @@
 #!/usr/bin/env python3
-"""What lexing answers, worked out apart from the code: writes this program's stdin and the stdout that it must give.
+"""What lexing answers, worked out apart from the code: writes this program's stdin and the stdout that it must give, each answer on two lines,
+since the program lexes by the lexer and by a reader.
 
 The rules are those of document 01 (the refusal table and module 2), the words are the `map.insert` lines of the Rust's lexer.rs and the
 lexemes the variants of its enum, both in their order.
@@ -136,4 +137,4 @@ text = b"\n".join(phrases)
 assert len(text) < 65536
 crate = pathlib.Path(__file__).resolve().parent.parent
 (crate / "stdin").write_bytes(text)
-(crate / "stdout").write_text("".join(answer(phrase) + "\n" for phrase in [bytes([b]) for b in range(256)] + phrases))
+(crate / "stdout").write_text("".join(2 * (answer(phrase) + "\n") for phrase in [bytes([b]) for b in range(256)] + phrases))

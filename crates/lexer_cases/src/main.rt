@@ -1,6 +1,7 @@
-// Lexes every single byte as a phrase, then each line of standard input, and writes a line for each:
-// the lexemes' codes with their places, or the refusal with its place, the end of its part and the part's length.
+// Lexes every single byte as a phrase, then each line of standard input, and writes two lines for each, first what the lexer answers, then what
+// lexing by a reader answers: the lexemes' codes with their places, or the refusal with its place, the end of its part and the part's length.
 use bytes::scan;
+use lexer::lex::Line;
 use lexer::lex::lex;
 use lexer::part::offending;
 use libc::STDOUT_FILENO;
@@ -35,9 +36,10 @@ fn write_refusal(number: u8, place: usize, end: usize, part: &[u8]) {
     write_number(b" part ", part.len() as u64);
 }
 
-// What lexing answers to a phrase.
-fn write_answer(phrase: &[u8]) {
-    let l = lex(phrase);
+// An answer to a phrase.
+fn write_line(phrase: &[u8], l: Line)
+    requires { ⌜ l .count ≤ 64 ⌝ }
+{
     let number = l.number;
     if number == 0 {
         let codes = l.codes;
@@ -47,6 +49,12 @@ fn write_answer(phrase: &[u8]) {
         write_refusal(number, l.place, l.end, offending(phrase));
     }
     io::write_all(STDOUT_FILENO, b"\n");
+}
+
+// What lexing answers to a phrase, and what lexing by a reader does.
+fn write_answer(phrase: &[u8]) {
+    write_line(phrase, lex(phrase));
+    write_line(phrase, reader::lex(phrase));
 }
 
 // Every single byte as a phrase.

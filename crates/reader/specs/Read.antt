@@ -1,0 +1,38 @@
+-- "A reader that holds the phrase and its place": the lexer's definitions through it. Assumes nothing.
+use Prim.Native.Nat.{ℕ, zero, suc, min}
+use mathlib.Core.List.{List, [], _∷_}
+use lib.ListN.{length}
+use denote.Ref.{RefT, now}
+use Rattle.lexer.specs.Keywords.{keywords}
+use Rattle.lexer.specs.Refusals.{TooMany}
+use Rattle.lexer.specs.Lex.{tokenAt, Lexed, refused, item, ahead, ifTaken}
+use Rattle.lexer.specs.declared.lex.Token.{Token}
+use Rattle.lexer.specs.declared.lex.Token.the-variants.{Finish, Taken, Refused}
+use Rattle.reader.specs.declared.Lexer.{Lexer}
+
+-- the borrow goes into the reader, which stands at the start
+abbrev pub newOf : RefT (List ℕ) → Lexer
+newOf s = record { phrase = s; at = 0 }
+
+-- its next token: what the lexer finds at its place
+abbrev pub nextOf : Lexer → Token
+nextOf r = tokenAt keywords (now (r .phrase)) (r .at)
+
+-- the place behind a token: its end; at the end of the phrase the place stays
+abbrev pub placeBehind : ℕ → Token → ℕ
+placeBehind at Finish = at
+placeBehind at (Taken k a e) = e
+placeBehind at (Refused n a e) = e
+
+-- the reader behind a token: the same borrow, and the place behind the token
+abbrev pub behindOf : Lexer → Token → Lexer
+behindOf r t = record { phrase = r .phrase; at = placeBehind (r .at) t }
+
+-- "the unread rest" begins at the reader's place; past the last byte there is none
+abbrev pub restStart : Lexer → ℕ
+restStart r = min (r .at) (length (now (r .phrase)))
+
+-- tokens taken one after the other until the end, with room for so many lexemes: "a word or number is judged before it is counted"
+abbrev pub taken : ℕ → Lexer → Lexed
+taken zero r = ifTaken (nextOf r) (λ k a e. refused TooMany a e)
+taken (suc room) r = ifTaken (nextOf r) (λ k a e. ahead (item k a ∷ []) (taken room (behindOf r (nextOf r))))
