@@ -5,6 +5,4 @@ pub mod Dates
 pub mod Times
 pub mod Evaluate
 pub mod Formed
-pub mod Answer
 pub mod Cases
-pub mod Starred

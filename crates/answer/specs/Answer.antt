@@ -6,10 +6,10 @@ use Rattle.lexer.specs.Words.{Word}
 use Rattle.calendar.specs.Moments.{Outcome, moment, refused, isMoment, firstMoment, withDate, withTime}
 use Rattle.calendar.specs.declared.Moment.{Moment}
 use Rattle.phrase.specs.Read.{ReadPhrase, refusal, tree, readOf}
 use Rattle.evaluation.specs.Refusals.{NoNow}
 use Rattle.evaluation.specs.Evaluate.{evaluate}
-use Rattle.evaluation.specs.declared.answer.Answered.{Answered}
-use Rattle.evaluation.specs.declared.answer.Answered.the-variants.{At, Refused}
+use Rattle.answer.specs.declared.Answered.{Answered}
+use Rattle.answer.specs.declared.Answered.the-variants.{At, Refused}
 
 -- a moment, or a refusal's number, place and end of the part
 pub data Answer : Type 0 where
