@@ -1,8 +1,8 @@
 // Reads lines `YYYY-MM-DD HH:MM:SS|PHRASE` on standard input and writes for each the moment of the phrase at that now, or its refusal.
+use answer::Answered;
+use answer::answer;
 use bytes::scan;
 use calendar::Moment;
-use evaluation::answer::Answered;
-use evaluation::answer::answer;
 use libc::STDOUT_FILENO;
 ghost use mathlib.Core.Path.{_≡_};
 ghost use Prim.Native.Nat.{_+_, _-_, _%_, _≤_};

@@ -26,7 +26,7 @@ pub record Case : Type 0 where
   pub from : Moment
   pub answer : Outcome
 
-abbrev row : (Moment → Outcome) → Moment → Outcome → Case
+abbrev pub row : (Moment → Outcome) → Moment → Outcome → Case
 row f t o = record { rule = f; from = t; answer = o }
 
 -- "A is 2026-02-11 09:30:15 (Wednesday)"

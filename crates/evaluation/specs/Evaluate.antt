@@ -1,12 +1,19 @@
 -- A reading at a now: `to_chrono` of `DateExpr` and `DateTime`.
 use Prim.Native.Nat.{ℕ, _%_}
+use mathlib.Core.Path.{_≡_, refl}
 use mathlib.Core.Bool.{Bool, true, false, cond, _&&_}
-use Rattle.calendar.specs.Moments.{Outcome, moment, refused, andThen, yearsLater, yearsEarlier}
+use mathlib.Core.List.{List, [], _∷_, map}
+use Rattle.calendar.specs.Gregorian.{leapYear, monthLength, daysBeforeMonth, daysOfYears, dayNumber}
+use Rattle.calendar.specs.Gregorian.{yearsBefore, yearOf, dayOfYear, monthOf, monthOfDay, dayOf}
+use Rattle.calendar.specs.Moments.{Outcome, moment, refused, andThen, isDate, isTime, withDate, withTime}
+use Rattle.calendar.specs.Moments.{onDay, later, earlier, monthsLater, monthsEarlier, yearsLater, yearsEarlier}
 use Rattle.calendar.specs.declared.Moment.{Moment}
-use Rattle.dates.specs.Durations.{isSubDailyUnit}
+use Rattle.dates.specs.Durations.{part, isSubDailyUnit}
 use Rattle.dates.specs.declared.date.Date.{Date}
 use Rattle.dates.specs.declared.date.Date.the-variants.{YearMonthNumDay, MonthNumDayYear, DayMonthYear, MonthDayYear}
 use Rattle.dates.specs.declared.date.Date.the-variants.{MonthNumDay, MonthDay, Today, Tomorrow, Yesterday, Empty}
+use Rattle.dates.specs.declared.duration.Part.the-variants.{Article, Specific}
+use Rattle.dates.specs.declared.time.Time.the-variants.{HourMin, Empty as NoTime}
 use Rattle.dates.specs.declared.units.Unit.{Unit}
 use Rattle.dates.specs.declared.units.Unit.the-variants.{Day, Week, Hour, Minute, Month, Year}
 use Rattle.dates.specs.declared.units.RelativeSpecifier.{RelativeSpecifier}
@@ -19,6 +26,7 @@ use Rattle.evaluation.specs.Steps.{unitStep, durationStep}
 use Rattle.evaluation.specs.Weekdays.{inWeek, fromToday, backTo}
 use Rattle.evaluation.specs.Dates.{dateAt}
 use Rattle.evaluation.specs.Times.{timeAt}
+use Rattle.evaluation.specs.Cases.{Case, row, A, B}
 
 -- a date moved by a year, by its specifier
 abbrev pub byYear : RelativeSpecifier → Moment → Outcome
@@ -97,3 +105,37 @@ evaluate (dateTime e t) n = andThen (dateExprAt e n) (timeAt t n)
 evaluate (timeDate t e) n = andThen (dateExprAt e n) (timeAt t n)
 evaluate (durationAfter dur x) n = andThen (evaluate x n) (durationStep false dur)
 evaluate (durationBefore dur x) n = andThen (evaluate x n) (durationStep true dur)
+
+-- a date expression at A, with no time of day
+abbrev dated : DateExpr → Outcome → Case
+dated e o = row (evaluate (dateTime e NoTime)) A o
+
+-- worked trees: each rule of the order and of 9 where another rule gives another answer
+unfoldable pub trees : List Case
+trees =
+    -- date, then time of day: 10 where neither is one
+    row (evaluate (timeDate (HourMin 25 0) (date (MonthDay 1 32)))) A (refused 10)
+    ∷ row (evaluate (dateTime (date (MonthDay 1 32)) (HourMin 25 0))) A (refused 10)
+    ∷ row (evaluate (timeDate (HourMin 25 0) (date (MonthDay 1 31)))) A (refused 11)
+    -- then outer durations: 11 where the way would leave the calendar too, and an hour from a stated time
+    ∷ row (evaluate (durationAfter (part (Specific 4294967295 Day)) (dateTime (date Today) (HourMin 25 0)))) A (refused 11)
+    ∷ row (evaluate (durationAfter (part (Article Hour)) (timeDate (HourMin 23 30) empty))) B (moment (withTime 0 30 0 (withDate 2024 3 1 B)))
+    -- innermost first: the day and then the month
+    ∷ row (evaluate (durationBefore (part (Article Month)) (durationAfter (part (Article Day)) now))) B (moment (withDate 2024 2 1 B))
+    ∷ row (evaluate (durationAfter (part (Article Month)) (durationAfter (part (Article Day)) now))) B (moment (withDate 2024 4 1 B))
+    -- 9 on each side
+    ∷ dated (dateRelative (MonthDay 3 4) Next Year) (moment (withDate 2027 3 4 A))
+    ∷ dated (dateRelative (MonthDay 3 4) Next Month) (refused 9)
+    ∷ dated (dateRelative Today Next Year) (refused 9)
+    ∷ dated (unitRelative Next Month) (moment (withDate 2026 3 11 A))
+    ∷ dated (unitRelative This Month) (refused 9)
+    ∷ dated (unitRelative Next Hour) (refused 9)
+    ∷ dated (weekdayRelative 4 Next Week) (moment (withDate 2026 2 20 A))
+    ∷ dated (weekdayRelative 4 Next Month) (refused 9)
+    ∷ []
+
+-- each tree evaluates as listed
+pub trees-as-listed : map (λ c. c .rule (c .from)) trees ≡ map (λ c. c .answer) trees
+unfolding trees evaluate leapYear monthLength daysBeforeMonth daysOfYears dayNumber yearsBefore yearOf dayOfYear monthOf monthOfDay dayOf
+    isDate isTime onDay later earlier monthsLater monthsEarlier yearsLater yearsEarlier
+trees-as-listed = refl

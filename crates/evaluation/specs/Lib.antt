@@ -3,8 +3,6 @@ pub mod Steps
 pub mod Weekdays
 pub mod Dates
 pub mod Times
+pub mod Cases
 pub mod Evaluate
 pub mod Formed
-pub mod Answer
-pub mod Cases
-pub mod Starred

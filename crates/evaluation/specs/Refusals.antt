@@ -1,4 +1,4 @@
--- The refusal numbers that evaluation gives, in the paper's words.
+-- The refusal numbers that are given at a now, in the paper's words.
 use Prim.Native.Nat.{ℕ}
 
 -- "now is no date and time in years 1 to 9999"

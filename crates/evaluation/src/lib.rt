@@ -1,5 +1,4 @@
 // A reading at a now: `to_chrono`, `after`, `before`, `after_date` and `before_date` of ast.rs.
-pub mod answer;
 pub mod date;
 pub mod expr;
 pub mod reading;

@@ -1,4 +1,4 @@
-// The refusal numbers that evaluation gives.
+// The refusal numbers that are given at a now.
 
 // Now is no date and time in years 1 to 9999.
 pub const NO_NOW: u8 = 8;

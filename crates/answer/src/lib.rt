@@ -1,13 +1,13 @@
 // A phrase at a now.
-use super::reading::evaluate;
-use super::refusal::NO_NOW;
-use super::step::Reached;
 use calendar::Moment;
+use evaluation::reading::evaluate;
+use evaluation::refusal::NO_NOW;
+use evaluation::step::Reached;
 use phrase::read::read;
 ghost use mathlib.Core.Path.{_≡_};
 ghost use Rattle.lexer.specs.Keywords.{keywords};
 ghost use Rattle.evaluation.specs.Steps.{reachedOf};
-ghost use Rattle.evaluation.specs.Answer.{momentOf, answerFrom, placed, answerOf};
+ghost use Rattle.answer.specs.Answer.{momentOf, answerFrom, placed, answerOf};
 
 // A moment, or a refusal's number, its place in the phrase and the end of its part.
 pub enum Answered {

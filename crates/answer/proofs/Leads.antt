@@ -28,12 +28,12 @@ use Rattle.dates.specs.declared.units.RelativeSpecifier.the-variants.{This, Nex
 use Rattle.expressions.specs.Tree.{DateExpr, date, dateRelative, dateExpressionAfter, dateExpressionBefore, unitRelative, relativeWeekday}
 use Rattle.expressions.specs.Tree.{weekdayRelative, weekdayExpressionBefore, before, after, weekday, empty}
 use Rattle.phrase.specs.Tree.{DateTime, dateTime, timeDate, durationAfter, durationBefore, now}
 use Rattle.evaluation.specs.Steps.{minutesStep, unitStep, partStep, durationStep}
 use Rattle.evaluation.specs.Weekdays.{daysBack, inWeek, fromToday, backTo}
 use Rattle.evaluation.specs.Dates.{statedDate, dateAt}
 use Rattle.evaluation.specs.Times.{statedTime, timeAt}
 use Rattle.evaluation.specs.Evaluate.{byYear, isYear, isWeek, isMonthAndDay, byUnit, dateExprAt, evaluate}
-use Rattle.evaluation.proofs.Formed.{never}
+use Rattle.answer.proofs.Formed.{never}
 
 -- a moment with a property, or a refusal of 9 to 13
 pub data Leads (M : Moment → Type 0) : Outcome → Type 0 where

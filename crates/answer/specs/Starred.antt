@@ -27,10 +27,10 @@ use Rattle.calendar.specs.Gregorian.{yearsBefore, yearOf, dayOfYear, monthOf, m
 use Rattle.calendar.specs.Moments.{isDate, isTime, isMoment, withDate, withTime}
 use Rattle.calendar.specs.Moments.{onDay, later, earlier, monthsLater, monthsEarlier, yearsLater, yearsEarlier}
 use Rattle.calendar.specs.declared.Moment.{Moment}
 use Rattle.evaluation.specs.Weekdays.{daysBack}
 use Rattle.evaluation.specs.Evaluate.{evaluate}
-use Rattle.evaluation.specs.Answer.{Answer, at, refusedAt, answerOf}
+use Rattle.answer.specs.Answer.{Answer, at, refusedAt, answerOf}
 use Rattle.evaluation.specs.Cases.{A, B}
 
 -- a row: now, the phrase's bytes, and the answer
 pub record Starred : Type 0 where

@@ -15,15 +15,15 @@ use Rattle.phrase.specs.Read.{ReadPhrase, refusal, tree, readOf, phraseAnswer}
 use Rattle.phrase.specs.declared.read.PhraseRead.{PhraseRead}
 use Rattle.phrase.proofs.Decoded.{decoded, tree-count}
 use Rattle.phrase.proofs.Phrases.{refusal-numbers, reads}
 use Rattle.evaluation.specs.Refusals.{NoNow}
 use Rattle.evaluation.specs.Evaluate.{evaluate}
 use Rattle.evaluation.specs.Formed.{Formed}
-use Rattle.evaluation.specs.Answer.{Answer, at, refusedAt, placed, answerFrom, answerOf}
-use Rattle.evaluation.specs.declared.answer.Answered.{Answered}
-use Rattle.evaluation.specs.declared.answer.Answered.the-variants.{At, Refused}
-use Rattle.evaluation.proofs.Formed.{formed}
-use Rattle.evaluation.proofs.Leads.{Leads, leads, refuses, timeOf, hasSubDaily, SameTime}
-use Rattle.evaluation.proofs.Leads.{valid-leads, second-leads, time-of-day-leads}
+use Rattle.answer.specs.Answer.{Answer, at, refusedAt, placed, answerFrom, answerOf}
+use Rattle.answer.specs.declared.Answered.{Answered}
+use Rattle.answer.specs.declared.Answered.the-variants.{At, Refused}
+use Rattle.answer.proofs.Formed.{formed}
+use Rattle.answer.proofs.Leads.{Leads, leads, refuses, timeOf, hasSubDaily, SameTime}
+use Rattle.answer.proofs.Leads.{valid-leads, second-leads, time-of-day-leads}
 
 -- a phrase that was read: the tree, and a flat reading that is formed and stands for it
 pub record TreeRead (s : List ℕ) (r : PhraseRead) : Type 0 where

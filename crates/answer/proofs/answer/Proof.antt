@@ -5,12 +5,12 @@ use Rattle.calendar.specs.Moments.{isMoment}
 use Rattle.calendar.specs.declared.Moment.{Moment}
 use Rattle.calendar.proofs.Valid.{test-moment}
 use Rattle.phrase.specs.Flat.{treeOf}
 use Rattle.evaluation.specs.Evaluate.{evaluate}
-use Rattle.evaluation.specs.Answer.{momentOf, placed}
-use Rattle.evaluation.proofs.Answers.{TreeRead, number-zero, number-other, at-now, at-no-now, refused-reading}
+use Rattle.answer.specs.Answer.{momentOf, placed}
+use Rattle.answer.proofs.Answers.{TreeRead, number-zero, number-other, at-now, at-no-now, refused-reading}
 use borrow.Author.Needs.{needs}
-use Rattle.evaluation.proofs.answer.answer.Statement.{statement}
-use Rattle.evaluation.proofs.answer.answer.Tie as tie
+use Rattle.answer.proofs.answer.Statement.{statement}
+use Rattle.answer.proofs.answer.Tie as tie
 
 -- the now of six numbers
 abbrev nowOf : tie.Start → Moment

@@ -1,6 +1,6 @@
 use borrow.Author.Needs.{needs}
-use Rattle.evaluation.proofs.answer.place.Statement.{statement}
-use Rattle.evaluation.proofs.answer.place.Tie as tie
+use Rattle.answer.proofs.place.Statement.{statement}
+use Rattle.answer.proofs.place.Tie as tie
 
 enum-known-x : tie.Need-enum-known-x
 enum-known-x c = search needs
