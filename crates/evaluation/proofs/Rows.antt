@@ -18,12 +18,12 @@ rowStep back [] t = moment t
 rowStep back (s ∷ ss) t = andThen (partStep back (s .part) t) (rowStep back ss)
 
 -- what follows is the same where it is the same from every moment
-then-same : (o : Outcome) (f g : Moment → Outcome) → ((t : Moment) → f t ≡ g t) → andThen o f ≡ andThen o g
+pub then-same : (o : Outcome) (f g : Moment → Outcome) → ((t : Moment) → f t ≡ g t) → andThen o f ≡ andThen o g
 then-same (moment t) f g e = e t
 then-same (refused k) f g e = refl
 
 -- staying where it led changes nothing
-then-moment : (o : Outcome) → andThen o moment ≡ o
+pub then-moment : (o : Outcome) → andThen o moment ≡ o
 then-moment (moment t) = refl
 then-moment (refused k) = refl
 

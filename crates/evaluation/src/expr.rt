@@ -45,21 +45,21 @@ fn by_year(specifier: RelativeSpecifier, x: Reached) -> Reached
 }
 
 // Is the unit a year?
-fn is_year(unit: Unit) -> bool
+pub fn is_year(unit: Unit) -> bool
     ensures { λ r. ⌜ r ≡ isYear unit ⌝ }
 {
     if let Unit::Year = unit { true } else { false }
 }
 
 // Is the unit a week?
-fn is_week(unit: Unit) -> bool
+pub fn is_week(unit: Unit) -> bool
     ensures { λ r. ⌜ r ≡ isWeek unit ⌝ }
 {
     if let Unit::Week = unit { true } else { false }
 }
 
 // Is it a date with no year of its own?
-fn is_month_and_day(date: Date) -> bool
+pub fn is_month_and_day(date: Date) -> bool
     ensures { λ r. ⌜ r ≡ isMonthAndDay date ⌝ }
 {
     match date {

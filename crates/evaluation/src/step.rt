@@ -43,7 +43,7 @@ pub fn minutes_step(back: bool, k: u64, t: Moment) -> Reached
 }
 
 // So many months, back or on.
-fn months_step(back: bool, k: u64, t: Moment) -> Reached
+pub fn months_step(back: bool, k: u64, t: Moment) -> Reached
     requires { ⌜ IsMoment t ⌝ }
     ensures { λ r. ⌜ reachedOf r ≡ monthsStep back k t ⌝ }
     ensures { λ r. ⌜ Valid (reachedOf r) ⌝ }

@@ -1,0 +1,180 @@
+-- What every list that is made has: few steps, neighbours apart, and the form that running asks for; and the plan that holds it.
+use Prim.Native.Nat.{ℕ, suc, _+_, _≤_, _<_}
+use native.Mathlib.Omega.{arith}
+use mathlib.Core.Path.{_≡_, refl, ap, _∙_}
+use mathlib.Core.Bool.{Bool, true, false, cond, _&&_}
+use mathlib.Core.List.{List, [], _∷_}
+use lib.ListN.{length}
+use Rattle.dates.specs.Durations.{Duration, part, concat, size, isSubDailyUnit}
+use Rattle.dates.specs.declared.date.Date.{Date}
+use Rattle.dates.specs.declared.date.Date.the-variants.{Today}
+use Rattle.dates.specs.declared.duration.Part.{Part}
+use Rattle.dates.specs.declared.duration.Part.the-variants.{Article, Specific}
+use Rattle.dates.specs.declared.time.Time.{Time}
+use Rattle.dates.specs.declared.units.RelativeSpecifier.{RelativeSpecifier}
+use Rattle.dates.specs.declared.units.RelativeSpecifier.the-variants.{This, Next, Last}
+use Rattle.dates.specs.declared.units.Unit.{Unit}
+use Rattle.dates.specs.declared.units.Unit.the-variants.{Day, Week, Hour, Minute, Month, Year}
+use Rattle.expressions.specs.Shapes.{sizeExpr}
+use Rattle.expressions.specs.Tree.{DateExpr, date, dateRelative, dateExpressionAfter, dateExpressionBefore, unitRelative}
+use Rattle.expressions.specs.Tree.{relativeWeekday, weekdayRelative, weekdayExpressionBefore, before, after, weekday, empty}
+use Rattle.phrase.specs.Flat.{sizeTree}
+use Rattle.phrase.specs.Tree.{DateTime, dateTime, timeDate, durationAfter, durationBefore, now}
+use Rattle.evaluation.specs.Evaluate.{isYear, isWeek, isMonthAndDay}
+use Rattle.steps.specs.Joining.{addStep, allApart}
+use Rattle.steps.specs.Plans.{planOf, blankPlan, pushed, addTo}
+use Rattle.steps.specs.Running.{isStart, timesDue, isFormed}
+use Rattle.steps.specs.declared.plan.Plan.{Plan}
+use Rattle.steps.specs.declared.plan.Step.{Step}
+use Rattle.steps.specs.declared.plan.Step.the-variants.{Now, Senseless, OnDate, InWeek, FromToday, Years, BackTo, AtTime}
+use Rattle.steps.proofs.Joined.{length-add, apart-add}
+use Rattle.steps.proofs.Planned.{added}
+use Rattle.ready.specs.Made.{lengthStep, stepOfPart, addDuration, addYear, addUnit, exprSteps, treeSteps, listed, held, stepsOf}
+use Rattle.ready.proofs.Forms.{Plain, Open, senseless, dated, open-add, open-time, formed-add}
+
+-- at most k steps of form F, with neighbours apart, and p holds them
+record Kept (F : List Step → Type 0) (k : ℕ) (p : Plan) (ss : List Step) : Type 0 where
+  some : 0 < length ss
+  most : length ss ≤ k
+  apart : allApart ss ≡ true
+  form : F ss
+  holds : k ≤ 24 → p ≡ planOf ss
+
+-- the form that running asks for
+abbrev Formed : List Step → Type 0
+Formed ss = isFormed ss ≡ true
+
+held-add : (p : Plan) (ss : List Step) (s : Step) → p ≡ planOf ss → 0 < length ss → length ss < 24 → addTo p s ≡ planOf (addStep ss s)
+held-add p [] s e some most = absurd (omega arith)
+held-add p (x ∷ xs) s e some most = ap (λ (q : Plan). addTo q s) e ∙ added x xs s (omega arith)
+
+-- one step more; G is the form that the list then has
+kept-add :
+    {F G : List Step → Type 0} {k : ℕ} {p : Plan} {ss : List Step} → Kept F k p ss → (s : Step) → G (addStep ss s) →
+    Kept G (suc k) (addTo p s) (addStep ss s)
+kept-add {p = p} {ss} h s form =
+    record {
+      some = length-add ss s .0;
+      most = omega (arith, length-add ss s .1, h .most);
+      apart = apart-add ss s (h .apart);
+      form = form;
+      holds = λ few. held-add p ss s (h .holds (omega arith)) (h .some) (omega (arith, h .most));
+    }
+
+-- a bound may be wider
+wider :
+    {F : List Step → Type 0} {k j : ℕ} {p : Plan} {ss : List Step} → Kept F k p ss → k ≤ j → Kept F j p ss
+wider h le =
+    record { some = h .some; most = omega (arith, h .most); apart = h .apart; form = h .form; holds = λ few. h .holds (omega arith) }
+
+-- a start alone
+single : {F : List Step → Type 0} (s : Step) → F (s ∷ []) → Kept F 1 (pushed blankPlan s) (s ∷ [])
+unfolding planOf
+single s form = record { some = omega arith; most = omega arith; apart = refl; form = form; holds = λ few. refl }
+
+-- the steps of parts are neither starts nor time steps
+length-plain : (back : Bool) (k : ℕ) (u : Unit) → Plain (lengthStep back k u)
+length-plain back k Day = record { no-start = refl; no-time = refl }
+length-plain back k Week = record { no-start = refl; no-time = refl }
+length-plain back k Hour = record { no-start = refl; no-time = refl }
+length-plain back k Minute = record { no-start = refl; no-time = refl }
+length-plain back k Month = record { no-start = refl; no-time = refl }
+length-plain back k Year = record { no-start = refl; no-time = refl }
+
+part-plain : (back : Bool) (p : Part) → Plain (stepOfPart back p)
+part-plain back (Article u) = length-plain back 1 u
+part-plain back (Specific k u) = length-plain back k u
+
+-- a duration more, for a form that plain steps keep
+module _ {F : List Step → Type 0} (keeps : (ss : List Step) (s : Step) → Plain s → F ss → F (addStep ss s)) where
+  kept-duration :
+      {k : ℕ} (p : Plan) (ss : List Step) (back : Bool) (d : Duration) → Kept F k p ss →
+      Kept F (k + size d) (addDuration held back p d) (addDuration listed back ss d)
+  kept-duration p ss back (part x) h =
+      wider (kept-add {G = F} h (stepOfPart back x) (keeps ss (stepOfPart back x) (part-plain back x) (h .form))) (omega arith)
+  kept-duration p ss back (concat x d) h =
+      let s = stepOfPart back x in
+      wider (kept-duration (addTo p s) (addStep ss s) back d (kept-add {G = F} h s (keeps ss s (part-plain back x) (h .form)))) (omega arith)
+
+-- a dated start
+start-open : (s : Step) → isStart s ≡ true → timesDue s ≡ 1 → Kept Open 1 (pushed blankPlan s) (s ∷ [])
+start-open s start due = single s (dated {x = s} {ss = []} (record { start = start; due = due; no-starts = refl; no-times = refl }))
+
+open-keeps : (ss : List Step) (s : Step) → Plain s → Open ss → Open (addStep ss s)
+open-keeps ss s p h = open-add h s p
+
+-- one plain step more
+open-more : {k : ℕ} {p : Plan} {ss : List Step} → Kept Open k p ss → (s : Step) → Plain s → Kept Open (suc k) (addTo p s) (addStep ss s)
+open-more h s plain = kept-add {G = Open} h s (open-add (h .form) s plain)
+
+-- a date rule, and a duration from it
+date-open :
+    (d : Date) (back : Bool) (dur : Duration) →
+    Kept Open (1 + size dur) (addDuration held back (pushed blankPlan (OnDate d)) dur) (addDuration listed back (OnDate d ∷ []) dur)
+date-open d back dur = kept-duration open-keeps (pushed blankPlan (OnDate d)) (OnDate d ∷ []) back dur (start-open (OnDate d) refl refl)
+
+-- a refusal
+none-open : Kept Open 2 (pushed blankPlan Senseless) (Senseless ∷ [])
+none-open = wider (single Senseless senseless) (omega arith)
+
+year-open : (s : RelativeSpecifier) (d : Date) → Kept Open 2 (addYear held s (pushed blankPlan (OnDate d))) (addYear listed s (OnDate d ∷ []))
+year-open This d = wider (start-open (OnDate d) refl refl) (omega arith)
+year-open Next d = open-more (start-open (OnDate d) refl refl) (Years false 1) (record { no-start = refl; no-time = refl })
+year-open Last d = open-more (start-open (OnDate d) refl refl) (Years true 1) (record { no-start = refl; no-time = refl })
+
+unit-open : (s : RelativeSpecifier) (u : Unit) → Kept Open 2 (addUnit held s u) (addUnit listed s u)
+unit-open This u = none-open
+unit-open Next u = open-more (start-open (OnDate Today) refl refl) (lengthStep false 1 u) (length-plain false 1 u)
+unit-open Last u = open-more (start-open (OnDate Today) refl refl) (lengthStep true 1 u) (length-plain true 1 u)
+
+-- of two by a test
+by-test :
+    (b : Bool) {k : ℕ} (p q : Plan) (ss us : List Step) → Kept Open k p ss → Kept Open k q us → Kept Open k (cond b p q) (cond b ss us)
+by-test true p q ss us g h = g
+by-test false p q ss us g h = h
+
+-- the steps of a date expression
+expr-kept : (e : DateExpr) → Kept Open (2 + sizeExpr e) (exprSteps held e) (exprSteps listed e)
+unfolding exprSteps
+expr-kept (date d) = wider (start-open (OnDate d) refl refl) (omega arith)
+expr-kept (dateRelative d s u) = by-test (isYear u && isMonthAndDay d) _ _ _ _ (year-open s d) none-open
+expr-kept (weekdayExpressionBefore w dur) =
+    wider (open-more (date-open Today true dur) (BackTo w) (record { no-start = refl; no-time = refl })) (omega arith)
+expr-kept (dateExpressionAfter d dur) = wider (date-open d false dur) (omega arith)
+expr-kept (dateExpressionBefore d dur) = wider (date-open d true dur) (omega arith)
+expr-kept (before dur d) = wider (date-open d true dur) (omega arith)
+expr-kept (after dur d) = wider (date-open d false dur) (omega arith)
+expr-kept (unitRelative s u) = by-test (isSubDailyUnit u) _ _ _ _ none-open (unit-open s u)
+expr-kept (relativeWeekday s w) = wider (start-open (InWeek s w) refl refl) (omega arith)
+expr-kept (weekdayRelative w s u) = by-test (isWeek u) _ _ _ _ (wider (start-open (InWeek s w) refl refl) (omega arith)) none-open
+expr-kept (weekday w) = wider (start-open (FromToday w) refl refl) (omega arith)
+expr-kept empty = wider (start-open (OnDate Today) refl refl) (omega arith)
+
+-- with its time of day
+dated-kept : (e : DateExpr) (t : Time) → Kept Formed (3 + sizeExpr e) (addTo (exprSteps held e) (AtTime t)) (addStep (exprSteps listed e) (AtTime t))
+dated-kept e t = let h = expr-kept e in wider (kept-add {G = Formed} h (AtTime t) (open-time (h .form) t)) (omega arith)
+
+-- the steps of a whole phrase
+tree-kept : (x : DateTime) → Kept Formed (3 + sizeTree x) (treeSteps held x) (stepsOf x)
+unfolding treeSteps
+tree-kept now = wider (single Now refl) (omega arith)
+tree-kept (dateTime e t) = dated-kept e t
+tree-kept (timeDate t e) = dated-kept e t
+tree-kept (durationAfter dur x) = wider (kept-duration formed-add (treeSteps held x) (stepsOf x) false dur (tree-kept x)) (omega arith)
+tree-kept (durationBefore dur x) = wider (kept-duration formed-add (treeSteps held x) (stepsOf x) true dur (tree-kept x)) (omega arith)
+
+-- "at most 24 calendar steps"
+pub at-most-24 : (x : DateTime) → sizeTree x ≤ 21 → length (stepsOf x) ≤ 24
+at-most-24 x few = omega (arith, tree-kept x .most)
+
+-- "no two fixed lengths of one direction side by side"
+pub neighbours-apart : (x : DateTime) → allApart (stepsOf x) ≡ true
+neighbours-apart x = tree-kept x .apart
+
+-- "every list that is made has the form that run asks for"
+pub made-formed : (x : DateTime) → isFormed (stepsOf x) ≡ true
+made-formed x = tree-kept x .form
+
+-- the code's struct holds the steps of the reading
+pub planned : (x : DateTime) → sizeTree x ≤ 21 → treeSteps held x ≡ planOf (stepsOf x)
+planned x few = tree-kept x .holds (omega arith)

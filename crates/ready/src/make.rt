@@ -1,0 +1,205 @@
+// The steps of a flat reading.
+use dates::date::Date;
+use dates::duration::Part;
+use dates::duration::Parts;
+use dates::duration::is_sub_daily_unit;
+use dates::time::Time;
+use dates::units::RelativeSpecifier;
+use dates::units::Unit;
+use evaluation::expr::is_month_and_day;
+use evaluation::expr::is_week;
+use evaluation::expr::is_year;
+use expressions::expr::Expr;
+use phrase::reading::Base;
+use phrase::reading::Reading;
+use steps::plan::Plan;
+use steps::plan::Step;
+use steps::plan::add;
+use steps::plan::single;
+ghost use mathlib.Core.Path.{_≡_};
+ghost use mathlib.Core.Bool.{true};
+ghost use Prim.Native.Nat.{_+_, _*_, _≤_, _<_};
+ghost use lib.Seq.{slice};
+ghost use Rattle.dates.specs.Durations.{size};
+ghost use Rattle.expressions.specs.Shapes.{exprFrom, sizeExpr};
+ghost use Rattle.phrase.specs.Flat.{rowDuration, treeOf, sizeTree};
+ghost use Rattle.evaluation.specs.Formed.{hasDuration, baseOf, Formed};
+ghost use Rattle.steps.specs.Joining.{minutesOf};
+ghost use Rattle.steps.specs.Plans.{lastOf, pushed, blankPlan};
+ghost use Rattle.steps.specs.declared.plan.Step.the-variants.{OnDate};
+ghost use Rattle.ready.specs.Made.{lengthStep, stepOfPart, held, addDuration, exprSteps, treeSteps};
+ghost use Rattle.ready.specs.Made.{dateRelativeSteps, unitRelativeSteps, weekdayRelativeSteps};
+ghost use Rattle.ready.specs.Bounds.{widest, Within, Longer};
+
+// So many units as a step.
+fn length_step(back: bool, k: u32, unit: Unit) -> Step
+    ensures { λ r. ⌜ (r ≡ lengthStep back k unit) × (minutesOf r ≤ widest) ⌝ }
+{
+    let n = k as u64;
+    match unit {
+        Unit::Day => Step::Minutes {
+            back,
+            count: 1440 * n,
+        },
+        Unit::Week => Step::Minutes {
+            back,
+            count: 10080 * n,
+        },
+        Unit::Hour => Step::Minutes {
+            back,
+            count: 60 * n,
+        },
+        Unit::Minute => Step::Minutes { back, count: n },
+        Unit::Month => Step::Months { back, count: k },
+        Unit::Year => Step::Years { back, count: k },
+    }
+}
+
+// A part of a duration as a step; an article is one.
+fn part_step(back: bool, part: Part) -> Step
+    ensures { λ r. ⌜ (r ≡ stepOfPart back part) × (minutesOf r ≤ widest) ⌝ }
+{
+    match part {
+        Part::Article(u) => length_step(back, 1, u),
+        Part::Specific(k, u) => length_step(back, k, u),
+    }
+}
+
+// The parts from one place up to another behind a list, first to last.
+fn add_parts(p: Plan, parts: Parts, from: usize, to: usize, back: bool) -> Plan
+    requires { ⌜ (0 < p .n) × (from < to) × (to ≤ 21) × (p .n + to ≤ 24 + from) ⌝ }
+    requires { ⌜ minutesOf (lastOf p) + to * widest ≤ (24 + from) * widest ⌝ }
+    ensures { λ r. ⌜ r ≡ addDuration held back p (rowDuration (slice from to (parts .items))) ⌝ }
+    ensures { λ r. ⌜ Longer p r from to ⌝ }
+{
+    let mut q = p;
+    let mut i = from;
+    while i < to {
+        let slot = parts.items[i];
+        let part = slot.part;
+        q = add(q, part_step(back, part));
+        i += 1;
+    }
+    q
+}
+
+// A month and day of a year before or after; another date or unit has no sense.
+fn date_relative(date: Date, specifier: RelativeSpecifier, unit: Unit) -> Plan
+    ensures { λ r. ⌜ (r ≡ dateRelativeSteps held date specifier unit) × Within r 2 ⌝ }
+{
+    if is_year(unit) {
+        if is_month_and_day(date) {
+            let start = single(Step::OnDate(date));
+            return match specifier {
+                RelativeSpecifier::This => start,
+                RelativeSpecifier::Next => add(
+                    start,
+                    Step::Years {
+                        back: false,
+                        count: 1,
+                    },
+                ),
+                RelativeSpecifier::Last => add(
+                    start,
+                    Step::Years {
+                        back: true,
+                        count: 1,
+                    },
+                ),
+            };
+        }
+        return single(Step::Senseless);
+    }
+    single(Step::Senseless)
+}
+
+// One unit before or after today; "this", hours and minutes have no sense.
+fn unit_relative(specifier: RelativeSpecifier, unit: Unit) -> Plan
+    ensures { λ r. ⌜ (r ≡ unitRelativeSteps held specifier unit) × Within r 2 ⌝ }
+{
+    if is_sub_daily_unit(unit) {
+        return single(Step::Senseless);
+    }
+    let today = single(Step::OnDate(Date::Today));
+    match specifier {
+        RelativeSpecifier::Next => add(today, length_step(false, 1, unit)),
+        RelativeSpecifier::Last => add(today, length_step(true, 1, unit)),
+        RelativeSpecifier::This => single(Step::Senseless),
+    }
+}
+
+// A weekday of a week before or after; another unit has no sense.
+fn weekday_relative(w: u32, specifier: RelativeSpecifier, unit: Unit) -> Plan
+    ensures { λ r. ⌜ (r ≡ weekdayRelativeSteps held w specifier unit) × Within r 2 ⌝ }
+{
+    if is_week(unit) {
+        return single(Step::InWeek(specifier, w));
+    }
+    single(Step::Senseless)
+}
+
+// A date, and a duration from it.
+fn from_date(date: Date, parts: Parts, own: usize, back: bool) -> Plan
+    requires { ⌜ (own < parts .n) × (parts .n ≤ 21) ⌝ }
+    ensures { λ r. ⌜ r ≡ addDuration held back (pushed blankPlan (OnDate date)) (rowDuration (slice own (parts .n) (parts .items))) ⌝ }
+    ensures { λ r. ⌜ Within r (1 + size (rowDuration (slice own (parts .n) (parts .items)))) ⌝ }
+{
+    add_parts(single(Step::OnDate(date)), parts, own, parts.n, back)
+}
+
+// The steps of a date expression, whose duration's parts are those from `own` on.
+fn expr_plan(expr: Expr, parts: Parts, own: usize) -> Plan
+    requires { ⌜ (parts .n ≤ 21) × (hasDuration expr ≡ true → own < parts .n) ⌝ }
+    ensures { λ r. ⌜ r ≡ exprSteps held (exprFrom expr (rowDuration (slice own (parts .n) (parts .items)))) ⌝ }
+    ensures { λ r. ⌜ Within r (2 + sizeExpr (exprFrom expr (rowDuration (slice own (parts .n) (parts .items))))) ⌝ }
+{
+    match expr {
+        Expr::Date(d) => single(Step::OnDate(d)),
+        Expr::DateRelative(d, s, u) => date_relative(d, s, u),
+        Expr::DateExpressionAfter(d) => from_date(d, parts, own, false),
+        Expr::DateExpressionBefore(d) => from_date(d, parts, own, true),
+        Expr::UnitRelative(s, u) => unit_relative(s, u),
+        Expr::RelativeWeekday(s, w) => single(Step::InWeek(s, w)),
+        Expr::WeekdayRelative(w, s, u) => weekday_relative(w, s, u),
+        Expr::WeekdayExpressionBefore(w) => add(
+            from_date(Date::Today, parts, own, true),
+            Step::BackTo(w),
+        ),
+        Expr::Before(d) => from_date(d, parts, own, true),
+        Expr::After(d) => from_date(d, parts, own, false),
+        Expr::Weekday(w) => single(Step::FromToday(w)),
+        Expr::Empty => single(Step::OnDate(Date::Today)),
+    }
+}
+
+// The steps of what the durations stand around.
+fn base_plan(r: Reading) -> Plan
+    requires { ⌜ Formed r × (sizeTree (baseOf r) ≤ 21) ⌝ }
+    ensures { λ p. ⌜ (p ≡ treeSteps held (baseOf r)) × Within p (3 + sizeTree (baseOf r)) ⌝ }
+{
+    let base = r.base;
+    let parts = r.parts;
+    let own = r.own;
+    let time = r.time;
+    match base {
+        Base::Now => single(Step::Now),
+        Base::DateTime(expr) => add(expr_plan(expr, parts, own), Step::AtTime(time)),
+        Base::TimeDate(expr) => add(expr_plan(expr, parts, own), Step::AtTime(time)),
+    }
+}
+
+// The steps of a reading: those of each link's duration, from the last link to the first, behind those of the base.
+pub fn plan_of(r: Reading) -> Plan
+    requires { ⌜ Formed r × (sizeTree (treeOf r) ≤ 21) ⌝ }
+    ensures { λ p. ⌜ p ≡ treeSteps held (treeOf r) ⌝ }
+{
+    let parts = r.parts;
+    let mut p = base_plan(r);
+    let mut i = r.m;
+    while 0 < i {
+        i -= 1;
+        let link = r.links[i];
+        p = add_parts(p, parts, link.from, link.to, link.back);
+    }
+    p
+}

@@ -1,0 +1,149 @@
+-- What joining keeps: where a list leads, that neighbours are apart, and its form; and that it adds at most one step.
+use Prim.Native.Nat.{ℕ, suc, _+_, _≤_, _<_}
+use native.Mathlib.Omega.{arith}
+use mathlib.Core.Path.{_≡_, refl, ap, sym, _∙_}
+use mathlib.Core.Bool.{Bool, true, false, cond}
+use mathlib.Core.List.{List, [], _∷_}
+use lib.ListN.{length}
+use Rattle.calendar.specs.Moments.{Outcome, moment, refused, andThen}
+use Rattle.calendar.specs.declared.Moment.{Moment}
+use Rattle.calendar.proofs.Steps.{later-later, earlier-earlier}
+use Rattle.numbers.specs.Slices.{oneIf}
+use Rattle.evaluation.specs.Steps.{minutesStep}
+use Rattle.evaluation.proofs.Rows.{then-same, then-moment}
+use Rattle.steps.specs.Joining.{joinOf, joined, addStep, areApart, allApart}
+use Rattle.steps.specs.Running.{actOf, walkOf, isStart, isTimeStep, countOf, starts, times}
+use Rattle.steps.specs.declared.plan.Step.{Step}
+use Rattle.steps.specs.declared.plan.Step.the-variants.{Now, Senseless, OnDate, InWeek, FromToday, Minutes, Months, Years, BackTo, AtTime}
+use Rattle.steps.specs.declared.plan.Join.{Join}
+use Rattle.steps.specs.declared.plan.Join.the-variants.{Alone, Apart, One}
+
+-- what the last step of a list and one behind it can be
+pub data Meeting (x s : Step) : Type 0 where
+  refusal : x ≡ Senseless → joinOf x s ≡ Alone → Meeting x s
+  apart : joinOf x s ≡ Apart → Meeting x s
+  lengths : (back : Bool) (m k : ℕ) → x ≡ Minutes back m → s ≡ Minutes back k → joinOf x s ≡ One back (m + k) → Meeting x s
+
+behind-minutes : (back : Bool) (m : ℕ) (s : Step) → Meeting (Minutes back m) s
+behind-minutes back m Now = apart refl
+behind-minutes back m Senseless = apart refl
+behind-minutes back m (OnDate d) = apart refl
+behind-minutes back m (InWeek r w) = apart refl
+behind-minutes back m (FromToday w) = apart refl
+behind-minutes true m (Minutes true k) = lengths true m k refl refl refl
+behind-minutes true m (Minutes false k) = apart refl
+behind-minutes false m (Minutes true k) = apart refl
+behind-minutes false m (Minutes false k) = lengths false m k refl refl refl
+behind-minutes back m (Months too k) = apart refl
+behind-minutes back m (Years too k) = apart refl
+behind-minutes back m (BackTo w) = apart refl
+behind-minutes back m (AtTime time) = apart refl
+
+pub meeting : (x s : Step) → Meeting x s
+meeting Now s = apart refl
+meeting Senseless s = refusal refl refl
+meeting (OnDate d) s = apart refl
+meeting (InWeek r w) s = apart refl
+meeting (FromToday w) s = apart refl
+meeting (Minutes back m) s = behind-minutes back m s
+meeting (Months back k) s = apart refl
+meeting (Years back k) s = apart refl
+meeting (BackTo w) s = apart refl
+meeting (AtTime time) s = apart refl
+
+-- of three steps the last two may be taken together
+pub then-assoc : (o : Outcome) (f g : Moment → Outcome) → andThen (andThen o f) g ≡ andThen o (λ t. andThen (f t) g)
+then-assoc (moment t) f g = refl
+then-assoc (refused k) f g = refl
+
+-- two fixed lengths of one direction are one, with the same refusal
+minutes-twice : (back : Bool) (a b : ℕ) (t : Moment) → minutesStep back (a + b) t ≡ andThen (minutesStep back a t) (minutesStep back b)
+minutes-twice true a b t = sym (earlier-earlier a b t)
+minutes-twice false a b t = sym (later-later a b t)
+
+-- the last step and one behind it
+pair : {x s : Step} → Meeting x s → (n t : Moment) → walkOf (joined (joinOf x s) x s) n t ≡ andThen (actOf x n t) (actOf s n)
+pair {s = s} (refusal e j) n t = rw (j, e)
+pair {x} {s} (apart j) n t = rw j (then-same (actOf x n t) (walkOf (s ∷ []) n) (actOf s n) (λ u. then-moment (actOf s n u)))
+pair (lengths back m k e f j) n t = rw (j, e, f, minutes-twice back m k t) (then-moment _)
+
+-- a list with one step more leads where that step leads from the list's end
+pub walk-add : (ss : List Step) (s : Step) (n t : Moment) → walkOf (addStep ss s) n t ≡ andThen (walkOf ss n t) (actOf s n)
+walk-add [] s n t = then-moment (actOf s n t)
+walk-add (x ∷ []) s n t = pair (meeting x s) n t ∙ ap (λ (o : Outcome). andThen o (actOf s n)) (sym (then-moment (actOf x n t)))
+walk-add (x ∷ y ∷ ys) s n t =
+    then-same (actOf x n t) (walkOf (addStep (y ∷ ys) s) n) (λ u. andThen (walkOf (y ∷ ys) n u) (actOf s n)) (walk-add (y ∷ ys) s n)
+    ∙ sym (then-assoc (actOf x n t) (walkOf (y ∷ ys) n) (actOf s n))
+
+-- it has at least one step and at most one more
+joined-length : (j : Join) (x s : Step) → (0 < length (joined j x s)) × (length (joined j x s) ≤ 2)
+joined-length Alone x s = (omega arith, omega arith)
+joined-length Apart x s = (omega arith, omega arith)
+joined-length (One back m) x s = (omega arith, omega arith)
+
+pub length-add : (ss : List Step) (s : Step) → (0 < length (addStep ss s)) × (length (addStep ss s) ≤ suc (length ss))
+length-add [] s = (omega arith, omega arith)
+length-add (x ∷ []) s = joined-length (joinOf x s) x s
+length-add (x ∷ y ∷ ys) s = (omega arith, omega (arith, length-add (y ∷ ys) s))
+
+-- whether a step and a fixed length are apart does not depend on how long that is
+any-length : (w : Step) (back : Bool) (k m : ℕ) → areApart (joinOf w (Minutes back k)) ≡ areApart (joinOf w (Minutes back m))
+any-length Now back k m = refl
+any-length Senseless back k m = refl
+any-length (OnDate d) back k m = refl
+any-length (InWeek r w) back k m = refl
+any-length (FromToday w) back k m = refl
+any-length (Minutes true a) true k m = refl
+any-length (Minutes true a) false k m = refl
+any-length (Minutes false a) true k m = refl
+any-length (Minutes false a) false k m = refl
+any-length (Months b a) back k m = refl
+any-length (Years b a) back k m = refl
+any-length (BackTo w) back k m = refl
+any-length (AtTime time) back k m = refl
+
+-- the only step of a list, with another one in front of it
+front-one : (w : Step) {x s : Step} → Meeting x s → allApart (w ∷ x ∷ []) ≡ true → allApart (w ∷ joined (joinOf x s) x s) ≡ true
+front-one w (refusal e j) h = rw j h
+front-one w (apart j) h = rw (j, j) h
+front-one w (lengths back m k e f j) h = rw (j, any-length w back (m + k) m, ← (e)) h
+
+-- the steps of a list, with another one in front of them
+front : (w x : Step) (ss : List Step) (s : Step) → allApart (w ∷ x ∷ ss) ≡ true → allApart (w ∷ addStep (x ∷ ss) s) ≡ true
+front w x [] s h = front-one w (meeting x s) h
+front w x (y ∷ ys) s h = further (areApart (joinOf w x)) (front x y ys s) h
+  where
+    further : (b : Bool) {c d : Bool} → (c ≡ true → d ≡ true) → cond b c false ≡ true → cond b d false ≡ true
+    further true f e = f e
+    further false f e = e
+
+only : {x s : Step} → Meeting x s → allApart (joined (joinOf x s) x s) ≡ true
+only (refusal e j) = rw j
+only (apart j) = rw (j, j)
+only (lengths back m k e f j) = rw j
+
+-- a list whose neighbours are apart stays so
+pub apart-add : (ss : List Step) (s : Step) → allApart ss ≡ true → allApart (addStep ss s) ≡ true
+apart-add [] s h = refl
+apart-add (x ∷ []) s h = only (meeting x s)
+apart-add (x ∷ y ∷ ys) s h = front x y ys s h
+
+-- a step that is not of a kind leaves those of the kind as many as they are, where fixed lengths are not of it either
+module _ (isKind : Step → Bool) (no-length : (back : Bool) (k : ℕ) → isKind (Minutes back k) ≡ false) where
+  joined-count : {x s : Step} → Meeting x s → isKind s ≡ false → countOf isKind (joined (joinOf x s) x s) ≡ countOf isKind (x ∷ [])
+  joined-count (refusal e j) h = rw j
+  joined-count (apart j) h = rw (j, h)
+  joined-count (lengths back m k e f j) h = rw (j, e, no-length back (m + k), no-length back m)
+
+  count-add : (ss : List Step) (s : Step) → isKind s ≡ false → countOf isKind (addStep ss s) ≡ countOf isKind ss
+  count-add [] s h = rw h
+  count-add (x ∷ []) s h = joined-count (meeting x s) h
+  count-add (x ∷ y ∷ ys) s h = ap (λ (k : ℕ). oneIf (isKind x) + k) (count-add (y ∷ ys) s h)
+
+-- one that is no start leaves the starts
+pub starts-add : (ss : List Step) (s : Step) → isStart s ≡ false → starts (addStep ss s) ≡ starts ss
+starts-add = count-add isStart (λ back k. refl)
+
+-- one that is no time step leaves the time steps
+pub times-add : (ss : List Step) (s : Step) → isTimeStep s ≡ false → times (addStep ss s) ≡ times ss
+times-add = count-add isTimeStep (λ back k. refl)
