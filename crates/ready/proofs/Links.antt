@@ -37,32 +37,33 @@ around-size : (back : Bool) (dur : Duration) (x : DateTime) → sizeTree (around
 around-size true dur x = refl
 around-size false dur x = refl
 
+-- link i, and its duration
+abbrev pub linkAt : Reading → ℕ → Link
+linkAt r i = getD (r .links) i blankLink
+
+abbrev lasting : Reading → ℕ → Duration
+lasting r i = rowDuration (slice (linkAt r i .from) (linkAt r i .to) (r .parts .items))
+
 module _ (r : Reading) (most : r .m ≤ length (r .links)) where
-  -- link i and its duration
-  abbrev link : ℕ → Link
-  link i = getD (r .links) i blankLink
-
-  abbrev pub lasting : ℕ → Duration
-  lasting i = rowDuration (slice (link i .from) (link i .to) (r .parts .items))
-
-  next-link : (i : ℕ) → i < r .m → inner r i ≡ around (link i .back) (lasting i) (inner r (suc i))
+  next-link : (i : ℕ) → i < r .m → inner r i ≡ around (linkAt r i .back) (lasting r i) (inner r (suc i))
   next-link i h = rw (slice-cons i (r .m) (r .links) blankLink h most)
 
-  next-size : (i : ℕ) → i < r .m → sizeTree (inner r i) ≡ size (lasting i) + sizeTree (inner r (suc i))
-  next-size i h = ap sizeTree (next-link i h) ∙ around-size (link i .back) (lasting i) (inner r (suc i))
+  next-size : (i : ℕ) → i < r .m → sizeTree (inner r i) ≡ size (lasting r i) + sizeTree (inner r (suc i))
+  next-size i h = ap sizeTree (next-link i h) ∙ around-size (linkAt r i .back) (lasting r i) (inner r (suc i))
 
   -- what is inside has no more parts
   pub inner-size : (i : ℕ) → i ≤ r .m → sizeTree (inner r i) ≤ sizeTree (inner r 0)
   inner-size zero h = omega arith
   inner-size (suc i) h = omega (arith, inner-size i (omega arith), next-size i (omega arith))
 
-  -- one link more, before link i
+  -- one link more, in front of link i: its parts, and its steps
   module _ (i : ℕ) (some : 0 < i) (h : i ≤ r .m) where
-    pub turn-size : sizeTree (inner r (i - 1)) ≡ size (lasting (i - 1)) + sizeTree (inner r i)
+    pub turn-size : sizeTree (inner r (i - 1)) ≡ size (lasting r (i - 1)) + sizeTree (inner r i)
     turn-size = let same : suc (i - 1) ≡ i = omega arith in rw same at (next-size (i - 1) (omega arith))
 
-    pub turn : {p : Plan} → p ≡ treeSteps held (inner r i) →
-        addDuration held (link (i - 1) .back) p (lasting (i - 1)) ≡ treeSteps held (inner r (i - 1))
+    pub turn :
+        {p : Plan} → p ≡ treeSteps held (inner r i) →
+        addDuration held (linkAt r (i - 1) .back) p (lasting r (i - 1)) ≡ treeSteps held (inner r (i - 1))
     turn e =
         let same : suc (i - 1) ≡ i = omega arith in
         rw (e, next-link (i - 1) (omega arith), same, around-steps)

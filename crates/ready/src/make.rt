@@ -3,7 +3,6 @@ use dates::date::Date;
 use dates::duration::Part;
 use dates::duration::Parts;
 use dates::duration::is_sub_daily_unit;
-use dates::time::Time;
 use dates::units::RelativeSpecifier;
 use dates::units::Unit;
 use evaluation::expr::is_month_and_day;

@@ -1,13 +1,12 @@
 -- A plan holds its list: what is read out of it is what was put in, and `addTo` is `addStep`.
 use Prim.Native.Nat.{ℕ, zero, suc, _+_, _-_, _≤_, _<_}
 use native.Mathlib.Omega.{arith}
-use native.Mathlib.Numerals.{add-one}
 use mathlib.Core.Path.{_≡_, refl, ap, sym, _∙_}
 use mathlib.Core.List.{List, [], _∷_, _++_, map}
 use borrow.Author.Tests.{le-leb}
 use lib.ListN.{length, set, getD, take}
 use Rattle.steps.specs.Joining.{joinOf, joined, addStep}
-use Rattle.steps.specs.Plans.{slot, stepIn, blankSlot, stepsIn, slotsOf, planOf, lastOf, addedBy, addTo}
+use Rattle.steps.specs.Plans.{slot, stepIn, blankSlot, stepsIn, slotsOf, planOf, pushed, lastOf, addedBy, addTo}
 use Rattle.steps.specs.declared.plan.Join.{Join}
 use Rattle.steps.specs.declared.plan.Join.the-variants.{Alone, Apart, One}
 use Rattle.steps.specs.declared.plan.Slot.{Slot}
@@ -79,13 +78,18 @@ length-swapped : (x : Step) (ss : List Step) (s : Step) → length (swapped x ss
 length-swapped x [] s = refl
 length-swapped x (y ∷ ys) s = ap suc (length-swapped y ys s)
 
+-- one step more, where there is room for it
+pub pushed-is : (ss : List Step) (s : Step) → length ss < 24 → pushed (planOf ss) s ≡ planOf (ss ++ (s ∷ []))
+unfolding planOf
+pushed-is ss s h = rw (behind 24 ss s h, length-behind ss s)
+
 less-one : (k : ℕ) → suc k - 1 ≡ k
 less-one k = omega arith
 
 added-by : (j : Join) (x : Step) (ss : List Step) (s : Step) → length ss < 23 → addedBy j (planOf (x ∷ ss)) s ≡ planOf (grown j x ss s)
 unfolding planOf
 added-by Alone x ss s h = refl
-added-by Apart x ss s h = rw (behind 24 (x ∷ ss) s (omega arith), length-behind ss s, add-one (length ss), add-one (suc (length ss)))
+added-by Apart x ss s h = pushed-is (x ∷ ss) s (omega arith)
 added-by (One back m) x ss s h =
     rw (less-one (length ss), in-place 24 x ss (Minutes back m) (omega arith), length-swapped x ss (Minutes back m))
 

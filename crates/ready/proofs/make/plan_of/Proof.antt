@@ -1,12 +1,12 @@
 use Prim.Native.Nat.{ℕ, _+_, _-_, _≤_}
 use native.Mathlib.Omega.{arith}
 use mathlib.Core.Path.{_≡_, ap, _∙_}
-use lib.ListN.{length, getD, length-map}
-use Rattle.phrase.specs.Flat.{sizeTree, blankLink}
+use lib.ListN.{length, length-map}
+use Rattle.phrase.specs.Flat.{sizeTree}
 use Rattle.ready.specs.Made.{treeSteps, held}
 use Rattle.ready.specs.Bounds.{Within}
 use Rattle.ready.proofs.Rows.{row-size}
-use Rattle.ready.proofs.Links.{inner, whole, no-link, inner-size, turn-size, turn}
+use Rattle.ready.proofs.Links.{inner, linkAt, whole, no-link, inner-size, turn-size, turn}
 use Rattle.ready.proofs.Within.{within-row}
 use borrow.Author.Needs.{needs}
 use Rattle.ready.proofs.make.plan_of.Statement.{statement}
@@ -31,13 +31,13 @@ sizes :
     (c : tie.After-link Inv-loop μ-loop) →
     let r = c .before .before .before .before .before .args .t1 in
     let i = c .before .before .loop .i in
-    let link = getD (r .links) (i - 1) blankLink in
+    let link = linkAt r (i - 1) in
     sizeTree (inner r i) + link .to ≡ sizeTree (inner r (i - 1)) + link .from
 sizes c =
     let start = c .before .before .before .before .before in
     let r = start .args .t1 in
     let i = c .before .before .loop .i in
-    let link = getD (r .links) (i - 1) blankLink in
+    let link = linkAt r (i - 1) in
     let long = simp length-map at (start .good .0 .1 .1 .1 .1 .0 .1 .1 .1 .0 .1 .0 .1) in
     let most = start .pre .0 .to-most (i - 1) (omega arith) in
     let row = row-size (r .parts .items) (link .from) (link .to) (start .pre .0 .from-to (i - 1) (omega arith)) (omega arith) in

@@ -1,0 +1,4 @@
+// A ready phrase as bytes: n records of 16 bytes, little-endian.
+pub mod endian;
+pub mod record;
+pub mod words;

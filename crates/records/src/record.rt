@@ -1,0 +1,114 @@
+// The records of a list of steps.
+use super::endian::get;
+use super::endian::put;
+use super::words::Words;
+use super::words::step_from;
+use super::words::words_of;
+use steps::plan::Plan;
+use steps::plan::none;
+use steps::plan::push;
+ghost use mathlib.Core.Path.{_≡_};
+ghost use Prim.Native.Nat.{_+_, _*_, _≤_};
+ghost use lib.ListN.{length};
+ghost use lib.Seq.{sets};
+ghost use Rattle.steps.specs.Plans.{stepsIn, planOf};
+ghost use Rattle.records.specs.Records.{bytesOfWords, encodeOf, wordAt, wordsAt, sameWords, decodeOf};
+
+// The bytes of one record.
+const SIZE: usize = 16;
+
+// A record at a place.
+fn put_words(b: &mut [u8], at: usize, w: Words)
+    requires { ⌜ at + 16 ≤ length (now b) ⌝ }
+    ensures { λ r. ⌜ now (b .exit) ≡ sets (now (b .entry)) at (bytesOfWords w) ⌝ }
+{
+    put(b, at, 4, (w.kind as u64) + 256 * (w.form as u64));
+    put(b, at + 4, 4, w.a as u64);
+    put(b, at + 8, 4, w.b as u64);
+    put(b, at + 12, 4, w.c as u64);
+}
+
+// The records of a list, one behind the other from the start; what stands behind them stays. They decode to the list.
+pub fn encode(p: Plan, b: &mut [u8])
+    requires { ⌜ (p .n ≤ 24) × (16 * p .n ≤ length (now b)) ⌝ }
+    ensures { λ r. ⌜ now (b .exit) ≡ sets (now (b .entry)) 0 (encodeOf (stepsIn p)) ⌝ }
+    ensures { λ r. ⌜ decodeOf (encodeOf (stepsIn p)) ≡ stepsIn p ⌝ }
+{
+    let n = p.n;
+    let mut i = 0;
+    while i < n {
+        let slot = p.slots[i];
+        let step = slot.step;
+        put_words(b, SIZE * i, words_of(step));
+        i += 1;
+    }
+}
+
+// The number of four bytes at a place.
+fn word_at(b: &[u8], at: usize) -> u32
+    requires { ⌜ at + 4 ≤ length (now b) ⌝ }
+    ensures { λ r. ⌜ r ≡ wordAt (now (b .entry)) at ⌝ }
+{
+    get(b, at, 4) as u32
+}
+
+// The numbers of the record at a place.
+fn words_at(b: &[u8], at: usize) -> Words
+    requires { ⌜ at + 16 ≤ length (now b) ⌝ }
+    ensures { λ r. ⌜ r ≡ wordsAt (now (b .entry)) at ⌝ }
+{
+    let first = word_at(b, at);
+    Words {
+        kind: first % 256,
+        form: first / 256,
+        a: word_at(b, at + 4),
+        b: word_at(b, at + 8),
+        c: word_at(b, at + 12),
+    }
+}
+
+// Have two records the same numbers?
+fn same_words(v: Words, w: Words) -> bool
+    ensures { λ r. ⌜ r ≡ sameWords v w ⌝ }
+{
+    if v.kind != w.kind {
+        return false;
+    }
+    if v.form != w.form {
+        return false;
+    }
+    if v.a != w.a {
+        return false;
+    }
+    if v.b != w.b {
+        return false;
+    }
+    v.c == w.c
+}
+
+// The list of a slice of records. A slice that is none stands for no list, which is 9 when it is run.
+pub fn decode(b: &[u8]) -> Plan
+    ensures { λ r. ⌜ r ≡ planOf (decodeOf (now (b .entry))) ⌝ }
+{
+    let size = b.len();
+    if size > 384 {
+        return none();
+    }
+    if size % SIZE != 0 {
+        return none();
+    }
+    let n = size / SIZE;
+    let mut p = none();
+    let mut i = 0;
+    while i < n {
+        let w = words_at(b, SIZE * i);
+        let step = step_from(w);
+        if same_words(words_of(step), w) {
+            p = push(p, step);
+        } else {
+            return none();
+        }
+        i += 1;
+    }
+    p
+}
