@@ -1,0 +1,45 @@
+use mathlib.Core.Path.{_≡_, ap, sym, _∙_}
+use denote.Ref.{now}
+use Rattle.lexer.specs.Keywords.{keywords}
+use Rattle.answer.specs.Answer.{Answer, momentOf, answerFrom, answerOf}
+use Rattle.answer.specs.declared.Answered.{Answered}
+use Rattle.fuzzydate.specs.Called.{codeOf, momentAfter}
+use Rattle.fuzzydate.proofs.Short.{short-answer}
+use borrow.Author.Needs.{needs}
+use Rattle.fuzzydate.proofs.fuzzy_read.Statement.{statement}
+use Rattle.fuzzydate.proofs.fuzzy_read.Tie as tie
+
+-- the phrase's answer at the now of six numbers
+abbrev answerAt : tie.Start → Answer
+answerAt c = let a = c .args in answerOf keywords (now (a .phrase)) (momentOf (a .year) (a .month) (a .day) (a .hour) (a .minute) (a .second))
+
+-- it is what the code's answer stands for
+stands : (c : tie.After-answer) {r : Answered} → c .answer .result ≡ r → answerAt (c .before .before) ≡ answerFrom r
+stands c e = sym (c .answer .ensures) ∙ ap answerFrom e
+
+answer-requires : tie.Need-answer-requires
+answer-requires c κs = search needs
+
+enum-known-t : tie.Need-enum-known-t
+enum-known-t c = search needs
+
+enum-known-number : tie.Need-enum-known-number
+enum-known-number c = search needs
+
+refusal-requires : tie.Need-refusal-requires
+refusal-requires c κs =
+    let part = short-answer _ _ (stands (c .before .before .before) (c .before .number .given .1)) in
+    (part .start, part .most)
+
+returns : tie.Need-returns
+returns c = let same = stands (c .before .before .before .before) (c .before .before .t .given .1) in (rw same, rw same (search needs))
+
+returns-2 : tie.Need-returns-2
+returns-2 c =
+    let same = stands (c .before .before .before .before) (c .before .before .number .given .1) in
+    (rw same (c .refusal .ensures), rw same (search needs))
+
+pub fuzzy-read-spec : {M : Type 1} → statement M
+fuzzy-read-spec =
+    tie.close
+    (tie.spec answer-requires enum-known-t enum-known-number refusal-requires returns returns-2)

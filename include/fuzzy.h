@@ -1,0 +1,92 @@
+/* fuzzy.h: reminder phrases such as "next friday at 3 pm", read at a now that the caller gives.
+ *
+ * Link with libfuzzydate.a. No function allocates, keeps state, reads a clock or calls anything; all of them may run in any thread. Every
+ * byte string, every number and every ready phrase gets an answer, so there is nothing to check before a call. Pointers must point to
+ * what the parameter says; a phrase or a ready phrase of length 0 still needs a pointer that is not null.
+ *
+ * An answer is one number. 0 says that a moment was written. Else its parts are, by the helpers below:
+ *   fuzzy_number   which refusal it is, 1 to 13
+ *   fuzzy_place    where in the phrase, counted in bytes
+ *   fuzzy_length   how long the offending part of the phrase is; 0 where the refusal has none
+ * On a refusal nothing that was lent has been written.
+ */
+#ifndef FUZZY_H
+#define FUZZY_H
+
+#include <stddef.h>
+#include <stdint.h>
+
+#ifdef __cplusplus
+extern "C" {
+#endif
+
+/* A date and time of the years 1 to 9999: year, month 1 to 12, day, hour, minute, second. */
+#define FUZZY_MOMENT_NUMBERS 6
+
+/* The room that any ready phrase needs, in bytes. */
+#define FUZZY_READY_SIZE 384
+
+/* Why a phrase or a ready phrase is refused. They are tested in this order. */
+enum fuzzy_refusal {
+    FUZZY_TOO_LONG = 1,        /* the phrase has more than 256 bytes */
+    FUZZY_UNKNOWN = 2,         /* a word that is no keyword, or a byte with no meaning */
+    FUZZY_LARGE_DIGITS = 3,    /* digits above 4,294,967,295 */
+    FUZZY_TOO_MANY = 4,        /* a 65th word, number or mark */
+    FUZZY_NOTHING = 5,         /* nothing that can be read */
+    FUZZY_LARGE_SUM = 6,       /* a number in words passes 4,294,967,295 */
+    FUZZY_LEFT_OVER = 7,       /* something is left behind what was read */
+    FUZZY_NO_NOW = 8,          /* the now is no date and time of the years 1 to 9999 */
+    FUZZY_NO_SENSE = 9,        /* the phrase, or the ready phrase, has no sense */
+    FUZZY_NO_DATE = 10,        /* no such month or day */
+    FUZZY_NO_TIME = 11,        /* no such time of day */
+    FUZZY_OUTSIDE = 12,        /* outside the years 1 to 9999 */
+    FUZZY_NO_LEAP_DAY = 13     /* a year step from 29 February into a common year */
+};
+
+/* A phrase at a now. 0: the moment's six numbers are in `moment`. Else a refusal. */
+uint64_t fuzzy_read(const uint8_t *phrase, size_t phrase_length, uint32_t year, uint32_t month, uint32_t day, uint32_t hour,
+                    uint32_t minute, uint32_t second, uint32_t moment[FUZZY_MOMENT_NUMBERS]);
+
+/* A phrase made ready without a now, to be stored, sent and run later. fuzzy_number 0: the first fuzzy_length bytes of `ready` are the
+ * ready phrase. Else a refusal of 1 to 7, the same that fuzzy_read gives. */
+uint64_t fuzzy_make_ready(const uint8_t *phrase, size_t phrase_length, uint8_t ready[FUZZY_READY_SIZE]);
+
+/* A ready phrase at a now: what fuzzy_read gives for its phrase at that now. Bytes that are no ready phrase are refused with 9. */
+uint64_t fuzzy_run(const uint8_t *ready, size_t ready_length, uint32_t year, uint32_t month, uint32_t day, uint32_t hour, uint32_t minute,
+                   uint32_t second, uint32_t moment[FUZZY_MOMENT_NUMBERS]);
+
+/* Which refusal an answer is; 0 where it is none. */
+static inline unsigned fuzzy_number(uint64_t answer) { return (unsigned)(answer & 0xffffu); }
+
+/* The place of a refusal in its phrase. */
+static inline size_t fuzzy_place(uint64_t answer) { return (size_t)((answer >> 16) & 0xffffu); }
+
+/* The length of a refusal's part; of fuzzy_make_ready's answer without a refusal, the length of the ready phrase. */
+static inline size_t fuzzy_length(uint64_t answer) { return (size_t)(answer >> 32); }
+
+/* A word for each refusal, to be shown to people; "done" for 0. */
+static inline const char *fuzzy_word(unsigned number) {
+    switch (number) {
+    case 0: return "done";
+    case FUZZY_TOO_LONG: return "longer than 256 bytes";
+    case FUZZY_UNKNOWN: return "not understood";
+    case FUZZY_LARGE_DIGITS: return "number too large";
+    case FUZZY_TOO_MANY: return "more than 64 words, numbers and marks";
+    case FUZZY_NOTHING: return "no date or time in it";
+    case FUZZY_LARGE_SUM: return "number in words too large";
+    case FUZZY_LEFT_OVER: return "not part of the date or time";
+    case FUZZY_NO_NOW: return "the now is no date and time";
+    case FUZZY_NO_SENSE: return "has no sense";
+    case FUZZY_NO_DATE: return "no such month or day";
+    case FUZZY_NO_TIME: return "no such time of day";
+    case FUZZY_OUTSIDE: return "outside the years 1 to 9999";
+    case FUZZY_NO_LEAP_DAY: return "29 February is not in that year";
+    default: return "no answer of this library";
+    }
+}
+
+#ifdef __cplusplus
+}
+#endif
+
+#endif
