@@ -1,0 +1,129 @@
+/* Calls every function with good, damaged and empty input, and looks at every byte that must not change. */
+#include "fuzzy.h"
+
+#include <stdio.h>
+#include <string.h>
+
+#define PATTERN 0xa5
+#define GUARD 64
+
+static int failed = 0;
+
+static void expect(int holds, const char *what) {
+    if (!holds) {
+        printf("failed: %s\n", what);
+        failed = 1;
+    }
+}
+
+/* a lent array between two guards, all of it full of a pattern */
+struct lent {
+    uint8_t before[GUARD];
+    union {
+        uint32_t moment[FUZZY_MOMENT_NUMBERS];
+        uint8_t ready[FUZZY_READY_SIZE];
+    } in;
+    uint8_t after[GUARD];
+};
+
+static struct lent fresh(void) {
+    struct lent l;
+    memset(&l, PATTERN, sizeof l);
+    return l;
+}
+
+/* whether all bytes of l from a place in `in` on, and both guards, are as they were */
+static int kept_from(const struct lent *l, size_t from) {
+    const uint8_t *in = (const uint8_t *)&l->in;
+    size_t i;
+    for (i = 0; i < GUARD; i++) {
+        if (l->before[i] != PATTERN || l->after[i] != PATTERN) return 0;
+    }
+    for (i = from; i < sizeof l->in; i++) {
+        if (in[i] != PATTERN) return 0;
+    }
+    return 1;
+}
+
+static uint64_t read_at(const char *phrase, size_t n, struct lent *l) {
+    return fuzzy_read((const uint8_t *)phrase, n, 2026, 2, 11, 9, 30, 15, l->in.moment);
+}
+
+/* a refusal with its number, place and length, and nothing written: by reading, and by making ready where it is one of 1 to 7 */
+static void refused(const char *phrase, size_t n, unsigned number, size_t place, size_t length) {
+    struct lent l = fresh();
+    uint64_t answer = read_at(phrase, n, &l);
+    expect(fuzzy_number(answer) == number, "the number of a refusal");
+    expect(fuzzy_place(answer) == place, "the place of a refusal");
+    expect(fuzzy_length(answer) == length, "the length of a part");
+    expect(kept_from(&l, 0), "nothing written on a refusal");
+    if (number <= 7) {
+        l = fresh();
+        expect(fuzzy_make_ready((const uint8_t *)phrase, n, l.in.ready) == answer, "making ready refuses as reading does");
+        expect(kept_from(&l, 0), "nothing written by making ready on a refusal");
+    }
+}
+
+/* a moment, by reading and by running what was made ready; bytes past what was written stay */
+static void given(const char *phrase, uint32_t y, uint32_t mo, uint32_t d, uint32_t h, uint32_t mi, uint32_t s) {
+    const uint32_t wanted[FUZZY_MOMENT_NUMBERS] = {y, mo, d, h, mi, s};
+    struct lent l = fresh();
+    struct lent m = fresh();
+    uint64_t made;
+    expect(read_at(phrase, strlen(phrase), &l) == 0, "a phrase that is read");
+    expect(memcmp(l.in.moment, wanted, sizeof wanted) == 0, "its moment");
+    expect(kept_from(&l, sizeof wanted), "nothing written but the moment");
+    l = fresh();
+    made = fuzzy_make_ready((const uint8_t *)phrase, strlen(phrase), l.in.ready);
+    expect(fuzzy_number(made) == 0 && fuzzy_place(made) == 0, "a phrase that is made ready");
+    expect(fuzzy_length(made) >= 16 && fuzzy_length(made) <= FUZZY_READY_SIZE && fuzzy_length(made) % 16 == 0, "its length");
+    expect(kept_from(&l, fuzzy_length(made)), "nothing written but the ready phrase");
+    expect(fuzzy_run(l.in.ready, fuzzy_length(made), 2026, 2, 11, 9, 30, 15, m.in.moment) == 0, "a ready phrase that is run");
+    expect(memcmp(m.in.moment, wanted, sizeof wanted) == 0, "its moment when run");
+    expect(kept_from(&m, sizeof wanted), "nothing written but the moment when run");
+    m = fresh();
+    expect(fuzzy_run(l.in.ready, fuzzy_length(made), 2026, 2, 30, 9, 30, 15, m.in.moment) == 8, "an invalid now");
+    expect(kept_from(&m, 0), "nothing written at an invalid now");
+    expect(fuzzy_run(l.in.ready, fuzzy_length(made) - 1, 2026, 2, 11, 9, 30, 15, m.in.moment) == 9, "a ready phrase cut short");
+    l.in.ready[2] ^= 1;
+    expect(fuzzy_run(l.in.ready, fuzzy_length(made), 2026, 2, 11, 9, 30, 15, m.in.moment) == 9, "a damaged ready phrase");
+    expect(kept_from(&m, 0), "nothing written for a damaged ready phrase");
+}
+
+int main(void) {
+    static char many[4096];
+    struct lent l = fresh();
+    size_t i;
+
+    given("next friday", 2026, 2, 20, 9, 30, 15);
+    given("tuesday in two weeks", 2026, 1, 27, 9, 30, 15);
+    given("5.2.2022", 2022, 2, 5, 9, 30, 15);
+    given("5/2 at noon", 2026, 5, 2, 12, 0, 0);
+    given("2 months before 3 weeks after tomorrow at 5:00", 2026, 1, 5, 5, 0, 0);
+
+    refused("", 0, FUZZY_NOTHING, 0, 0);
+    refused("   ", 3, FUZZY_NOTHING, 0, 0);
+    refused("forty days ago", 14, FUZZY_UNKNOWN, 0, 5);
+    refused("at \xff", 4, FUZZY_UNKNOWN, 3, 1);
+    refused("in\0two days", 11, FUZZY_UNKNOWN, 2, 1);
+    refused("4294967296 days ago", 19, FUZZY_LARGE_DIGITS, 0, 10);
+    refused("five billion days ago", 21, FUZZY_LARGE_SUM, 0, 0);
+    refused("5/2", 3, FUZZY_LEFT_OVER, 1, 2);
+    refused("this month", 10, FUZZY_NO_SENSE, 0, 0);
+    refused("1000/1/1", 8, FUZZY_NO_DATE, 0, 0);
+    refused("january 1, 2010", 15, FUZZY_NO_TIME, 0, 0);
+    refused("four billion days ago", 21, FUZZY_OUTSIDE, 0, 0);
+    for (i = 0; i < sizeof many; i++) many[i] = i % 2 == 0 ? '1' : ' ';
+    refused(many, 256, FUZZY_TOO_MANY, 128, 1);
+    refused(many, 257, FUZZY_TOO_LONG, 0, 0);
+    refused(many, sizeof many, FUZZY_TOO_LONG, 0, 0);
+
+    expect(fuzzy_read((const uint8_t *)"today", 5, 10000, 1, 1, 0, 0, 0, l.in.moment) == FUZZY_NO_NOW, "a now past the calendar");
+    expect(fuzzy_read((const uint8_t *)"a year from now", 15, 2024, 2, 29, 12, 0, 0, l.in.moment) == FUZZY_NO_LEAP_DAY, "29 February");
+    expect(fuzzy_run((const uint8_t *)"", 0, 2026, 2, 11, 9, 30, 15, l.in.moment) == FUZZY_NO_SENSE, "no step");
+    expect(fuzzy_run((const uint8_t *)many, 400, 2026, 2, 11, 9, 30, 15, l.in.moment) == FUZZY_NO_SENSE, "25 records");
+    expect(kept_from(&l, 0), "nothing written by any of these");
+
+    printf(failed ? "some calls failed\n" : "every call answered as it should\n");
+    return failed;
+}

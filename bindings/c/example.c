@@ -1,0 +1,45 @@
+/* Reads one phrase at one now, and again as a ready phrase. Copy what you need. */
+#include "fuzzy.h"
+
+#include <stdio.h>
+#include <string.h>
+
+/* Shows a moment, or what is wrong and where. */
+static void show(const char *phrase, uint64_t answer, const uint32_t m[FUZZY_MOMENT_NUMBERS]) {
+    if (answer == 0) {
+        printf("%s: %04u-%02u-%02u %02u:%02u:%02u\n", phrase, (unsigned)m[0], (unsigned)m[1], (unsigned)m[2], (unsigned)m[3], (unsigned)m[4],
+               (unsigned)m[5]);
+        return;
+    }
+    printf("%s: %s", phrase, fuzzy_word(fuzzy_number(answer)));
+    if (fuzzy_length(answer) > 0) {
+        printf(": \"%.*s\"", (int)fuzzy_length(answer), phrase + fuzzy_place(answer));
+    }
+    printf("\n");
+}
+
+int main(void) {
+    static const char *const phrases[] = {"next friday at 3 pm", "forty days ago", "5/2"};
+    uint8_t ready[FUZZY_READY_SIZE];
+    uint32_t moment[FUZZY_MOMENT_NUMBERS];
+    size_t i;
+
+    /* the now is 2026-02-11 09:30:15 */
+    for (i = 0; i < sizeof phrases / sizeof phrases[0]; i++) {
+        const uint8_t *phrase = (const uint8_t *)phrases[i];
+        show(phrases[i], fuzzy_read(phrase, strlen(phrases[i]), 2026, 2, 11, 9, 30, 15, moment), moment);
+    }
+
+    /* made ready once, run at two nows */
+    {
+        const char *phrase = "a year from now";
+        uint64_t made = fuzzy_make_ready((const uint8_t *)phrase, strlen(phrase), ready);
+        if (fuzzy_number(made) != 0) {
+            show(phrase, made, moment);
+            return 1;
+        }
+        show(phrase, fuzzy_run(ready, fuzzy_length(made), 2026, 2, 11, 9, 30, 15, moment), moment);
+        show(phrase, fuzzy_run(ready, fuzzy_length(made), 2024, 2, 29, 12, 0, 0, moment), moment);
+    }
+    return 0;
+}

@@ -1,0 +1,300 @@
+//! Reminder phrases such as "next friday at 3 pm", read at a now that the caller gives.
+//!
+//! ```
+//! use fuzzydate::{read, Moment};
+//!
+//! let now = Moment { year: 2026, month: 2, day: 11, hour: 9, minute: 30, second: 15 };
+//! assert_eq!(read("next friday at 3 pm", now).unwrap().to_string(), "2026-02-20 15:00:00");
+//!
+//! let refusal = read("forty days ago", now).unwrap_err();
+//! assert_eq!(refusal.part(), b"forty");
+//! assert_eq!(refusal.to_string(), "\"forty\" at byte 0 is not understood");
+//! ```
+//!
+//! A phrase can be made ready without a now, stored, sent, and run at any now:
+//!
+//! ```
+//! use fuzzydate::{Moment, Ready, Reason};
+//!
+//! let ready = Ready::new("a year from now").unwrap();
+//! let stored = ready.as_bytes().to_vec();
+//!
+//! let leap_day = Moment { year: 2024, month: 2, day: 29, hour: 12, minute: 0, second: 0 };
+//! let refusal = Ready::from_bytes(&stored).unwrap().run(leap_day).unwrap_err();
+//! assert_eq!(refusal.reason(), Reason::NoLeapDay);
+//! ```
+use std::fmt;
+
+extern "C" {
+    fn fuzzy_read(
+        phrase: *const u8,
+        phrase_length: usize,
+        year: u32,
+        month: u32,
+        day: u32,
+        hour: u32,
+        minute: u32,
+        second: u32,
+        moment: *mut u32,
+    ) -> u64;
+    fn fuzzy_make_ready(phrase: *const u8, phrase_length: usize, ready: *mut u8) -> u64;
+    fn fuzzy_run(
+        ready: *const u8,
+        ready_length: usize,
+        year: u32,
+        month: u32,
+        day: u32,
+        hour: u32,
+        minute: u32,
+        second: u32,
+        moment: *mut u32,
+    ) -> u64;
+}
+
+/// The most bytes that a ready phrase has.
+pub const READY_SIZE: usize = 384;
+
+/// A date and time of the years 1 to 9999. Other numbers may stand here too: such a now is refused.
+#[derive(Clone, Copy, Debug, PartialEq, Eq, PartialOrd, Ord, Hash)]
+pub struct Moment {
+    pub year: u32,
+    pub month: u32,
+    pub day: u32,
+    pub hour: u32,
+    pub minute: u32,
+    pub second: u32,
+}
+
+impl Moment {
+    fn of(numbers: [u32; 6]) -> Moment {
+        let [year, month, day, hour, minute, second] = numbers;
+        Moment { year, month, day, hour, minute, second }
+    }
+}
+
+impl fmt::Display for Moment {
+    fn fmt(&self, f: &mut fmt::Formatter<'_>) -> fmt::Result {
+        write!(f, "{:04}-{:02}-{:02} {:02}:{:02}:{:02}", self.year, self.month, self.day, self.hour, self.minute, self.second)
+    }
+}
+
+/// Why a phrase or a ready phrase is refused. They are tested in this order.
+#[derive(Clone, Copy, Debug, PartialEq, Eq, PartialOrd, Ord, Hash)]
+#[repr(u8)]
+pub enum Reason {
+    /// The phrase has more than 256 bytes.
+    TooLong = 1,
+    /// A word that is no keyword, or a byte with no meaning.
+    Unknown = 2,
+    /// Digits above 4,294,967,295.
+    LargeDigits = 3,
+    /// A 65th word, number or mark.
+    TooMany = 4,
+    /// Nothing that can be read.
+    Nothing = 5,
+    /// A number in words passes 4,294,967,295.
+    LargeSum = 6,
+    /// Something is left behind what was read.
+    LeftOver = 7,
+    /// The now is no date and time of the years 1 to 9999.
+    NoNow = 8,
+    /// The phrase, or the ready phrase, has no sense.
+    NoSense = 9,
+    /// No such month or day.
+    NoDate = 10,
+    /// No such time of day.
+    NoTime = 11,
+    /// Outside the years 1 to 9999.
+    Outside = 12,
+    /// A year step from 29 February into a common year.
+    NoLeapDay = 13,
+}
+
+impl Reason {
+    /// In the order of their numbers.
+    const ALL: [Reason; 13] = [
+        Reason::TooLong,
+        Reason::Unknown,
+        Reason::LargeDigits,
+        Reason::TooMany,
+        Reason::Nothing,
+        Reason::LargeSum,
+        Reason::LeftOver,
+        Reason::NoNow,
+        Reason::NoSense,
+        Reason::NoDate,
+        Reason::NoTime,
+        Reason::Outside,
+        Reason::NoLeapDay,
+    ];
+
+    /// Its number in the table of refusals, 1 to 13.
+    pub fn number(self) -> u8 {
+        self as u8
+    }
+
+    /// What is wrong, in plain words.
+    fn words(self) -> &'static str {
+        match self {
+            Reason::TooLong => "the phrase is longer than 256 bytes",
+            Reason::Unknown => "is not understood",
+            Reason::LargeDigits => "is too large a number",
+            Reason::TooMany => "is one word, number or mark too many: 64 are the most",
+            Reason::Nothing => "there is no date or time in the phrase",
+            Reason::LargeSum => "a number in the phrase is too large",
+            Reason::LeftOver => "is not part of the date or time before it",
+            Reason::NoNow => "the now is no date and time of the years 1 to 9999",
+            Reason::NoSense => "the phrase has no sense",
+            Reason::NoDate => "there is no such month or day",
+            Reason::NoTime => "there is no such time of day",
+            Reason::Outside => "the moment is outside the years 1 to 9999",
+            Reason::NoLeapDay => "29 February is not in that year",
+        }
+    }
+}
+
+/// A refusal: the reason, the place in the phrase, and the offending part of the caller's own phrase, which may be empty.
+#[derive(Clone, Copy, Debug, PartialEq, Eq)]
+pub struct Refusal<'a> {
+    reason: Reason,
+    place: usize,
+    part: &'a [u8],
+}
+
+impl<'a> Refusal<'a> {
+    /// The refusal that an answer other than 0 stands for.
+    fn of(answer: u64, phrase: &'a [u8]) -> Refusal<'a> {
+        let number = (answer & 0xffff) as usize;
+        let place = ((answer >> 16) & 0xffff) as usize;
+        let length = (answer >> 32) as usize;
+        Refusal { reason: Reason::ALL[number - 1], place, part: &phrase[place..place + length] }
+    }
+
+    /// Why.
+    pub fn reason(&self) -> Reason {
+        self.reason
+    }
+
+    /// Where in the phrase, counted in bytes.
+    pub fn place(&self) -> usize {
+        self.place
+    }
+
+    /// The word, byte or digits that are refused, or all that is left over.
+    pub fn part(&self) -> &'a [u8] {
+        self.part
+    }
+}
+
+impl fmt::Display for Refusal<'_> {
+    fn fmt(&self, f: &mut fmt::Formatter<'_>) -> fmt::Result {
+        if self.part.is_empty() {
+            return f.write_str(self.reason.words());
+        }
+        write!(f, "\"{}\" at byte {} {}", self.part.escape_ascii(), self.place, self.reason.words())
+    }
+}
+
+impl std::error::Error for Refusal<'_> {}
+
+/// A phrase at a now.
+///
+/// ```
+/// # use fuzzydate::{read, Moment, Reason};
+/// let now = Moment { year: 2024, month: 2, day: 29, hour: 12, minute: 0, second: 0 };
+/// assert_eq!(read("12 months from now", now).unwrap().to_string(), "2025-02-28 12:00:00");
+/// assert_eq!(read("5/2", now).unwrap_err().part(), b"/2");
+/// assert_eq!(read("", now).unwrap_err().reason(), Reason::Nothing);
+/// ```
+pub fn read<P: AsRef<[u8]> + ?Sized>(phrase: &P, now: Moment) -> Result<Moment, Refusal<'_>> {
+    let bytes = phrase.as_ref();
+    let mut moment = [0; 6];
+    // SAFETY: the pointers are those of a slice and of an array of the size that the function writes.
+    let answer = unsafe {
+        fuzzy_read(
+            bytes.as_ptr(),
+            bytes.len(),
+            now.year,
+            now.month,
+            now.day,
+            now.hour,
+            now.minute,
+            now.second,
+            moment.as_mut_ptr(),
+        )
+    };
+    match answer {
+        0 => Ok(Moment::of(moment)),
+        _ => Err(Refusal::of(answer, bytes)),
+    }
+}
+
+/// A phrase made ready without a now: at most 24 calendar steps, in bytes that can be stored and sent.
+#[derive(Clone, Copy)]
+pub struct Ready {
+    bytes: [u8; READY_SIZE],
+    length: usize,
+}
+
+impl Ready {
+    /// Makes a phrase ready. It is refused exactly when reading it is, for the same reason.
+    pub fn new<P: AsRef<[u8]> + ?Sized>(phrase: &P) -> Result<Ready, Refusal<'_>> {
+        let phrase = phrase.as_ref();
+        let mut bytes = [0; READY_SIZE];
+        // SAFETY: the pointers are those of a slice and of an array of the size that the function may write.
+        let answer = unsafe { fuzzy_make_ready(phrase.as_ptr(), phrase.len(), bytes.as_mut_ptr()) };
+        if answer & 0xffff == 0 {
+            return Ok(Ready { bytes, length: (answer >> 32) as usize });
+        }
+        Err(Refusal::of(answer, phrase))
+    }
+
+    /// The bytes, to be stored or sent.
+    pub fn as_bytes(&self) -> &[u8] {
+        &self.bytes[..self.length]
+    }
+
+    /// Bytes that were stored or sent; none where they are more than any ready phrase has. Damaged ones are refused when they are run.
+    pub fn from_bytes(stored: &[u8]) -> Option<Ready> {
+        let mut bytes = [0; READY_SIZE];
+        bytes.get_mut(..stored.len())?.copy_from_slice(stored);
+        Some(Ready { bytes, length: stored.len() })
+    }
+
+    /// Runs it at a now: what [`read`] gives for its phrase at that now.
+    pub fn run(&self, now: Moment) -> Result<Moment, Refusal<'static>> {
+        let mut moment = [0; 6];
+        // SAFETY: the pointers are those of a slice and of an array of the size that the function writes.
+        let answer = unsafe {
+            fuzzy_run(
+                self.bytes.as_ptr(),
+                self.length,
+                now.year,
+                now.month,
+                now.day,
+                now.hour,
+                now.minute,
+                now.second,
+                moment.as_mut_ptr(),
+            )
+        };
+        match answer {
+            0 => Ok(Moment::of(moment)),
+            _ => Err(Refusal::of(answer, &[])),
+        }
+    }
+}
+
+impl fmt::Debug for Ready {
+    fn fmt(&self, f: &mut fmt::Formatter<'_>) -> fmt::Result {
+        f.debug_tuple("Ready").field(&self.as_bytes()).finish()
+    }
+}
+
+impl PartialEq for Ready {
+    fn eq(&self, other: &Ready) -> bool {
+        self.as_bytes() == other.as_bytes()
+    }
+}
+
+impl Eq for Ready {}

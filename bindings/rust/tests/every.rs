@@ -1,0 +1,88 @@
+//! Every function with good, damaged and empty input.
+use fuzzydate::{read, Moment, Ready, Reason};
+
+const NOW: Moment = Moment { year: 2026, month: 2, day: 11, hour: 9, minute: 30, second: 15 };
+const LEAP_DAY: Moment = Moment { year: 2024, month: 2, day: 29, hour: 12, minute: 0, second: 0 };
+const NO_NOW: Moment = Moment { year: 2026, month: 2, day: 30, hour: 0, minute: 0, second: 0 };
+
+#[test]
+fn gives_moments() {
+    let cases = [
+        ("friday", "2026-02-13 09:30:15"),
+        ("next friday", "2026-02-20 09:30:15"),
+        ("tuesday in two weeks", "2026-01-27 09:30:15"),
+        ("friday next 5:00", "2026-02-13 05:00:00"),
+        ("5/2/2022", "2022-05-02 09:30:15"),
+        ("5.2.2022", "2022-02-05 09:30:15"),
+        ("5/2 at noon", "2026-05-02 12:00:00"),
+        ("march 4th", "2026-03-04 09:30:15"),
+    ];
+    for (phrase, moment) in cases {
+        assert_eq!(read(phrase, NOW).unwrap().to_string(), moment, "{phrase}");
+        assert_eq!(Ready::new(phrase).unwrap().run(NOW).unwrap().to_string(), moment, "{phrase}, made ready");
+    }
+}
+
+#[test]
+fn refuses_with_reason_place_and_part() {
+    let cases: [(&[u8], Reason, usize, &[u8]); 12] = [
+        (b"", Reason::Nothing, 0, b""),
+        (b"   ", Reason::Nothing, 0, b""),
+        (b"forty days ago", Reason::Unknown, 0, b"forty"),
+        (b"at \xff", Reason::Unknown, 3, b"\xff"),
+        (b"4294967296 days ago", Reason::LargeDigits, 0, b"4294967296"),
+        (b"five billion days ago", Reason::LargeSum, 0, b""),
+        (b"march 24th", Reason::LeftOver, 8, b"th"),
+        (b"this month", Reason::NoSense, 0, b""),
+        (b"1000/1/1", Reason::NoDate, 0, b""),
+        (b"january 1, 2010", Reason::NoTime, 0, b""),
+        (b"four billion days ago", Reason::Outside, 0, b""),
+        (&[b' '; 257], Reason::TooLong, 0, b""),
+    ];
+    for (phrase, reason, place, part) in cases {
+        let refusal = read(phrase, NOW).unwrap_err();
+        assert_eq!((refusal.reason(), refusal.place(), refusal.part()), (reason, place, part), "{refusal}");
+        if reason <= Reason::LeftOver {
+            assert_eq!(Ready::new(phrase).unwrap_err(), refusal);
+        } else {
+            assert_eq!(Ready::new(phrase).unwrap().run(NOW).unwrap_err().reason(), reason);
+        }
+    }
+}
+
+#[test]
+fn counts_to_64_lexemes() {
+    let mut phrase = b"1 ".repeat(64);
+    assert_eq!(read(&phrase, NOW).unwrap_err().reason(), Reason::LeftOver);
+    phrase.extend_from_slice(b"1");
+    let refusal = read(&phrase, NOW).unwrap_err();
+    assert_eq!((refusal.reason(), refusal.place(), refusal.part()), (Reason::TooMany, 128, &b"1"[..]));
+}
+
+#[test]
+fn refuses_an_invalid_now_after_reading() {
+    assert_eq!(read("today", NO_NOW).unwrap_err().reason(), Reason::NoNow);
+    assert_eq!(read("forty", NO_NOW).unwrap_err().reason(), Reason::Unknown);
+    assert_eq!(Ready::new("today").unwrap().run(NO_NOW).unwrap_err().reason(), Reason::NoNow);
+    assert_eq!(read("a year from now", LEAP_DAY).unwrap_err().reason(), Reason::NoLeapDay);
+}
+
+#[test]
+fn stores_ready_phrases() {
+    let ready = Ready::new("2 months before 3 weeks after tomorrow at 5:00").unwrap();
+    let again = Ready::from_bytes(ready.as_bytes()).unwrap();
+    assert_eq!(ready, again);
+    assert_eq!(again.run(NOW), read("2 months before 3 weeks after tomorrow at 5:00", NOW));
+    let mut damaged = ready.as_bytes().to_vec();
+    damaged[2] ^= 1;
+    assert_eq!(Ready::from_bytes(&damaged).unwrap().run(NOW).unwrap_err().reason(), Reason::NoSense);
+    assert_eq!(Ready::from_bytes(&[]).unwrap().run(NOW).unwrap_err().reason(), Reason::NoSense);
+    assert_eq!(Ready::from_bytes(&[0; 385]), None);
+}
+
+#[test]
+fn says_what_is_wrong() {
+    assert_eq!(read("next forty", NOW).unwrap_err().to_string(), "\"forty\" at byte 5 is not understood");
+    assert_eq!(read("at \u{e9}", NOW).unwrap_err().to_string(), "\"\\xc3\" at byte 3 is not understood");
+    assert_eq!(read("", NOW).unwrap_err().to_string(), "there is no date or time in the phrase");
+}
