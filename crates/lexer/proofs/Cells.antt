@@ -1,5 +1,5 @@
 -- The rows of a table as the code holds it, for any list of words of at most 12 bytes. Assumes nothing.
-use mathlib.Core.Path.{_≡_, sym, ap, _∙_}
+use mathlib.Core.Path.{_≡_, refl, sym, ap, _∙_}
 use mathlib.Core.Bool.{Bool, true, _&&_}
 use mathlib.Core.List.{List, [], _∷_, _++_}
 use Prim.Native.Nat.{ℕ, zero, suc, _+_, _*_, _-_, _≤_, _<_}
@@ -7,31 +7,35 @@ use native.Mathlib.Nat.{not-suc-le-zero, le-of-suc-le-suc}
 use native.Mathlib.Omega.{arith}
 use lib.Dec.{T, leb, leb→le}
 use lib.Ieee.Fits.{and-l, and-r}
-use lib.ListN.{length, getD, replicate, length-append, length-replicate, List·getD-append}
+use lib.ListN.{length, getD, length-append, List·getD-append}
 use lib.Seq.{getD-at, getD-append-add}
 use Rattle.lexer.specs.Words.{Word}
-use Rattle.lexer.specs.Table.{rowOf, cells, blank, spellingAt, lexemeAt}
+use Rattle.lexer.specs.Table.{places, fixed, rowOf, cells, blank, spellingAt, lexemeAt}
 
 -- each word has room in a row
 abbrev pub short : List Word → Bool
 short [] = true
 short (w ∷ ws) = leb (length (w .spelling)) 12 && short ws
 
+length-places : (i n : ℕ) → length (places i n) ≡ n
+length-places i zero = refl
+length-places i (suc n) = ap suc (length-places (suc i) n)
+
 -- what stands in a row
 module _ (w : Word) (h : length (w .spelling) ≤ 12) where
   abbrev front : List ℕ
-  front = w .spelling ++ replicate (12 - length (w .spelling)) 0
+  front = fixed (w .spelling)
 
   front-length : length front ≡ 12
-  front-length = simp (length-append, length-replicate) (omega arith)
+  front-length = simp (length-append, length-places) (omega arith)
 
   row-length : length (rowOf w) ≡ 14
-  row-length = simp (length-append, length-replicate) (omega arith)
+  row-length = simp (length-append, length-places) (omega arith)
 
   row-byte : (j : ℕ) → j < length (w .spelling) → getD (rowOf w) j 0 ≡ getD (w .spelling) j 0
   row-byte j l =
       List·getD-append front (length (w .spelling) ∷ w .lexeme ∷ []) 0 j (omega (arith, front-length))
-      ∙ List·getD-append (w .spelling) (replicate (12 - length (w .spelling)) 0) 0 j l
+      ∙ List·getD-append (w .spelling) (places (length (w .spelling)) (12 - length (w .spelling))) 0 j l
 
   row-count : getD (rowOf w) 12 0 ≡ length (w .spelling)
   row-count = getD-at front (length (w .spelling)) (w .lexeme ∷ []) 0 12 front-length

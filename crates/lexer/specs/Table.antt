@@ -1,8 +1,8 @@
 -- "The 133 words stand in one table in byte order": a word list as the code holds it. Assumes nothing.
-use Prim.Native.Nat.{ℕ, _-_}
+use Prim.Native.Nat.{ℕ, zero, suc, _-_}
 use mathlib.Core.Bool.{Bool, true, false, cond}
 use mathlib.Core.List.{List, [], _∷_, _++_}
-use lib.ListN.{length, getD, replicate}
+use lib.ListN.{length, getD}
 use Rattle.lexer.specs.declared.find.Order.{Order}
 use Rattle.lexer.specs.declared.find.Order.the-variants.{Less, Same, More}
 use Rattle.lexer.specs.Words.{Word, ordered}
@@ -35,9 +35,18 @@ spellingAt ws i = getD ws i blank .spelling
 abbrev pub lexemeAt : List Word → ℕ → ℕ
 lexemeAt ws i = getD ws i blank .lexeme
 
--- "word rows, each with length and lexeme number": 12 bytes, filled up with zeros, then the length and the lexeme
+-- n places from place i on, each by its number
+abbrev pub places : ℕ → ℕ → List ℕ
+places i zero = []
+places i (suc n) = i ∷ places (suc i) n
+
+-- "a fixed string of bytes": 12 of them, the word's and then the numbers of the places that it leaves free
+abbrev pub fixed : List ℕ → List ℕ
+fixed w = w ++ places (length w) (12 - length w)
+
+-- "word rows, each with length and lexeme number"
 abbrev pub rowOf : Word → List ℕ
-rowOf w = (w .spelling ++ replicate (12 - length (w .spelling)) 0) ++ (length (w .spelling) ∷ w .lexeme ∷ [])
+rowOf w = fixed (w .spelling) ++ (length (w .spelling) ∷ w .lexeme ∷ [])
 
 -- the rows one behind the other
 abbrev pub cells : List Word → List ℕ

@@ -6,7 +6,7 @@ ghost use mathlib.Core.Path.{_≡_};
 ghost use Prim.Native.Nat.{_<_};
 ghost use Rattle.lexer.specs.Keywords.{keywords};
 ghost use Rattle.lexer.specs.Words.{ordered, meaning, lowerOf, folded};
-ghost use Rattle.lexer.specs.Table.{sorted, spellingAt};
+ghost use Rattle.lexer.specs.Table.{sorted, cells, spellingAt};
 
 // How one word stands to another in byte order.
 enum Order {
@@ -34,17 +34,17 @@ fn lower(b: u8) -> u8
 }
 
 // The order of row i's word and the word that is looked up.
-fn compare(i: usize, w: &[u8]) -> Order
-    requires { ⌜ i < 133 ⌝ }
+fn compare(words: &[u8; 1862], i: usize, w: &[u8]) -> Order
+    requires { ⌜ (now words ≡ cells (sorted keywords)) × (i < 133) ⌝ }
     ensures { λ r. ⌜ r ≡ ordered (spellingAt (sorted keywords) i) (folded (now (w .entry))) ⌝ }
 {
-    let n = length_of(i);
+    let n = length_of(words, i);
     let mut j: usize = 0;
     while j < n {
         if w.len() <= j {
             return Order::More;
         }
-        let a = byte_of(i, j);
+        let a = byte_of(words, i, j);
         let b = lower(w[j]);
         if a < b {
             return Order::Less;
@@ -61,17 +61,18 @@ fn compare(i: usize, w: &[u8]) -> Order
 }
 
 // What a word means, in letters of either case: the lower of two middles is tried first.
-pub fn find(w: &[u8]) -> Found
+pub fn find(words: &[u8; 1862], w: &[u8]) -> Found
+    requires { ⌜ now words ≡ cells (sorted keywords) ⌝ }
     ensures { λ r. ⌜ r ≡ meaning keywords (folded (now (w .entry))) ⌝ }
 {
     let mut lo: usize = 0;
     let mut hi: usize = 133;
     while lo < hi {
         let mid = lo + (hi - lo - 1) / 2;
-        let o = compare(mid, w);
+        let o = compare(words, mid, w);
         match o {
             Order::Less => lo = mid + 1,
-            Order::Same => return Found::Lexeme(lexeme_of(mid)),
+            Order::Same => return Found::Lexeme(lexeme_of(words, mid)),
             Order::More => hi = mid,
         }
     }

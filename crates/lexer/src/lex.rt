@@ -12,10 +12,12 @@ use super::refusal::MEANINGLESS;
 use super::refusal::TOO_LARGE;
 use super::refusal::TOO_LONG;
 use super::refusal::TOO_MANY;
+use super::table::rows;
 ghost use mathlib.Core.Path.{_≡_};
 ghost use Prim.Native.Nat.{_-_, _≤_, _<_};
 ghost use lib.ListN.{length};
 ghost use Rattle.lexer.specs.Keywords.{keywords};
+ghost use Rattle.lexer.specs.Table.{sorted, cells};
 ghost use Rattle.lexer.specs.Lex.{runEnd, numberOf, wordAt, numberAt, tokenAt, lexed, lineOf, refusedLine, Placed};
 
 // What a run of digits says.
@@ -91,12 +93,12 @@ fn digits_value(s: &[u8]) -> Digits
 }
 
 // The word that begins at a.
-fn word_at(s: &[u8], a: usize) -> Token
-    requires { ⌜ a ≤ length (now s) ⌝ }
+fn word_at(words: &[u8; 1862], s: &[u8], a: usize) -> Token
+    requires { ⌜ (now words ≡ cells (sorted keywords)) × (a ≤ length (now s)) ⌝ }
     ensures { λ r. ⌜ r ≡ wordAt keywords (now (s .entry)) a ⌝ }
 {
     let e = run_end(s, a, LETTER);
-    let f = find(&s[a..e]);
+    let f = find(words, &s[a..e]);
     let Found::Lexeme(code) = f else {
         return Token::Refused {
             number: MEANINGLESS,
@@ -132,8 +134,9 @@ fn number_at(s: &[u8], a: usize) -> Token
     }
 }
 
-// The first lexeme at or after a place; past the last byte there is none.
-pub fn token_at(s: &[u8], at: usize) -> Token
+// The first lexeme at or after a place, by the rows that are lent; past the last byte there is none.
+fn token_in(words: &[u8; 1862], s: &[u8], at: usize) -> Token
+    requires { ⌜ now words ≡ cells (sorted keywords) ⌝ }
     ensures { λ r. ⌜ r ≡ tokenAt keywords (now (s .entry)) at ⌝ }
 {
     let a = run_end(s, at, GAP);
@@ -142,7 +145,7 @@ pub fn token_at(s: &[u8], at: usize) -> Token
     }
     let k = class(s[a]);
     if k == LETTER {
-        return word_at(s, a);
+        return word_at(words, s, a);
     }
     if k == DIGIT {
         return number_at(s, a);
@@ -159,6 +162,14 @@ pub fn token_at(s: &[u8], at: usize) -> Token
         start: a,
         end: a + 1,
     }
+}
+
+// The first lexeme at or after a place; past the last byte there is none.
+pub fn token_at(s: &[u8], at: usize) -> Token
+    ensures { λ r. ⌜ r ≡ tokenAt keywords (now (s .entry)) at ⌝ }
+{
+    let words = rows();
+    token_in(&words, s, at)
 }
 
 // A refusal's line.
@@ -183,12 +194,13 @@ pub fn lex(s: &[u8]) -> Line
     if 256 < s.len() {
         return refuse(TOO_LONG, 0, 0);
     }
+    let words = rows();
     let mut codes = [0u64; 64];
     let mut starts = [0u64; 64];
     let mut n: usize = 0;
     let mut at: usize = 0;
     loop {
-        let t = token_at(s, at);
+        let t = token_in(&words, s, at);
         match t {
             Token::Finish => {
                 return Line {

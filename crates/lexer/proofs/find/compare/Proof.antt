@@ -13,11 +13,11 @@ use Rattle.lexer.proofs.find.compare.Statement.{statement}
 use Rattle.lexer.proofs.find.compare.Tie as tie
 
 abbrev Inv-loop : tie.InvT-loop
-Inv-loop i w n j₀ j = (j ≤ n) × (j ≤ length w)
+Inv-loop words i w n j₀ j = (j ≤ n) × (j ≤ length w)
     × (ordered (spellingAt (sorted keywords) i) (folded w) ≡ ordered (drop j (spellingAt (sorted keywords) i)) (drop j (folded w)))
 
 abbrev μ-loop : tie.MeasureT-loop
-μ-loop i w n j₀ j = n - j
+μ-loop words i w n j₀ j = n - j
 
 -- the row's word and the folded word
 abbrev row : tie.At-loop Inv-loop μ-loop → List ℕ
@@ -55,7 +55,7 @@ module _ (c : tie.After-lower Inv-loop μ-loop) where
       (c .before .before .byte-of .ensures) (c .lower .ensures ∙ sym (List·getD-map lowerOf w j 0))
 
 length-of-requires : tie.Need-length-of-requires Inv-loop μ-loop
-length-of-requires c κs = omega arith
+length-of-requires c κs = search needs
 
 loop-holds : tie.Need-loop-holds Inv-loop μ-loop
 loop-holds c = (omega arith, omega arith, refl)
@@ -66,7 +66,7 @@ returns c =
     sym (at .loop .inv .2 ∙ end-more (row at) (looked at) (at .loop .j) (omega arith) (omega (arith, looked-length at)))
 
 byte-of-requires : tie.Need-byte-of-requires Inv-loop μ-loop
-byte-of-requires c κs = omega arith
+byte-of-requires c κs = (c .before .before .before .before .before .pre .0, omega arith, omega arith)
 
 shared-slice-read-lower : tie.Need-shared-slice-read-lower Inv-loop μ-loop
 shared-slice-read-lower c = omega arith

@@ -28,10 +28,10 @@ abbrev Above : List ℕ → ℕ → Type 0
 Above w hi = (k : ℕ) → hi ≤ k → k < length (sorted keywords) → ordered (spellingAt (sorted keywords) k) (folded w) ≡ More
 
 abbrev Inv-loop : tie.InvT-loop
-Inv-loop w lo₀ hi₀ lo hi = (lo ≤ hi) × (hi ≤ 133) × Below w lo × Above w hi
+Inv-loop words w lo₀ hi₀ lo hi = (lo ≤ hi) × (hi ≤ 133) × Below w lo × Above w hi
 
 abbrev μ-loop : tie.MeasureT-loop
-μ-loop w lo₀ hi₀ lo hi = hi - lo
+μ-loop words w lo₀ hi₀ lo hi = hi - lo
 
 -- no row is left between `lo` and `hi`: none spells w
 none-left : (w : List ℕ) (lo hi : ℕ) → hi ≤ lo → Below w lo → Above w hi
@@ -75,7 +75,7 @@ add-mid : tie.Need-add-mid Inv-loop μ-loop
 add-mid c = omega arith
 
 compare-requires : tie.Need-compare-requires Inv-loop μ-loop
-compare-requires c κs = omega arith
+compare-requires c κs = (c .before .before .before .pre, omega arith)
 
 enum-told : tie.Need-enum-told Inv-loop μ-loop
 enum-told c = search needs
@@ -99,7 +99,7 @@ enum-told-2 : tie.Need-enum-told-2 Inv-loop μ-loop
 enum-told-2 c = search needs
 
 lexeme-of-requires : tie.Need-lexeme-of-requires Inv-loop μ-loop
-lexeme-of-requires c κs = omega arith
+lexeme-of-requires c κs = (c .before .before .before .before .before .before .pre, omega arith)
 
 returns : tie.Need-returns Inv-loop μ-loop
 returns c =

@@ -24,19 +24,19 @@ record Read (s codes starts : List ℕ) (n at : ℕ) : Type 0 where
   read : lexed keywords s ≡ ahead done (lexFrom keywords (64 - n) s at)
 
 abbrev Inv-loop : tie.InvT-loop
-Inv-loop s codes₀ starts₀ n₀ at₀ codes starts n at = Read s codes starts n at
+Inv-loop s words codes₀ starts₀ n₀ at₀ codes starts n at = Read s codes starts n at
 
 abbrev μ-loop : tie.MeasureT-loop
-μ-loop s codes₀ starts₀ n₀ at₀ codes starts n at = 64 - n
+μ-loop s words codes₀ starts₀ n₀ at₀ codes starts n at = 64 - n
 
 -- the phrase, at a turn of the loop
 abbrev phrase : tie.At-loop Inv-loop μ-loop → List ℕ
-phrase at = at .before .before .before .args .s .now
+phrase at = at .before .before .before .before .args .s .now
 
 -- the token there is a lexeme
 module _ (d : tie.After-t2 Inv-loop μ-loop) where
   abbrev at : tie.At-loop Inv-loop μ-loop
-  at = d .before .before .before
+  at = d .before .before .before .before
 
   abbrev code : ℕ
   code = d .t2 .given .0 .0
@@ -48,7 +48,7 @@ module _ (d : tie.After-t2 Inv-loop μ-loop) where
   end = d .t2 .given .0 .1 .1 .0
 
   taken : tokenAt keywords (phrase at) (at .loop .at) ≡ Taken code start end
-  taken = sym (d .before .before .token-at .ensures) ∙ d .t2 .given .1
+  taken = sym (d .before .before .token-in .ensures) ∙ d .t2 .given .1
 
 refuse-requires : tie.Need-refuse-requires Inv-loop μ-loop
 refuse-requires c κs = search needs
@@ -62,27 +62,30 @@ returns c =
 loop-holds : tie.Need-loop-holds Inv-loop μ-loop
 unfolding lexed
 loop-holds c =
-    let s = c .before .before .args .s .now in
+    let s = c .before .before .before .args .s .now in
     record {
       done = [];
       count = refl;
       room = omega arith;
       codes-are = refl;
       starts-are = refl;
-      read = simp (le-leb (length s) 256 (c .if1 .left)) (sym (ahead-none (lexFrom keywords 64 s 0)));
+      read = simp (le-leb (length s) 256 (c .before .if1 .left)) (sym (ahead-none (lexFrom keywords 64 s 0)));
     }
 
-token-at-requires : tie.Need-token-at-requires Inv-loop μ-loop
-token-at-requires c κs = search needs
+rows-requires : tie.Need-rows-requires Inv-loop μ-loop
+rows-requires c κs = search needs
+
+token-in-requires : tie.Need-token-in-requires Inv-loop μ-loop
+token-in-requires c κs = search needs
 
 enum-told : tie.Need-enum-told Inv-loop μ-loop
 enum-told c = search needs
 
 returns-2 : tie.Need-returns-2 Inv-loop μ-loop
 returns-2 c =
-    let at = c .before .before .before in
+    let at = c .before .before .before .before in
     let l = at .loop in
-    let e : tokenAt keywords (phrase at) (l .at) ≡ Finish = sym (c .before .before .token-at .ensures) ∙ c .enum-told .given .1 in
+    let e : tokenAt keywords (phrase at) (l .at) ≡ Finish = sym (c .before .before .token-in .ensures) ∙ c .enum-told .given .1 in
     answered keywords (phrase at) (rw (
       l .inv .read,
       lex-finish keywords (phrase at) (l .at) (64 - l .n) e,
@@ -101,11 +104,11 @@ refuse-requires-2 c κs = search needs
 returns-3 : tie.Need-returns-3 Inv-loop μ-loop
 returns-3 c =
     let d = c .before .before in
-    let at = d .before .before .before in
+    let at = d .before .before .before .before in
     let l = at .loop in
     let g = d .t .given in
     let e : tokenAt keywords (phrase at) (l .at) ≡ Refused (g .0 .0) (g .0 .1 .0) (g .0 .1 .1 .0) =
-    sym (d .before .before .token-at .ensures) ∙ g .1 in
+    sym (d .before .before .token-in .ensures) ∙ g .1 in
     answered keywords (phrase at) (rw (
       l .inv .read,
       lex-refused keywords (phrase at) (l .at) (64 - l .n) (g .0 .0) (g .0 .1 .0) (g .0 .1 .1 .0) e,
@@ -172,8 +175,9 @@ lex-spec =
     μ-loop
     refuse-requires
     returns
+    rows-requires
     loop-holds
-    token-at-requires
+    token-in-requires
     enum-told
     returns-2
     enum-known-t

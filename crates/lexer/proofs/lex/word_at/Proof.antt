@@ -19,7 +19,7 @@ part-find-start c = search needs
 part-find-end : tie.Need-part-find-end
 part-find-end c =
     let st = c .before .before in
-    omega (arith, c .run-end .ensures, run-within Letter (st .args .s .now) (st .args .a) (st .pre))
+    omega (arith, c .run-end .ensures, run-within Letter (st .args .s .now) (st .args .a) (st .pre .1))
 
 find-requires : tie.Need-find-requires
 find-requires c κs = search needs

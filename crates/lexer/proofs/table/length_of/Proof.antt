@@ -15,7 +15,7 @@ cast-result c = search needs
 returns : tie.Need-returns
 returns c =
     let i = c .before .args .i in
-    let h = c .before .pre in
+    let h = c .before .pre .1 in
     (c .cell .ensures ∙ row-length i h, omega (arith, c .cell .ensures, row-length i h, row-most i h))
 
 pub length-of-spec : {M : Type 1} → statement M

@@ -12,7 +12,7 @@ cast-result : tie.Need-cast-result
 cast-result c = search needs
 
 returns : tie.Need-returns
-returns c = c .cell .ensures ∙ row-lexeme (c .before .args .i) (c .before .pre)
+returns c = c .cell .ensures ∙ row-lexeme (c .before .args .i) (c .before .pre .1)
 
 pub lexeme-of-spec : {M : Type 1} → statement M
 lexeme-of-spec = tie.close (tie.spec cell-requires cast-result returns)

@@ -1,11 +1,11 @@
--- `lexer::lex::token_at` meets its contract. Assumes nothing.
+-- `lexer::lex::token_in` meets its contract. Assumes nothing.
 use mathlib.Core.Path.{_≡_}
 use borrow.Author.Needs.{needs}
 use borrow.Author.Tests.{eq-eqb, ne-eqb, lt-ltb, le-ltb}
 use Rattle.lexer.specs.Keywords.{keywords}
 use Rattle.lexer.specs.Lex.{tokenOf, tokenAt}
-use Rattle.lexer.proofs.lex.token_at.Statement.{statement}
-use Rattle.lexer.proofs.lex.token_at.Tie as tie
+use Rattle.lexer.proofs.lex.token_in.Statement.{statement}
+use Rattle.lexer.proofs.lex.token_in.Tie as tie
 
 -- a byte stands behind the gaps, and its class is known
 begun : (d : tie.After-class)
@@ -48,8 +48,8 @@ shared-slice-read-mark c = search needs
 mark-requires : tie.Need-mark-requires
 mark-requires c κs = search needs
 
-add-t12 : tie.Need-add-t12
-add-t12 c = search needs
+add-t13 : tie.Need-add-t13
+add-t13 c = search needs
 
 returns-4 : tie.Need-returns-4
 returns-4 c =
@@ -62,8 +62,8 @@ returns-4 c =
       ← (c .mark .ensures),
     )
 
-add-t5 : tie.Need-add-t5
-add-t5 c = search needs
+add-t6 : tie.Need-add-t6
+add-t6 c = search needs
 
 returns-5 : tie.Need-returns-5
 returns-5 c =
@@ -74,8 +74,8 @@ returns-5 c =
       ne-eqb _ _ (c .if4 .left),
     )
 
-pub token-at-spec : {M : Type 1} → statement M
-token-at-spec =
+pub token-in-spec : {M : Type 1} → statement M
+token-in-spec =
     tie.close
     (tie.spec
     run-end-requires
@@ -88,7 +88,7 @@ token-at-spec =
     returns-3
     shared-slice-read-mark
     mark-requires
-    add-t12
+    add-t13
     returns-4
-    add-t5
+    add-t6
     returns-5)
