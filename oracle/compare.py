@@ -4,8 +4,8 @@
     compare.py --random COUNT SEED   all phrases of one and two lexemes, sweeps of nows, then COUNT random phrases
     compare.py --triples             all phrases of three lexemes over one representative of each lexeme
     compare.py --smallest            the smallest phrase found for each class
-    compare.py --expected            the model's lines for list.txt, with the class where recorded.txt differs
-    compare.py --check               list.txt, recorded.txt (if the Rust is built) and expected.txt are as they are made
+    compare.py --differs             the class of each line of the fixed list at which the recorded answer differs from the model's
+    compare.py --check               the fixed list, its recorded answers (if the Rust is built), the model's and the classes are as they are made
 
 A class is one rule by which the Rust differs from document 01. `Like` is the model with some of these rules the Rust's
 way; a difference belongs to the fewest classes under which the model then gives the Rust's own line, field by field.
@@ -22,7 +22,12 @@ import phrases
 from model import Refused
 
 HERE = pathlib.Path(__file__).resolve().parent
-ORACLE = HERE.parent / "target" / "oracle" / "release" / "oracle"
+ROOT = HERE.parent
+ORACLE = ROOT / "target" / "oracle" / "release" / "oracle"
+LIST = ROOT / "crates" / "replay" / "stdin"
+EXPECTED = ROOT / "crates" / "replay" / "stdout"
+RECORDED = HERE / "recorded.txt"
+DIFFERS = HERE / "differs.txt"
 
 TWO_DIGITS = "two-digit stated year"
 HALF_DAY = "am or pm with an hour outside 1 to 12"
@@ -305,33 +310,38 @@ def shrink(line, name):
 def smallest():
     """For each single class, the smallest phrase found: over the list and all phrases of one and two lexemes, shrunk."""
     tally = Tally()
-    lines = read_lines("list.txt") + [*exhaustive_lines(1), *exhaustive_lines(2)]
+    lines = read_lines(LIST) + [*exhaustive_lines(1), *exhaustive_lines(2)]
     tally.add(lines)
     best = Tally()
     best.add([shrink(tally.smallest[name][0][2], name) for name in CLASSES if name in tally.smallest])
     best.report()
 
 
-def read_lines(name):
-    return (HERE / name).read_text(encoding="latin-1").removesuffix("\n").split("\n")
+def read_lines(path):
+    return path.read_text(encoding="latin-1").removesuffix("\n").split("\n")
 
 
-def expected_lines():
-    for line, rust in zip(read_lines("list.txt"), read_lines("recorded.txt"), strict=True):
-        ours, name = difference(line, rust)
-        yield f"{ours}|differs: {name}" if name else ours
+def differs_lines():
+    """`LINE|CLASSES` for each line of the fixed list, counted from 1, whose recorded answer differs from the model's."""
+    for number, (line, rust) in enumerate(zip(read_lines(LIST), read_lines(RECORDED), strict=True), 1):
+        _, name = difference(line, rust)
+        if name:
+            yield f"{number}|{name}"
 
 
 def check():
     """Whether the recorded files are what their makers make; the number of those that are not."""
-    wrong = []
-    if read_lines("list.txt") != phrases.fixed_list():
-        wrong.append("list.txt")
-    if ORACLE.exists() and read_lines("recorded.txt") != run_rust(read_lines("list.txt")):
-        wrong.append("recorded.txt")
-    if read_lines("expected.txt") != list(expected_lines()) or NO_CLASS in "".join(read_lines("expected.txt")):
-        wrong.append("expected.txt")
-    print(f"{len(read_lines('list.txt'))} lines, {'not as made: ' + ', '.join(wrong) if wrong else 'all as made'}")
+    made = {
+        LIST: phrases.fixed_list(),
+        EXPECTED: [model.answer(*split_line(line)) for line in read_lines(LIST)],
+        DIFFERS: list(differs_lines()),
+    }
+    if ORACLE.exists():
+        made[RECORDED] = run_rust(read_lines(LIST))
+    wrong = [str(path.relative_to(ROOT)) for path, lines in made.items() if read_lines(path) != lines]
+    if NO_CLASS in DIFFERS.read_text():
+        wrong.append(NO_CLASS)
+    print(f"{len(read_lines(LIST))} lines, {'not as made: ' + ', '.join(wrong) if wrong else 'all as made'}")
     return len(wrong)
 
 
@@ -344,8 +354,8 @@ def main():
             sys.exit(compare(exhaustive_lines(3)) > 0)
         case ["--smallest"]:
             smallest()
-        case ["--expected"]:
-            print("\n".join(expected_lines()))
+        case ["--differs"]:
+            print("\n".join(differs_lines()))
         case ["--check"]:
             sys.exit(check() > 0)
         case _:

@@ -1,7 +1,7 @@
 #!/usr/bin/env python3
-"""The fixed list of lines NOW|PHRASE (list.txt), the same at every run; and the makers of random phrases.
+"""The fixed list of lines NOW|PHRASE (crates/replay/stdin), the same at every run; and the makers of random phrases.
 
-    phrases.py > list.txt
+    phrases.py > crates/replay/stdin
 
 Each section below takes the alternatives of one parser or one rule of document 01, taken and given up, on both sides of
 each limit.

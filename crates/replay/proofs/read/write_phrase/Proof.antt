@@ -1,0 +1,53 @@
+-- `replay::write_phrase` is safe and ends.
+use mathlib.Core.Path.{sym}
+use native.Mathlib.Omega.{arith}
+use lib.Seq.{length-take-le}
+use borrow.Author.Needs.{needs}
+use Rattle.replay.proofs.read.write_phrase.Statement.{statement}
+use Rattle.replay.proofs.read.write_phrase.Tie as tie
+
+lex-requires : tie.Need-lex-requires
+lex-requires c κs = search needs
+
+array-share-prefix-codes : tie.Need-array-share-prefix-codes
+array-share-prefix-codes c = search needs
+
+slice-aggregate-lexemes : tie.Need-slice-aggregate-lexemes
+slice-aggregate-lexemes c =
+    let line = c .before .before .before .before .lex .result in
+    sym (length-take-le (line .count) (line .codes) (omega arith))
+
+write-lexemes-requires : tie.Need-write-lexemes-requires
+write-lexemes-requires c κs = search needs
+
+slice-aggregate-text : tie.Need-slice-aggregate-text
+slice-aggregate-text c = search needs
+
+text-requires : tie.Need-text-requires
+text-requires c κs = search needs
+
+write-read-requires : tie.Need-write-read-requires
+write-read-requires c κs =
+    let line = c .before .before .before .before .before .before .before .lex .result in
+    let n = length-take-le (line .count) (line .codes) (omega arith) in
+    omega arith
+
+returns : tie.Need-returns
+returns c = search needs
+
+returns-2 : tie.Need-returns-2
+returns-2 c = search needs
+
+pub write-phrase-spec : {M : Type 1} → statement M
+write-phrase-spec =
+    tie.close
+    (tie.spec
+    lex-requires
+    array-share-prefix-codes
+    slice-aggregate-lexemes
+    write-lexemes-requires
+    slice-aggregate-text
+    text-requires
+    write-read-requires
+    returns
+    returns-2)

@@ -1,0 +1,39 @@
+// A phrase as far as it is read.
+use lexer::lex::lex;
+use phrase::date_time::Count;
+use phrase::date_time::read_date_time;
+use phrase::reading::empty;
+use shown::lexemes::write_lexemes;
+use shown::out::number;
+use shown::out::text;
+use shown::reading::write_reading;
+ghost use Prim.Native.Nat.{_≤_};
+ghost use lib.ListN.{length};
+
+// The reading and the lexemes taken, with a bar behind each; nothing where nothing is read.
+fn write_read(codes: &[u64])
+    requires { ⌜ length (now codes) ≤ 64 ⌝ }
+{
+    let x = read_date_time(codes, empty());
+    let taken = x.taken;
+    let Count::Is(t) = taken else {
+        return;
+    };
+    let reading = x.reading;
+    write_reading(reading);
+    number(b"|", t as u64);
+    text(b"|");
+}
+
+// The lexemes of a phrase, its reading and the lexemes taken, with a bar behind each: as many of the three as there are.
+pub fn write_phrase(phrase: &[u8]) {
+    let line = lex(phrase);
+    if line.number == 0 {
+        let n = line.count;
+        let codes = line.codes;
+        let lexemes = &codes[..n];
+        write_lexemes(lexemes);
+        text(b"|");
+        write_read(lexemes);
+    }
+}
