@@ -1,42 +1,18 @@
 -- What the number of a ready phrase says: 0 stands for its steps, any other for what reading refuses.
-use Prim.Native.Nat.{ℕ, zero, suc, _+_, _/_, _%_, _≤_}
+use Prim.Native.Nat.{ℕ, _≤_}
 use native.Mathlib.Omega.{arith}
 use mathlib.Core.Path.{_≡_, refl, ap, sym, _∙_}
-use mathlib.Core.Bool.{Bool, true, false, cond, _&&_}
-use mathlib.Core.List.{List, []}
-use borrow.Author.Tests.{leb-true}
-use lib.Dec.{leb, eqb}
+use mathlib.Core.List.{List}
 use lib.ListN.{length}
 use Rattle.lexer.specs.Keywords.{keywords}
 use Rattle.phrase.proofs.Phrases.{refusal-numbers}
 use Rattle.steps.specs.Plans.{planOf, stepsIn}
 use Rattle.steps.specs.declared.plan.Step.{Step}
 use Rattle.steps.proofs.Planned.{steps-in}
-use Rattle.records.specs.Records.{areRecords, stepsAt, decodeOf}
 use Rattle.ready.specs.Ready.{ReadyPhrase, refusedReady, steps, readyOf, readyAnswer}
 use Rattle.ready.specs.declared.Ready.{Ready}
 use Rattle.ready.proofs.Answers.{refuses-as-reading, made-ready}
 use Rattle.fuzzydate.proofs.Short.{Short, short}
-
--- as many steps as records
-length-steps : (n : ℕ) (l : List ℕ) (at : ℕ) → length (stepsAt n l at) ≡ n
-length-steps zero l at = refl
-length-steps (suc n) l at = ap suc (length-steps n l (at + 16))
-
-by-test : (b : Bool) (ss : List Step) → (b ≡ true → length ss ≤ 24) → length (cond b ss []) ≤ 24
-by-test true ss few = few refl
-by-test false ss few = omega arith
-
--- a slice of records has at most 24
-pub few-decoded : (l : List ℕ) → length (decodeOf l) ≤ 24
-unfolding decodeOf
-few-decoded l =
-    by-test (leb (length l) 384 && (eqb (length l % 16) 0 && areRecords (length l / 16) l 0)) (stepsAt (length l / 16) l 0)
-    (λ e. omega (arith, length-steps (length l / 16) l 0, leb-true (length l) 384 (first-holds _ _ e)))
-  where
-    first-holds : (a b : Bool) → (a && b) ≡ true → a ≡ true
-    first-holds true b e = refl
-    first-holds false b e = e
 
 -- the steps that a struct holds
 pub record Holds (s : List ℕ) (r : Ready) : Type 0 where

@@ -4,9 +4,8 @@ use answer::answer;
 use calendar::Moment;
 use evaluation::step::Reached;
 use ready::make_ready;
-use records::record::decode;
 use records::record::encode;
-use steps::run::run;
+use records::run::run_ready;
 ghost use mathlib.Core.Path.{_≡_};
 ghost use Prim.Native.Nat.{_≤_};
 ghost use Rattle.lexer.specs.Keywords.{keywords};
@@ -90,7 +89,7 @@ pub extern "C" fn fuzzy_run(
     let now = Moment::first()
         .with_date(year, month, day)
         .with_time(hour, minute, second);
-    match run(decode(ready), now) {
+    match run_ready(ready, now) {
         Reached::At(t) => {
             *moment = [t.year, t.month, t.day, t.hour, t.minute, t.second];
             0

@@ -1,3 +1,4 @@
 pub mod Numbers
 pub mod Steps
 pub mod Lists
+pub mod Runs

@@ -81,8 +81,13 @@ decoded l at e (more {s} {ss} f fs) =
       steps = rw (w, step-back s, d .steps);
     }
 
+-- as many steps as records
+pub length-steps : (n : ℕ) (l : List ℕ) (at : ℕ) → length (stepsAt n l at) ≡ n
+length-steps zero l at = refl
+length-steps (suc n) l at = ap suc (length-steps n l (at + 16))
+
 -- a slice of whole records, few enough, by what its records are
-by-records :
+pub by-records :
     (l : List ℕ) → length l ≤ 384 → length l % 16 ≡ 0 →
     decodeOf l ≡ cond (areRecords (length l / 16) l 0) (stepsAt (length l / 16) l 0) []
 unfolding decodeOf
@@ -148,6 +153,25 @@ pub not-whole : (l : List ℕ) → (length l % 16 ≡ 0 → ⊥) → decodeOf l 
 unfolding decodeOf
 not-whole l h = rw (ne-eqb (length l % 16) 0 h, and-false)
 
+-- one record less is left from the next one on, which stands 16 bytes further
+one-less : (n i : ℕ) → i < n → n - i ≡ suc (n - (i + 1))
+one-less n i h = omega arith
+
+next-place : (i : ℕ) → 16 * (i + 1) ≡ 16 * i + 16
+next-place i = omega arith
+
+-- the test of the records from record i on: this one's, and that of those from the next one on
+pub are-next :
+    (n i : ℕ) (l : List ℕ) → i < n →
+    areRecords (n - i) l (16 * i) ≡ (isRecord (wordsAt l (16 * i)) && areRecords (n - (i + 1)) l (16 * (i + 1)))
+are-next n i l h = rw (one-less n i h, next-place i)
+
+-- and their steps
+pub steps-next :
+    (n i : ℕ) (l : List ℕ) → i < n →
+    stepsAt (n - i) l (16 * i) ≡ stepFrom (wordsAt l (16 * i)) ∷ stepsAt (n - (i + 1)) l (16 * (i + 1))
+steps-next n i l h = rw (one-less n i h, next-place i)
+
 -- the steps that were decoded, and those of the records from record i on
 unfoldable pub withRest : ℕ → ℕ → List ℕ → List Step → List Step
 withRest n i l done = cond (areRecords (n - i) l (16 * i)) (done ++ stepsAt (n - i) l (16 * i)) []
@@ -162,17 +186,12 @@ pub next-is :
     (n i : ℕ) (l : List ℕ) (done : List Step) → i < n → isRecord (wordsAt l (16 * i)) ≡ true →
     withRest n i l done ≡ withRest n (i + 1) l (done ++ (stepFrom (wordsAt l (16 * i)) ∷ []))
 unfolding withRest
-next-is n i l done h e =
-    let left : n - i ≡ suc (n - (i + 1)) = omega arith in
-    let next : 16 * (i + 1) ≡ 16 * i + 16 = omega arith in
-    rw (left, next, e, append-snoc)
+next-is n i l done h e = rw (are-next n i l h, steps-next n i l h, e, append-snoc)
 
 -- a record that no step encodes to
 pub next-is-not : (n i : ℕ) (l : List ℕ) (done : List Step) → i < n → isRecord (wordsAt l (16 * i)) ≡ false → withRest n i l done ≡ []
 unfolding withRest
-next-is-not n i l done h e =
-    let left : n - i ≡ suc (n - (i + 1)) = omega arith in
-    rw (left, e)
+next-is-not n i l done h e = rw (are-next n i l h, e)
 
 -- behind the last record
 pub at-last : (l : List ℕ) (done : List Step) {n i : ℕ} → i ≡ n → withRest n i l done ≡ done

@@ -1,7 +1,8 @@
--- Numbers in bytes: the one law, over the width, that a number is read back; and what a turn of `put` and of `get` does.
+-- Numbers in bytes: the one law, over the width, that a number is read back; what a turn of `put` does; and four bytes read one by one.
 use Prim.Native.Nat.{ℕ, zero, suc, _+_, _-_, _*_, _/_, _%_, _^_, _≤_, _<_}
 use native.Mathlib.Omega.{arith}
-use native.Mathlib.Nat.{pow-succ', pow-le-pow-right, add-zero}
+use native.Mathlib.Numerals.{add-one}
+use native.Mathlib.Nat.{pow-succ', add-zero}
 use mathlib.Core.Path.{_≡_, refl, ap, sym, _∙_}
 use mathlib.Core.List.{List, [], _∷_, _++_}
 use lib.ListN.{length, take, drop, set, getD}
@@ -54,22 +55,21 @@ put-more l at k v i h =
     let next : at + (i + 1) ≡ suc (at + i) = omega arith in
     rw (left, next)
 
--- one byte more is got
-pub got-more :
-    (l : List ℕ) (at k i : ℕ) → 0 < i → i ≤ k → at + k ≤ length l →
-    numOf (take (k - (i - 1)) (drop (at + (i - 1)) l)) ≡ getD l (at + (i - 1)) 0 + 256 * numOf (take (k - i) (drop (at + i) l))
-got-more l at k i h j f =
-    let got : k - (i - 1) ≡ suc (k - i) = omega arith in
-    let last : at + i ≡ suc (at + (i - 1)) = omega arith in
-    let room : at + (i - 1) < length l = omega arith in
-    rw (got, last, drop-cons l (at + (i - 1)) 0)
+-- the number of some bytes is the first of them and 256 times the number of the others
+read-one :
+    (l : List ℕ) (at next k : ℕ) → at < length l → at + 1 ≡ next →
+    numOf (take (suc k) (drop at l)) ≡ getD l at 0 + 256 * numOf (take k (drop next l))
+read-one l at next k h e = rw (← e, add-one, drop-cons l at 0)
 
--- a byte more holds 256 times as much
-pub room-more : (k i : ℕ) → 0 < i → i ≤ k → 256 ^ (k - (i - 1)) ≡ 256 * 256 ^ (k - i)
-room-more k i h j =
-    let got : k - (i - 1) ≡ suc (k - i) = omega arith in
-    rw (got, pow-succ')
-
--- eight bytes hold what any fewer do
-pub room : (k : ℕ) → k ≤ 8 → 256 ^ k ≤ 256 ^ 8
-room k h = pow-le-pow-right {n = 256} (omega arith) h
+-- the number of four bytes
+pub read-four :
+    (l : List ℕ) (at : ℕ) → at + 4 ≤ length l →
+    numOf (take 4 (drop at l)) ≡ getD l at 0 + 256 * getD l (at + 1) 0 + 65536 * getD l (at + 2) 0 + 16777216 * getD l (at + 3) 0
+read-four l at h =
+    omega (
+      arith,
+      read-one l at (at + 1) 3 (omega arith) refl,
+      read-one l (at + 1) (at + 2) 2 (omega arith) (omega arith),
+      read-one l (at + 2) (at + 3) 1 (omega arith) (omega arith),
+      read-one l (at + 3) (at + 4) 0 (omega arith) (omega arith),
+    )

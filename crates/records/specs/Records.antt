@@ -4,6 +4,7 @@ use mathlib.Core.Bool.{Bool, true, cond, _&&_}
 use mathlib.Core.List.{List, [], _∷_, _++_}
 use lib.Dec.{leb, eqb}
 use lib.ListN.{length, take, drop}
+use Rattle.steps.specs.Running.{starts, times}
 use Rattle.steps.specs.declared.plan.Step.{Step}
 use Rattle.records.specs.Bytes.{bytesOf, numOf}
 use Rattle.records.specs.Words.{words, wordsOf, stepFrom}
@@ -49,3 +50,7 @@ stepsAt (suc n) l at = stepFrom (wordsAt l at) ∷ stepsAt n l (at + 16)
 unfoldable pub decodeOf : List ℕ → List Step
 decodeOf l =
     cond (leb (length l) 384 && (eqb (length l % 16) 0 && areRecords (length l / 16) l 0)) (stepsAt (length l / 16) l 0) []
+
+-- of n records from a place on, behind the first: all are records of steps, there is no other start, and the time steps are as many as are due
+unfoldable pub mayFollow : ℕ → ℕ → List ℕ → ℕ → Bool
+mayFollow due n l at = areRecords n l at && (eqb (starts (stepsAt n l at)) 0 && eqb (times (stepsAt n l at)) due)

@@ -1,9 +1,9 @@
 // Numbers as bytes, lowest first.
 ghost use mathlib.Core.Path.{_≡_};
-ghost use Prim.Native.Nat.{_+_, _^_, _≤_, _<_};
-ghost use lib.ListN.{length, take, drop};
+ghost use Prim.Native.Nat.{_+_, _≤_};
+ghost use lib.ListN.{length};
 ghost use lib.Seq.{sets};
-ghost use Rattle.records.specs.Bytes.{bytesOf, numOf};
+ghost use Rattle.records.specs.Bytes.{bytesOf};
 
 // The k low bytes of x from a place on.
 pub fn put(b: &mut [u8], at: usize, k: usize, x: u64)
@@ -18,19 +18,4 @@ pub fn put(b: &mut [u8], at: usize, k: usize, x: u64)
         v /= 256;
         i += 1;
     }
-}
-
-// The number of the k bytes from a place on.
-pub fn get(b: &[u8], at: usize, k: usize) -> u64
-    requires { ⌜ (at + k ≤ length (now b)) × (k ≤ 8) ⌝ }
-    ensures { λ r. ⌜ (r ≡ numOf (take k (drop at (now (b .entry))))) × (r < 256 ^ k) ⌝ }
-{
-    let mut v = 0;
-    let mut i = k;
-    while 0 < i {
-        i -= 1;
-        let j = at + i;
-        v = v * 256 + (b[j] as u64);
-    }
-    v
 }

@@ -1,5 +1,4 @@
 // The records of a list of steps.
-use super::endian::get;
 use super::endian::put;
 use super::words::Words;
 use super::words::step_from;
@@ -8,14 +7,14 @@ use steps::plan::Plan;
 use steps::plan::none;
 use steps::plan::push;
 ghost use mathlib.Core.Path.{_≡_};
-ghost use Prim.Native.Nat.{_+_, _*_, _≤_};
-ghost use lib.ListN.{length};
+ghost use Prim.Native.Nat.{_+_, _*_, _≤_, _<_};
+ghost use lib.ListN.{length, getD};
 ghost use lib.Seq.{sets};
 ghost use Rattle.steps.specs.Plans.{stepsIn, planOf};
-ghost use Rattle.records.specs.Records.{bytesOfWords, encodeOf, wordAt, wordsAt, sameWords, decodeOf};
+ghost use Rattle.records.specs.Records.{bytesOfWords, encodeOf, wordAt, wordsAt, sameWords, isRecord, decodeOf};
 
 // The bytes of one record.
-const SIZE: usize = 16;
+pub const SIZE: usize = 16;
 
 // A record at a place.
 fn put_words(b: &mut [u8], at: usize, w: Words)
@@ -44,16 +43,27 @@ pub fn encode(p: Plan, b: &mut [u8])
     }
 }
 
+// The byte at a place.
+fn byte_at(b: &[u8], at: usize) -> u32
+    requires { ⌜ at < length (now b) ⌝ }
+    ensures { λ r. ⌜ (r ≡ getD (now (b .entry)) at 0) × (r < 256) ⌝ }
+{
+    b[at] as u32
+}
+
 // The number of four bytes at a place.
 fn word_at(b: &[u8], at: usize) -> u32
     requires { ⌜ at + 4 ≤ length (now b) ⌝ }
     ensures { λ r. ⌜ r ≡ wordAt (now (b .entry)) at ⌝ }
 {
-    get(b, at, 4) as u32
+    byte_at(b, at)
+        + 256 * byte_at(b, at + 1)
+        + 65536 * byte_at(b, at + 2)
+        + 16777216 * byte_at(b, at + 3)
 }
 
 // The numbers of the record at a place.
-fn words_at(b: &[u8], at: usize) -> Words
+pub fn words_at(b: &[u8], at: usize) -> Words
     requires { ⌜ at + 16 ≤ length (now b) ⌝ }
     ensures { λ r. ⌜ r ≡ wordsAt (now (b .entry)) at ⌝ }
 {
@@ -84,6 +94,13 @@ fn same_words(v: Words, w: Words) -> bool
         return false;
     }
     v.c == w.c
+}
+
+// Does a step encode to these numbers?
+pub fn is_record(w: Words) -> bool
+    ensures { λ r. ⌜ r ≡ isRecord w ⌝ }
+{
+    same_words(words_of(step_from(w)), w)
 }
 
 // The list of a slice of records. A slice that is none stands for no list, which is 9 when it is run.

@@ -25,7 +25,7 @@ ghost use Rattle.steps.specs.Running.{actOf, walkOf, isStart, isTimeStep
 ghost use Rattle.steps.specs.Plans.{stepsIn};
 
 // One step from t, at a now.
-fn act(step: Step, now: Moment, t: Moment) -> Reached
+pub fn act(step: Step, now: Moment, t: Moment) -> Reached
     requires { ⌜ IsMoment now × IsMoment t ⌝ }
     ensures { λ r. ⌜ reachedOf r ≡ actOf step now t ⌝ }
     ensures { λ r. ⌜ Valid (reachedOf r) ⌝ }
@@ -70,7 +70,7 @@ fn walk(p: Plan, now: Moment) -> Reached
 }
 
 // Is a step a start? Here and below every step is named, so that a new one has to be placed.
-fn is_start(step: Step) -> bool
+pub fn is_start(step: Step) -> bool
     ensures { λ r. ⌜ r ≡ isStart step ⌝ }
 {
     match step {
@@ -88,7 +88,7 @@ fn is_start(step: Step) -> bool
 }
 
 // 1 for a time step, and else 0.
-fn one_if_time(step: Step) -> u32
+pub fn one_if_time(step: Step) -> u32
     ensures { λ r. ⌜ (r ≡ oneIf (isTimeStep step)) × (r ≤ 1) ⌝ }
 {
     match step {
@@ -106,7 +106,7 @@ fn one_if_time(step: Step) -> u32
 }
 
 // The time steps that a start needs.
-fn times_due(step: Step) -> u32
+pub fn times_due(step: Step) -> u32
     ensures { λ r. ⌜ r ≡ timesDue step ⌝ }
 {
     match step {

@@ -1,19 +1,12 @@
-use Prim.Native.Nat.{ℕ}
 use native.Mathlib.Omega.{arith}
-use mathlib.Core.Path.{_≡_, refl, ap, sym, _∙_}
+use mathlib.Core.Path.{_≡_, ap, sym, _∙_}
 use denote.Ref.{now}
-use Rattle.calendar.specs.Moments.{Outcome}
 use Rattle.calendar.specs.declared.Moment.{Moment}
 use Rattle.answer.specs.Answer.{momentOf}
 use Rattle.evaluation.specs.Steps.{reachedOf}
 use Rattle.evaluation.specs.declared.step.Reached.{Reached}
-use Rattle.steps.specs.Plans.{stepsIn, planOf}
 use Rattle.steps.specs.Running.{runOf}
-use Rattle.steps.specs.declared.plan.Plan.{Plan}
-use Rattle.steps.specs.declared.plan.Step.{Step}
-use Rattle.steps.proofs.Planned.{steps-in}
 use Rattle.records.specs.Records.{decodeOf}
-use Rattle.fuzzydate.proofs.Made.{few-decoded}
 use borrow.Author.Needs.{needs}
 use Rattle.fuzzydate.proofs.fuzzy_run.Statement.{statement}
 use Rattle.fuzzydate.proofs.fuzzy_run.Tie as tie
@@ -24,13 +17,11 @@ nowOf c = let a = c .args in momentOf (a .year) (a .month) (a .day) (a .hour) (a
 
 -- what the ready phrase gives is what the code's answer stands for
 stands :
-    (c : tie.After-run) {r : Reached} → c .run .result ≡ r →
-    let start = c .before .before .before .before .before .before in
+    (c : tie.After-run-ready) {r : Reached} → c .run-ready .result ≡ r →
+    let start = c .before .before .before .before .before in
     runOf (decodeOf (now (start .args .ready))) (nowOf start) ≡ reachedOf r
 stands c e =
-    let bytes = now (c .before .before .before .before .before .before .args .ready) in
-    let list = ap stepsIn (c .before .decode .ensures) ∙ steps-in (decodeOf bytes) (few-decoded bytes) in
-    sym (sym (ap reachedOf e) ∙ c .run .ensures .0 ∙ rw (list, c .before .before .with-time .ensures, c .before .before .before .with-date .ensures))
+    sym (sym (ap reachedOf e) ∙ c .run-ready .ensures .0 ∙ rw (c .before .with-time .ensures, c .before .before .with-date .ensures))
 
 first-requires : tie.Need-first-requires
 first-requires c κs = search needs
@@ -41,11 +32,8 @@ with-date-requires c κs = search needs
 with-time-requires : tie.Need-with-time-requires
 with-time-requires c κs = search needs
 
-decode-requires : tie.Need-decode-requires
-decode-requires c κs = search needs
-
-run-requires : tie.Need-run-requires
-run-requires c κs = search needs
+run-ready-requires : tie.Need-run-ready-requires
+run-ready-requires c κs = search needs
 
 enum-known-t : tie.Need-enum-known-t
 enum-known-t c = search needs
@@ -69,8 +57,7 @@ fuzzy-run-spec =
     first-requires
     with-date-requires
     with-time-requires
-    decode-requires
-    run-requires
+    run-ready-requires
     enum-known-t
     enum-known-number
     cast-result
