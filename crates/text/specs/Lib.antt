@@ -1,0 +1,7 @@
+pub mod Answers
+pub mod Digits
+pub mod Nows
+pub mod Lines
+pub mod Texts
+pub mod Output
+pub mod Listing

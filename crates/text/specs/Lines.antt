@@ -1,0 +1,48 @@
+-- The lines of a text: "A line feed ends a line; bytes after the last one, if any, are a line." Assumes nothing.
+use Prim.Native.Nat.{ℕ, suc, _+_}
+use Prim.Native.Char.{code}
+use mathlib.Core.Bool.{cond}
+use mathlib.Core.List.{List, [], _∷_, _++_}
+use lib.Dec.{ltb, eqb}
+use lib.ListN.{length, drop}
+use Rattle.text.specs.declared.line.Line.{Line}
+
+-- the byte that ends a line
+abbrev pub feed : ℕ
+feed = code "\n"
+
+-- the lines that a line feed ends, where the first begins with the bytes l
+abbrev pub wholeFrom : List ℕ → List ℕ → List (List ℕ)
+wholeFrom l [] = []
+wholeFrom l (b ∷ bs) = cond (eqb b feed) (l ∷ wholeFrom [] bs) (wholeFrom (l ++ (b ∷ [])) bs)
+
+-- the bytes behind the last line feed, with the bytes l in front where there is none
+abbrev pub restFrom : List ℕ → List ℕ → List ℕ
+restFrom l [] = l
+restFrom l (b ∷ bs) = cond (eqb b feed) (restFrom [] bs) (restFrom (l ++ (b ∷ [])) bs)
+
+-- the lines that a line feed ends
+abbrev pub wholeOf : List ℕ → List (List ℕ)
+wholeOf s = wholeFrom [] s
+
+-- the bytes behind the last line feed
+abbrev pub restOf : List ℕ → List ℕ
+restOf s = restFrom [] s
+
+-- a line of those bytes, if any
+abbrev pub lastOf : List ℕ → List (List ℕ)
+lastOf [] = []
+lastOf (b ∷ bs) = (b ∷ bs) ∷ []
+
+-- every line of a text
+abbrev pub linesOf : List ℕ → List (List ℕ)
+linesOf s = wholeOf s ++ lastOf (restOf s)
+
+-- how many bytes stand before the first line feed
+abbrev pub ahead : List ℕ → ℕ
+ahead [] = 0
+ahead (b ∷ bs) = cond (eqb b feed) 0 (suc (ahead bs))
+
+-- where the line ends that begins at a, and whether a line feed ends it
+unfoldable pub lineAt : List ℕ → ℕ → Line
+lineAt s a = record { end = a + ahead (drop a s); ended = ltb (a + ahead (drop a s)) (length s) }

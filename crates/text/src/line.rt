@@ -1,0 +1,23 @@
+// The lines of a text.
+ghost use mathlib.Core.Path.{_≡_};
+ghost use Rattle.text.specs.Lines.{lineAt};
+
+// Where a line ends, and whether a line feed ends it.
+pub struct Line {
+    pub end: usize,
+    pub ended: bool,
+}
+
+// The line that begins at a place; past the last byte it is empty.
+pub fn line_at(s: &[u8], at: usize) -> Line
+    ensures { λ r. ⌜ r ≡ lineAt (now (s .entry)) at ⌝ }
+{
+    let mut end = at;
+    while end < s.len() {
+        if s[end] == b'\n' {
+            return Line { end, ended: true };
+        }
+        end += 1;
+    }
+    Line { end, ended: false }
+}
