@@ -41,10 +41,13 @@ returns : tie.Need-returns
 returns c =
     let made = list-of (c .before .before .before .before) in
     let written = c .before .encode .ensures in
-    let lent = c .before .before .before .before .before .before .before .args .ready .now in
-    (ap (λ (k : ℕ). 4294967296 * (16 * k)) (made .count) ∙ sym (ap readyCode (made .is)),
-     (written .0 ∙ ap (λ (ss : List Step). sets lent 0 (encodeOf ss)) (made .plan) ∙ sym (ap (λ (w : ReadyPhrase). readyAfter w lent) (made .is)),
-      subst ReadBack (sym (made .is)) (subst (λ ss. decodeOf (encodeOf ss) ≡ ss) (made .plan) (written .1))))
+    let lent = c .before .before .before .before .before .before .before .args .ready .now in (
+      ap (λ (k : ℕ). 4294967296 * (16 * k)) (made .count) ∙ sym (ap readyCode (made .is)),
+      (
+        written .0 ∙ ap (λ (ss : List Step). sets lent 0 (encodeOf ss)) (made .plan) ∙ sym (ap (λ (w : ReadyPhrase). readyAfter w lent) (made .is)),
+        subst ReadBack (sym (made .is)) (subst (λ ss. decodeOf (encodeOf ss) ≡ ss) (made .plan) (written .1)),
+      ),
+    )
 
 refusal-requires : tie.Need-refusal-requires
 refusal-requires c κs = let part = refusal-of c .part in (part .start, part .most)
