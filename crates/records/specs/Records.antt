@@ -51,6 +51,6 @@ unfoldable pub decodeOf : List ℕ → List Step
 decodeOf l =
     cond (leb (length l) 384 && (eqb (length l % 16) 0 && areRecords (length l / 16) l 0)) (stepsAt (length l / 16) l 0) []
 
--- of n records from a place on, behind the first: all are records of steps, there is no other start, and the time steps are as many as are due
+-- whether n records from a place on may stand behind a start: all are of steps, none of a start, and as many of time steps as are due
 unfoldable pub mayFollow : ℕ → ℕ → List ℕ → ℕ → Bool
 mayFollow due n l at = areRecords n l at && (eqb (starts (stepsAt n l at)) 0 && eqb (times (stepsAt n l at)) due)
