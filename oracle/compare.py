@@ -1,14 +1,13 @@
 #!/usr/bin/env python3
-"""The Rust against the model: every difference is sorted into a class, or is a bug until document 01 decides.
+"""The Rust, the model and our own program replay: every difference is sorted into a class, or is a bug until document 01 decides.
 
-    compare.py --random COUNT SEED   all phrases of one and two lexemes, sweeps of nows, then COUNT random phrases
-    compare.py --triples             all phrases of three lexemes over one representative of each lexeme
-    compare.py --smallest            the smallest phrase found for each class
-    compare.py --differs             the class of each line of the fixed list at which the recorded answer differs from the model's
-    compare.py --check               the fixed list, its recorded answers (if the Rust is built), the model's and the classes are as they are made
+    compare.py --all COUNT SEED   the fixed list, all phrases of up to three lexemes, sweeps of nows, and COUNT random phrases
+    compare.py --differs          the class of each line of the fixed list at which the recorded answer differs from the model's
+    compare.py --check            the fixed list, its recorded answers (if the Rust is built), the model's and the classes are as they are made
 
 A class is one rule by which the Rust differs from document 01. `Like` is the model with some of these rules the Rust's
 way; a difference belongs to the fewest classes under which the model then gives the Rust's own line, field by field.
+Ours has to give the model's own line.
 """
 
 import collections
@@ -24,6 +23,7 @@ from model import Refused
 HERE = pathlib.Path(__file__).resolve().parent
 ROOT = HERE.parent
 ORACLE = ROOT / "target" / "oracle" / "release" / "oracle"
+OURS = HERE / "ours"
 LIST = ROOT / "crates" / "replay" / "stdin"
 EXPECTED = ROOT / "crates" / "replay" / "stdout"
 RECORDED = HERE / "recorded.txt"
@@ -167,15 +167,15 @@ RUST_FAILS = {1: ["error"], 2: ["error"], 3: ["error"], 4: ["error"], 5: ["error
               9: ["error"], 10: ["error"], 11: ["error"], 12: ["error", "panic"], 13: ["error", "panic"]}
 
 
-def agree(rust, ours):
-    """The same fields; and where ours refuses, the Rust fails at the same stage in a way that fits the refusal."""
+def agree(rust, told):
+    """The same fields; and where the model refuses, the Rust fails at the same stage in a way that fits the refusal."""
     *rust_fields, rust_last = rust.split("|")
-    *our_fields, our_last = ours.split("|")
-    if rust_fields != our_fields:
+    *fields, last = told.split("|")
+    if rust_fields != fields:
         return False
-    if our_last.startswith("refused "):
-        return rust_last in RUST_FAILS[int(our_last.split(" ")[1])]
-    return rust_last == our_last
+    if last.startswith("refused "):
+        return rust_last in RUST_FAILS[int(last.split(" ")[1])]
+    return rust_last == last
 
 
 def class_of(now, phrase, rust):
@@ -183,8 +183,8 @@ def class_of(now, phrase, rust):
     for size in range(1, len(CLASSES) + 1):
         for classes in itertools.combinations(CLASSES, size):
             if agree(rust, answer_like(now, phrase, classes)):
-                return " + ".join(classes)
-    return NO_CLASS
+                return classes
+    return (NO_CLASS,)
 
 
 def split_line(line):
@@ -193,64 +193,81 @@ def split_line(line):
 
 
 def difference(line, rust):
-    """The model's line for `line`, and the class if the Rust's differs from it, else None."""
+    """The model's line for `line`, and the classes by which the Rust's differs from it: none where they agree."""
     now, phrase = split_line(line)
-    ours = model.answer(now, phrase)
-    return ours, None if agree(rust, ours) else class_of(now, phrase, rust)
+    told = model.answer(now, phrase)
+    return told, () if agree(rust, told) else class_of(now, phrase, rust)
 
 
-def run_rust(lines):
+def size_of(line):
+    """By what the smallest line is chosen: the phrase's bytes, then the list's first now before others."""
+    now, phrase = split_line(line)
+    return len(phrase), now != phrases.A.encode(), line
+
+
+def both_fail(rust, told):
+    return rust.rsplit("|", 1)[-1] in ("error", "panic", "no now") and told.rsplit("|", 1)[-1].startswith("refused")
+
+
+def run(program, lines):
+    """What a program answers, line by line."""
     text = "".join(line + "\n" for line in lines)
-    done = subprocess.run([ORACLE], input=text.encode("latin-1"), stdout=subprocess.PIPE, check=True)
+    done = subprocess.run([program], input=text.encode("latin-1"), stdout=subprocess.PIPE, check=True)
     answers = done.stdout.decode("latin-1").removesuffix("\n").split("\n")
     assert len(answers) == len(lines)
     return answers
 
 
 class Tally:
-    """Counts of lines by outcome and by class, and the smallest phrase of each class."""
+    """Counts over the lines of one source: by the model's outcome and by class; and the smallest phrase of each single class."""
 
     def __init__(self):
-        self.lines = 0
+        self.lines = self.differ = self.ours_differ = self.no_utf8 = 0
         self.outcomes = collections.Counter()
         self.classes = collections.Counter()
+        self.alone = collections.Counter()
         self.both_fail = collections.Counter()
-        self.no_utf8 = 0
         self.smallest = {}
 
     def add(self, lines):
-        for line, rust in zip(lines, run_rust(lines)):
-            ours, name = difference(line, rust)
+        for line, rust, ours in zip(lines, run(ORACLE, lines), run(OURS, lines), strict=True):
+            told, classes = difference(line, rust)
             self.lines += 1
             self.no_utf8 += not is_utf8(split_line(line)[1])
-            last = ours.rsplit("|", 1)[-1]
-            self.outcomes[last.split(" at ")[0] if last.startswith("refused") else "moment"] += 1
-            if name:
-                self.count(name, line, rust, ours)
+            last = told.rsplit("|", 1)[-1]
+            self.outcomes[int(last.split(" ")[1]) if last.startswith("refused") else 0] += 1
+            if ours != told:
+                self.ours_differ += 1
+                print(f"OURS IS NOT THE MODEL'S: {line}\n    ours  {ours}\n    model {told}")
+            if classes:
+                self.count(classes, line, rust, told)
 
-    def count(self, name, line, rust, ours):
-        self.classes[name] += 1
-        if name == NO_CLASS:
-            print(f"NO CLASS: {line}\n    rust  {rust}\n    model {ours}")
+    def count(self, classes, line, rust, told):
+        self.differ += 1
+        self.classes.update(classes)
+        if classes == (NO_CLASS,):
+            print(f"NO CLASS: {line}\n    rust  {rust}\n    model {told}")
+        if len(classes) > 1:
+            return
         # a phrase that only one of the two answers shows more than one that both refuse at different stages
-        fail = both_fail(rust, ours)
-        self.both_fail[name] += fail
-        size = (fail, len(split_line(line)[1]), line)
-        if name not in self.smallest or size < self.smallest[name][0]:
-            self.smallest[name] = (size, rust, ours)
+        fail = both_fail(rust, told)
+        self.alone[classes[0]] += 1
+        self.both_fail[classes[0]] += fail
+        size = (fail, *size_of(line))
+        self.smallest[classes[0]] = min(size, self.smallest.get(classes[0], size))
 
-    def report(self):
-        print(f"{self.lines} lines compared, {sum(self.classes.values())} differ, {self.classes[NO_CLASS]} in no class")
-        print(f"{self.no_utf8} of them are no UTF-8")
-        print("outcomes by the model: " + ", ".join(f"{name} {count}" for name, count in sorted(self.outcomes.items())))
-        for name, count in self.classes.most_common():
-            (_, _, line), rust, ours = self.smallest[name]
-            print(f"{count} {name} ({self.both_fail[name]} refused by both, at different stages)")
-            print(f"    {line}\n    rust  {rust}\n    model {ours}")
+    def merge(self, other):
+        for name in ("lines", "differ", "ours_differ", "no_utf8"):
+            setattr(self, name, getattr(self, name) + getattr(other, name))
+        for name in ("outcomes", "classes", "alone", "both_fail"):
+            getattr(self, name).update(getattr(other, name))
 
+    def report(self, name):
+        counts = f"{self.differ} differ from the Rust's, {self.classes[NO_CLASS]} in no class, {self.ours_differ} of ours are not the model's"
+        print(f"{name}: {self.lines} lines, {counts}", flush=True)
 
-def both_fail(rust, ours):
-    return rust.rsplit("|", 1)[-1] in ("error", "panic", "no now") and ours.rsplit("|", 1)[-1].startswith("refused")
+    def failed(self):
+        return self.classes[NO_CLASS] + self.ours_differ
 
 
 def representatives():
@@ -261,9 +278,9 @@ def representatives():
     return list(words.values()) + list(model.MARKS) + ["0", "5", "12", "25", "100", "1000", "2024", "4294967295"]
 
 
-def batches(lines, size=50_000):
-    while batch := list(itertools.islice(lines, size)):
-        yield batch
+def exhaustive_lines(lexemes):
+    for parts in itertools.product(representatives(), repeat=lexemes):
+        yield f"{phrases.A}|{phrases.close_up(parts)}"
 
 
 def random_lines(count, seed):
@@ -277,44 +294,66 @@ def random_lines(count, seed):
         yield f"{dice.now()}|{model.escape(phrase if isinstance(phrase, bytes) else phrase.encode())}"
 
 
-def exhaustive_lines(lexemes):
-    for parts in itertools.product(representatives(), repeat=lexemes):
-        yield f"{phrases.A}|{phrases.close_up(parts)}"
+def batches(lines, size=50_000):
+    while batch := list(itertools.islice(lines, size)):
+        yield batch
 
 
-def compare(*sources):
+def tally_of(lines):
     tally = Tally()
-    for source in sources:
-        for batch in batches(iter(source)):
-            tally.add(batch)
-    tally.report()
-    return tally.classes[NO_CLASS]
+    for batch in batches(iter(lines)):
+        tally.add(batch)
+    return tally
 
 
-def shrink(line, name):
+def compare(count, seed):
+    """Every source compared, and what was found; the number of differences that must not be."""
+    sources = {
+        "the fixed list": read_lines(LIST),
+        "up to two lexemes": itertools.chain(exhaustive_lines(1), exhaustive_lines(2)),
+        "three lexemes": exhaustive_lines(3),
+        "sweeps of nows": phrases.sweep(),
+        f"random with seed {seed}": random_lines(count, seed),
+    }
+    tallies, total = {}, Tally()
+    for name, lines in sources.items():
+        tallies[name] = tally_of(lines)
+        tallies[name].report(name)
+        total.merge(tallies[name])
+    total.report("in all")
+    print(f"{total.no_utf8} of them are no UTF-8")
+    outcomes = (f"{'refused ' + str(number) if number else 'moment'} {total.outcomes[number]}" for number in sorted(total.outcomes))
+    print("by the model: " + ", ".join(outcomes))
+    for name in CLASSES:
+        by_source = ", ".join(f"{source} {tally.classes[name]}" for source, tally in tallies.items())
+        alone = f"{total.alone[name]} of no other class, {total.both_fail[name]} of these refused by both at different stages"
+        print(f"{name}: {total.classes[name]} lines ({by_source}); {alone}")
+    for name in CLASSES:
+        if found := [tally.smallest[name][-1] for tally in tallies.values() if name in tally.smallest]:
+            show_smallest(name, found)
+    return total.failed()
+
+
+def show_smallest(name, lines):
+    """The smallest phrase of a class, reached from those that the sources found, with the answers to it."""
+    line = min((shrink(line, (name,)) for line in lines), key=size_of)
+    print(f"{name}\n    {line}\n    ours {run(OURS, [line])[0]}\n    rust {run(ORACLE, [line])[0]}")
+
+
+def shrink(line, classes):
     """The shortest phrase reached by leaving out parts of this one, of the same class and not refused by both."""
     now, phrase = split_line(line)
     while True:
         ends = itertools.combinations(range(len(phrase) + 1), 2)
         shorter = sorted({phrase[:start] + phrase[end:] for start, end in ends}, key=lambda p: (len(p), p))
         lines = [f"{now.decode()}|{model.escape(p)}" for p in shorter]
-        for candidate, found, rust in zip(shorter, lines, run_rust(lines)):
-            ours, found_name = difference(found, rust)
-            if found_name == name and not both_fail(rust, ours):
+        for candidate, found, rust in zip(shorter, lines, run(ORACLE, lines)):
+            told, found_classes = difference(found, rust)
+            if found_classes == classes and not both_fail(rust, told):
                 phrase = candidate
                 break
         else:
             return f"{now.decode()}|{model.escape(phrase)}"
-
-
-def smallest():
-    """For each single class, the smallest phrase found: over the list and all phrases of one and two lexemes, shrunk."""
-    tally = Tally()
-    lines = read_lines(LIST) + [*exhaustive_lines(1), *exhaustive_lines(2)]
-    tally.add(lines)
-    best = Tally()
-    best.add([shrink(tally.smallest[name][0][2], name) for name in CLASSES if name in tally.smallest])
-    best.report()
 
 
 def read_lines(path):
@@ -324,9 +363,9 @@ def read_lines(path):
 def differs_lines():
     """`LINE|CLASSES` for each line of the fixed list, counted from 1, whose recorded answer differs from the model's."""
     for number, (line, rust) in enumerate(zip(read_lines(LIST), read_lines(RECORDED), strict=True), 1):
-        _, name = difference(line, rust)
-        if name:
-            yield f"{number}|{name}"
+        _, classes = difference(line, rust)
+        if classes:
+            yield f"{number}|{' + '.join(classes)}"
 
 
 def check():
@@ -337,7 +376,7 @@ def check():
         DIFFERS: list(differs_lines()),
     }
     if ORACLE.exists():
-        made[RECORDED] = run_rust(read_lines(LIST))
+        made[RECORDED] = run(ORACLE, read_lines(LIST))
     wrong = [str(path.relative_to(ROOT)) for path, lines in made.items() if read_lines(path) != lines]
     if NO_CLASS in DIFFERS.read_text():
         wrong.append(NO_CLASS)
@@ -347,13 +386,8 @@ def check():
 
 def main():
     match sys.argv[1:]:
-        case ["--random", count, seed]:
-            sources = [exhaustive_lines(1), exhaustive_lines(2), phrases.sweep(), random_lines(int(count), int(seed))]
-            sys.exit(compare(*sources) > 0)
-        case ["--triples"]:
-            sys.exit(compare(exhaustive_lines(3)) > 0)
-        case ["--smallest"]:
-            smallest()
+        case ["--all", count, seed]:
+            sys.exit(compare(int(count), int(seed)) > 0)
         case ["--differs"]:
             print("\n".join(differs_lines()))
         case ["--check"]:
