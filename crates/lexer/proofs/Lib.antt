@@ -1,6 +1,7 @@
 pub mod Order
 pub mod Sorting
 pub mod Halves
+pub mod Starts
 pub mod Cells
 pub mod Rows
 pub mod Tabled

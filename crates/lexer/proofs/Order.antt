@@ -1,8 +1,8 @@
--- Byte order: it turns round, it is transitive, and only equal lists are the same. Assumes nothing.
+-- How two numbers stand to each other, and byte order: it turns round, it is transitive, and only equal lists are the same. Assumes nothing.
 use mathlib.Core.Path.{_≡_, refl, sym, ap, _∙_}
-use mathlib.Core.Bool.{Bool, true, false, not}
+use mathlib.Core.Bool.{Bool, true, false, not, cond}
 use mathlib.Core.List.{List, [], _∷_}
-use Prim.Native.Nat.{ℕ, _+_, _≤_, _<_}
+use Prim.Native.Nat.{ℕ, suc, _+_, _≤_, _<_, zero-le, suc-le-suc}
 use native.Mathlib.Numerals.{add-one}
 use native.Mathlib.Omega.{arith}
 use lib.Dec.{T, T-not, eqb, eqb-refl, ltb}
@@ -26,6 +26,11 @@ tri x y = go (ltb x y) refl (ltb y x) refl
     go true e d f = below (ltb-true x y e)
     go false e true f = above (ltb-true y x f)
     go false e false f = equal (omega (arith, ltb-false x y e, ltb-false y x f))
+
+-- two counts, where the second counts all that the first does
+pub counted : (t u : Bool) (n m : ℕ) → (t ≡ true → u ≡ true) → n ≤ m → cond t (suc n) 0 ≤ cond u (suc m) 0
+counted true u n m i h = rw (i refl) (suc-le-suc h)
+counted false u n m i h = zero-le
 
 -- Less, Same and More by a number
 abbrev rank : Order → ℕ

@@ -5,7 +5,7 @@ use native.Mathlib.Omega.{arith}
 use lib.Dec.{T}
 use lib.ListN.{length, getD}
 use Rattle.lexer.specs.Keywords.{keywords}
-use Rattle.lexer.specs.Table.{sorted, cells, spellingAt, lexemeAt}
+use Rattle.lexer.specs.Table.{sorted, cells, spellingAt, lexemeAt, firstRow}
 use Rattle.lexer.proofs.Cells.{short, length-most, byte-cell, length-cell, lexeme-cell}
 use Rattle.lexer.proofs.Halves.{increasing}
 
@@ -23,6 +23,15 @@ rows-short = tt
 pub rows-increasing : T (increasing (sorted keywords))
 unfolding keywords
 rows-increasing = tt
+
+-- the first of them begin with a, the last with z
+pub rows-from : firstRow (sorted keywords) 97 ≡ 0
+unfolding keywords
+rows-from = refl
+
+pub rows-end : firstRow (sorted keywords) 123 ≡ 133
+unfolding keywords
+rows-end = refl
 
 -- row i of the code's table
 module _ (i : ℕ) (h : i < 133) where

@@ -1,8 +1,8 @@
 -- Runs of bytes of one class, and the number that digits say, a byte at a time. Assumes nothing.
 use mathlib.Core.Path.{_≡_, refl, _∙_}
-use mathlib.Core.Bool.{Bool, true, false, cond}
+use mathlib.Core.Bool.{Bool, true, false}
 use mathlib.Core.List.{List, [], _∷_}
-use Prim.Native.Nat.{ℕ, suc, _+_, _*_, _-_, _≤_, _<_, zero-le, suc-le-suc}
+use Prim.Native.Nat.{ℕ, suc, _+_, _*_, _-_, _≤_, _<_, zero-le}
 use native.Mathlib.Numerals.{add-one}
 use native.Mathlib.Nat.{le-refl}
 use native.Mathlib.Omega.{arith}
@@ -13,6 +13,7 @@ use borrow.Author.Tests.{eq-eqb, ne-eqb, leb-true}
 use Rattle.lexer.specs.declared.lex.Digits.the-variants.{Value, Over}
 use Rattle.lexer.specs.Classes.{classOf}
 use Rattle.lexer.specs.Lex.{run, runEnd, valueFrom, numberOf}
+use Rattle.lexer.proofs.Order.{counted}
 
 -- the run of class k from e on, by the byte at e
 module _ (k : ℕ) (s : List ℕ) (e : ℕ) where
@@ -25,13 +26,9 @@ module _ (k : ℕ) (s : List ℕ) (e : ℕ) where
   pub run-over : length s ≤ e → run k (drop e s) ≡ 0
   run-over h = rw (drop-of-length-le s h)
 
-bounded : (b : Bool) (n m : ℕ) → n ≤ m → cond b (suc n) 0 ≤ suc m
-bounded true n m h = suc-le-suc h
-bounded false n m h = zero-le
-
 run-most : (k : ℕ) (l : List ℕ) → run k l ≤ length l
 run-most k [] = zero-le
-run-most k (b ∷ bs) = bounded (eqb (classOf b) k) (run k bs) (length bs) (run-most k bs)
+run-most k (b ∷ bs) = counted (eqb (classOf b) k) true (run k bs) (length bs) (λ e. refl) (run-most k bs)
 
 -- a run ends within the phrase
 pub run-within : (k : ℕ) (s : List ℕ) (a : ℕ) → a ≤ length s → runEnd k s a ≤ length s

@@ -2,6 +2,7 @@
 use Prim.Native.Nat.{ℕ, zero, suc, _-_}
 use mathlib.Core.Bool.{Bool, true, false, cond}
 use mathlib.Core.List.{List, [], _∷_, _++_}
+use lib.Dec.{ltb}
 use lib.ListN.{length, getD}
 use Rattle.lexer.specs.declared.find.Order.{Order}
 use Rattle.lexer.specs.declared.find.Order.the-variants.{Less, Same, More}
@@ -34,6 +35,11 @@ spellingAt ws i = getD ws i blank .spelling
 -- row i's lexeme
 abbrev pub lexemeAt : List Word → ℕ → ℕ
 lexemeAt ws i = getD ws i blank .lexeme
+
+-- how many rows at the front begin with a byte below b
+abbrev pub firstRow : List Word → ℕ → ℕ
+firstRow [] b = 0
+firstRow (w ∷ ws) b = cond (ltb (getD (w .spelling) 0 0) b) (suc (firstRow ws b)) 0
 
 -- n places from place i on, each by its number
 abbrev pub places : ℕ → ℕ → List ℕ

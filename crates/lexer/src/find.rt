@@ -6,7 +6,7 @@ ghost use mathlib.Core.Path.{_≡_};
 ghost use Prim.Native.Nat.{_<_};
 ghost use Rattle.lexer.specs.Keywords.{keywords};
 ghost use Rattle.lexer.specs.Words.{ordered, meaning, lowerOf, folded};
-ghost use Rattle.lexer.specs.Table.{sorted, cells, spellingAt};
+ghost use Rattle.lexer.specs.Table.{sorted, cells, spellingAt, firstRow};
 
 // How one word stands to another in byte order.
 enum Order {
@@ -60,13 +60,37 @@ fn compare(words: &[u8; 1862], i: usize, w: &[u8]) -> Order
     Order::Same
 }
 
-// What a word means, in letters of either case: the lower of two middles is tried first.
+// The first row of each letter's words.
+const FIRST: [u8; 26] = *b"\
+    \x00\x0b\x0e\x0e\x12\x1a\x2b\x2b\x2f\x30\x36\x36\x37\
+    \x44\x50\x54\x55\x55\x56\x68\x7e\x7e\x7e\x81\x81\x84\
+";
+
+// The first row whose word does not begin below b; 133 if there is none.
+fn first_row(b: u64) -> usize
+    ensures { λ r. ⌜ r ≡ firstRow (sorted keywords) b ⌝ }
+{
+    if b < b'a' as u64 {
+        return 0;
+    }
+    if (b'z' as u64) < b {
+        return 133;
+    }
+    FIRST[(b - b'a' as u64) as usize] as usize
+}
+
+// What a word means, in letters of either case: a search by halves among the words of its first letter.
+// The lower of two middles is tried first.
 pub fn find(words: &[u8; 1862], w: &[u8]) -> Found
     requires { ⌜ now words ≡ cells (sorted keywords) ⌝ }
     ensures { λ r. ⌜ r ≡ meaning keywords (folded (now (w .entry))) ⌝ }
 {
-    let mut lo: usize = 0;
-    let mut hi: usize = 133;
+    if w.len() == 0 {
+        return Found::Unknown;
+    }
+    let b = lower(w[0]) as u64;
+    let mut lo = first_row(b);
+    let mut hi = first_row(b + 1);
     while lo < hi {
         let mid = lo + (hi - lo - 1) / 2;
         let o = compare(words, mid, w);
