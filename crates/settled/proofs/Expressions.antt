@@ -1,0 +1,6 @@
+-- The promises of `expressions`. Assumes nothing.
+use Rattle.settled.proofs.Settled.{Settled, same}
+use Rattle.expressions.proofs.expr.read_expr.Reads as read-expr'
+
+pub read-expr : Settled read-expr'.Post
+read-expr = same read-expr'.Post _ _ (λ κs a z e p. p .0)

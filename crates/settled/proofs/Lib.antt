@@ -1,0 +1,16 @@
+pub mod Settled
+pub mod Values
+pub mod Calendar
+pub mod Lexer
+pub mod Reader
+pub mod Numbers
+pub mod Dates
+pub mod Expressions
+pub mod Phrase
+pub mod Evaluation
+pub mod Answer
+pub mod Steps
+pub mod Ready
+pub mod Records
+pub mod Fuzzydate
+pub mod Text

@@ -1,0 +1,132 @@
+-- The definitions by which promises speak of enums are different for different answers: each has a way back. Assumes nothing.
+use mathlib.Core.Path.{_≡_, refl, sym, ap, _∙_}
+use mathlib.Core.Bool.{cond}
+use lib.Dec.{eqb}
+use Prim.Native.Nat.{ℕ}
+use Rattle.calendar.specs.Moments.{Outcome, moment, refused, outcomeOf}
+use Rattle.calendar.specs.declared.Step.{Step}
+use Rattle.calendar.specs.declared.Step.the-variants.{At as StepAt, Outside, NoDay}
+use Rattle.numbers.specs.declared.Found.{Found}
+use Rattle.numbers.specs.declared.Found.the-variants.{Is as IsNumber, Nothing as NoNumber, Overflow as NumberOver}
+use Rattle.dates.specs.Parsed.{Parsed, is, nothing, overflow, parsedNumber}
+use Rattle.dates.specs.Dates.{parsedDate}
+use Rattle.dates.specs.Times.{parsedTime}
+use Rattle.dates.specs.Units.{parsedUnit, parsedSpecifier}
+use Rattle.dates.specs.declared.date.DateFound.{DateFound}
+use Rattle.dates.specs.declared.date.DateFound.the-variants.{Is as IsDate, Nothing as NoDate, Overflow as DateOver}
+use Rattle.dates.specs.declared.time.TimeFound.{TimeFound}
+use Rattle.dates.specs.declared.time.TimeFound.the-variants.{Is as IsTime, Nothing as NoTime, Overflow as TimeOver}
+use Rattle.dates.specs.declared.units.UnitFound.{UnitFound}
+use Rattle.dates.specs.declared.units.UnitFound.the-variants.{Is as IsUnit, Nothing as NoUnit}
+use Rattle.dates.specs.declared.units.SpecifierFound.{SpecifierFound}
+use Rattle.dates.specs.declared.units.SpecifierFound.the-variants.{Is as IsSpecifier, Nothing as NoSpecifier}
+use Rattle.evaluation.specs.Steps.{reachedOf}
+use Rattle.evaluation.specs.declared.step.Reached.{Reached}
+use Rattle.evaluation.specs.declared.step.Reached.the-variants.{At, Refused}
+use Rattle.answer.specs.Answer.{Answer, at, refusedAt, answerFrom}
+use Rattle.answer.specs.declared.Answered.{Answered}
+use Rattle.answer.specs.declared.Answered.the-variants.{At as AnsweredAt, Refused as AnsweredRefused}
+use Rattle.dates.specs.declared.date.Date.{Date}
+use Rattle.dates.specs.declared.time.Time.{Time}
+use Rattle.dates.specs.declared.units.Unit.{Unit as TimeUnit}
+use Rattle.dates.specs.declared.units.RelativeSpecifier.{RelativeSpecifier}
+
+given-back : {A B : Type 0} (value : A → B) (back : B → A) → ((x : A) → back (value x) ≡ x) → (x y : A) → value x ≡ value y → x ≡ y
+given-back value back known x y e = sym (known x) ∙ ap back e ∙ known y
+
+abbrev stepOf : Outcome → Step
+stepOf (moment t) = StepAt t
+stepOf (refused k) = cond (eqb k 12) Outside NoDay
+
+step-back : (x : Step) → stepOf (outcomeOf x) ≡ x
+step-back (StepAt t) = refl
+step-back Outside = refl
+step-back NoDay = refl
+
+pub step-one : (x y : Step) → outcomeOf x ≡ outcomeOf y → x ≡ y
+step-one = given-back outcomeOf stepOf step-back
+
+abbrev numberOf : Parsed ℕ → Found
+numberOf (is v t) = IsNumber v t
+numberOf nothing = NoNumber
+numberOf overflow = NumberOver
+
+number-back : (x : Found) → numberOf (parsedNumber x) ≡ x
+number-back (IsNumber v t) = refl
+number-back NoNumber = refl
+number-back NumberOver = refl
+
+pub number-one : (x y : Found) → parsedNumber x ≡ parsedNumber y → x ≡ y
+number-one = given-back parsedNumber numberOf number-back
+
+abbrev dateOf : Parsed Date → DateFound
+dateOf (is d t) = IsDate d t
+dateOf nothing = NoDate
+dateOf overflow = DateOver
+
+date-back : (x : DateFound) → dateOf (parsedDate x) ≡ x
+date-back (IsDate d t) = refl
+date-back NoDate = refl
+date-back DateOver = refl
+
+pub date-one : (x y : DateFound) → parsedDate x ≡ parsedDate y → x ≡ y
+date-one = given-back parsedDate dateOf date-back
+
+abbrev timeOf : Parsed Time → TimeFound
+timeOf (is x t) = IsTime x t
+timeOf nothing = NoTime
+timeOf overflow = TimeOver
+
+time-back : (x : TimeFound) → timeOf (parsedTime x) ≡ x
+time-back (IsTime x t) = refl
+time-back NoTime = refl
+time-back TimeOver = refl
+
+pub time-one : (x y : TimeFound) → parsedTime x ≡ parsedTime y → x ≡ y
+time-one = given-back parsedTime timeOf time-back
+
+abbrev unitOf : Parsed TimeUnit → UnitFound
+unitOf (is u t) = IsUnit u
+unitOf nothing = NoUnit
+unitOf overflow = NoUnit
+
+unit-back : (x : UnitFound) → unitOf (parsedUnit x) ≡ x
+unit-back (IsUnit u) = refl
+unit-back NoUnit = refl
+
+pub unit-one : (x y : UnitFound) → parsedUnit x ≡ parsedUnit y → x ≡ y
+unit-one = given-back parsedUnit unitOf unit-back
+
+abbrev specifierOf : Parsed RelativeSpecifier → SpecifierFound
+specifierOf (is s t) = IsSpecifier s
+specifierOf nothing = NoSpecifier
+specifierOf overflow = NoSpecifier
+
+specifier-back : (x : SpecifierFound) → specifierOf (parsedSpecifier x) ≡ x
+specifier-back (IsSpecifier s) = refl
+specifier-back NoSpecifier = refl
+
+pub specifier-one : (x y : SpecifierFound) → parsedSpecifier x ≡ parsedSpecifier y → x ≡ y
+specifier-one = given-back parsedSpecifier specifierOf specifier-back
+
+abbrev reached : Outcome → Reached
+reached (moment t) = At t
+reached (refused k) = Refused k
+
+reached-back : (x : Reached) → reached (reachedOf x) ≡ x
+reached-back (At t) = refl
+reached-back (Refused k) = refl
+
+pub reached-one : (x y : Reached) → reachedOf x ≡ reachedOf y → x ≡ y
+reached-one = given-back reachedOf reached reached-back
+
+abbrev answered : Answer → Answered
+answered (at t) = AnsweredAt t
+answered (refusedAt k a e) = AnsweredRefused k a e
+
+answered-back : (x : Answered) → answered (answerFrom x) ≡ x
+answered-back (AnsweredAt t) = refl
+answered-back (AnsweredRefused k a e) = refl
+
+pub answered-one : (x y : Answered) → answerFrom x ≡ answerFrom y → x ≡ y
+answered-one = given-back answerFrom answered answered-back
