@@ -3,3 +3,4 @@ pub mod Again
 pub mod Laws
 pub mod Bounds
 pub mod Turns
+pub mod Begins

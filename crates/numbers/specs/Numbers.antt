@@ -2,7 +2,7 @@
 use Prim.Native.Nat.{ℕ, _+_, _-_, _*_, _%_}
 use mathlib.Core.Bool.{Bool, _||_}
 use mathlib.Core.List.{List}
-use lib.Dec.{eqb}
+use lib.Dec.{eqb, leb}
 use lib.ListN.{drop}
 use Rattle.lexer.specs.Lexemes.{One, Nine, Ten, Nineteen, Twenty, Ninety, Dash, And, Hundred, Thousand, Million, Billion, ST, ND, RD, TH, NUM}
 use Rattle.numbers.specs.declared.Found.{Found}
@@ -14,6 +14,10 @@ use Rattle.numbers.specs.Answers.{MAX, pick, orElse, andThen, orZero, fi
 -- `ST | RD | ND | TH`
 unfoldable pub isEnding : ℕ → Bool
 isEnding x = eqb x ST || (eqb x RD || (eqb x ND || eqb x TH))
+
+-- what a number can begin with: a number word, `Hundred` or a unit word (`Thousand`, `Million`, `Billion`), a literal
+unfoldable pub beginsNumber : ℕ → Bool
+beginsNumber x = within One x Ninety || (within Hundred x Billion || leb NUM x)
 
 -- a number word from lo to hi, whose code is its value; `Zero` is none
 unfoldable pub wordOf : List ℕ → ℕ → ℕ → ℕ → Found

@@ -4,7 +4,7 @@ ghost use Prim.Native.Nat.{_+_, _≤_, _<_, max};
 ghost use lib.ListN.{length};
 ghost use Rattle.numbers.specs.Slices.{get, oneIf};
 ghost use Rattle.numbers.specs.Answers.{MAX, USIZE, Taken, Read, orElse, takenOf, fitsOf};
-ghost use Rattle.numbers.specs.Numbers.{isEnding, wordOf, literalOf, onesOf, teensOf, tensOf, tensOnesOf, numDoubleOf, sumOf, hundredsOf, numTripleOf, numTripleUnitOf, unitsOf, numOf};
+ghost use Rattle.numbers.specs.Numbers.{isEnding, beginsNumber, wordOf, literalOf, onesOf, teensOf, tensOf, tensOnesOf, numDoubleOf, sumOf, hundredsOf, numTripleOf, numTripleUnitOf, unitsOf, numOf};
 use lexer::lexeme::AND;
 use lexer::lexeme::BILLION;
 use lexer::lexeme::DASH;
@@ -264,11 +264,28 @@ fn units(l: &[u64], triple: Found) -> Found
     sum(required, head, tokens, num(rest(l, tokens)))
 }
 
-// `Num::parse`; the triple is read once for both alternatives that begin with it.
+// Does a number begin with the first lexeme? Tested in the order of the codes.
+fn begins_number(l: &[u64]) -> bool
+    ensures { λ r. ⌜ r ≡ beginsNumber (get (now (l .entry)) 0) ⌝ }
+{
+    let x = get(l, 0);
+    if x < HUNDRED {
+        return is_within(1, x, 90);
+    }
+    if x <= BILLION {
+        return true;
+    }
+    NUM <= x
+}
+
+// `Num::parse`; the triple is read once for both alternatives that begin with it, and none is tried where no number begins.
 pub fn num(l: &[u64]) -> Found
     ensures { λ r. ⌜ r ≡ numOf (now (l .entry)) ⌝ }
     ensures { λ r. ⌜ Read r 1 (length (now (l .entry))) ⌝ }
 {
+    if !begins_number(l) {
+        return Found::Nothing;
+    }
     let triple = num_triple(l);
     let scaled = units(l, triple);
     let Found::Nothing = scaled else {

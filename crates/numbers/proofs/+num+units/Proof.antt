@@ -1,22 +1,25 @@
 -- `num` and `units` call each other: one proof for both, over the lexemes left.
-use mathlib.Core.Path.{sym}
+use mathlib.Core.Path.{sym, _∙_}
 use Prim.Native.Nat.{ℕ, _+_, _*_, _≤_, _<_}
 use native.Mathlib.Omega.{arith}
 use lib.ListN.{length}
 use denote.Ref.{now}
 use borrow.Author.Needs.{needs}
+use borrow.Author.Tests.{not-true}
 use borrow.Fn.Kinds.{In}
 use borrow.Fn.PlainCycle.{Measures, is, falls, and}
 use Rattle.numbers.specs.Numbers.{tailOf, unitsOf, numStep, numOf}
 use Rattle.numbers.proofs.Laws.{kept, none, found, most, wider, promised}
 use Rattle.numbers.proofs.Bounds.{product, units-read, num-read}
 use Rattle.numbers.proofs.Turns.{num-is}
+use Rattle.numbers.proofs.Begins.{no-num}
 use Rattle.numbers.proofs.num.Reads as num
 use Rattle.numbers.proofs.num.Kinds as num-kinds
 use Rattle.numbers.proofs.+num+units.Lts-num as num-lts
 use Rattle.numbers.proofs.units.Reads as units
 use Rattle.numbers.proofs.units.Kinds as units-kinds
 use Rattle.numbers.proofs.+num+units.Lts-units as units-lts
+use Rattle.numbers.proofs.begins_number.Reads as begins-number-reads
 use Rattle.numbers.proofs.literal.Reads as literal-reads
 use Rattle.numbers.proofs.num_triple.Reads as num-triple-reads
 use Rattle.numbers.proofs.num_triple_unit.Reads as num-triple-unit-reads
@@ -44,6 +47,8 @@ module _ (t : ℕ) where
   -- what each asks of the functions that it calls, and learns from them
   abbrev num-claims : num-lts.Claims
   num-claims = (
+    begins-number-reads.Asked,
+    begins-number-reads.Learnt,
     num-triple-reads.Asked,
     num-triple-reads.Learnt,
     and 1 units-kinds.ps (falls 1 units-kinds.ps _<_ μ-units t) units.Pre,
@@ -68,6 +73,14 @@ module _ (t : ℕ) where
     sum-reads.Learnt,
   )
 
+  num-begins-number-requires : num-lts.Need-begins-number-requires num-claims num-at num.Post
+  num-begins-number-requires c κs = search needs
+
+  num-returns : num-lts.Need-returns num-claims num-at num.Post
+  num-returns c =
+      let begins-number = c .before .begins-number in
+      promised (sym (no-num _ (sym (begins-number .ensures) ∙ not-true _ (c .if1 .taken)))) (num-read _)
+
   num-num-triple-requires : num-lts.Need-num-triple-requires num-claims num-at num.Post
   num-num-triple-requires c κs = search needs
 
@@ -77,14 +90,14 @@ module _ (t : ℕ) where
   num-enum-told : num-lts.Need-enum-told num-claims num-at num.Post
   num-enum-told c = search needs
 
-  num-returns : num-lts.Need-returns num-claims num-at num.Post
+  num-returns-2 : num-lts.Need-returns-2 num-claims num-at num.Post
   unfolding numStep
-  num-returns c =
+  num-returns-2 c =
       let num-triple = c .before .before .num-triple in
       let units = c .before .units in
       let arm = c .match in
       promised
-      (rw (num-is (now (c .before .before .before .before .args .l)), ← (num-triple .ensures .0), ← (units .ensures .0)) (sym (kept _ _ (arm .keys2))))
+      (rw (num-is (now (c .before .before .before .before .before .before .args .l)), ← (num-triple .ensures .0), ← (units .ensures .0)) (sym (kept _ _ (arm .keys2))))
       (num-read _)
 
   num-units-requires-2 : num-lts.Need-units-requires-2 num-claims num-at num.Post
@@ -93,9 +106,9 @@ module _ (t : ℕ) where
   num-enum-told-2 : num-lts.Need-enum-told-2 num-claims num-at num.Post
   num-enum-told-2 c = search needs
 
-  num-returns-2 : num-lts.Need-returns-2 num-claims num-at num.Post
+  num-returns-3 : num-lts.Need-returns-3 num-claims num-at num.Post
   unfolding numStep
-  num-returns-2 c =
+  num-returns-3 c =
       let num-triple = c .before .before .before .before .before .num-triple in
       let units = c .before .before .before .before .units in
       let enum-told = c .before .before .enum-told in
@@ -103,7 +116,7 @@ module _ (t : ℕ) where
       let arm2 = c .match2 in
       promised
       (rw (
-        num-is (now (c .before .before .before .before .before .before .before .args .l)),
+        num-is (now (c .before .before .before .before .before .before .before .before .before .args .l)),
         ← (num-triple .ensures .0),
         ← (units .ensures .0),
         enum-told .given .1,
@@ -114,9 +127,9 @@ module _ (t : ℕ) where
   num-enum-told-3 : num-lts.Need-enum-told-3 num-claims num-at num.Post
   num-enum-told-3 c = search needs
 
-  num-returns-3 : num-lts.Need-returns-3 num-claims num-at num.Post
+  num-returns-4 : num-lts.Need-returns-4 num-claims num-at num.Post
   unfolding numStep
-  num-returns-3 c =
+  num-returns-4 c =
       let num-triple = c .before .before .before .before .before .before .before .num-triple in
       let units = c .before .before .before .before .before .before .units in
       let enum-told = c .before .before .before .before .enum-told in
@@ -125,7 +138,7 @@ module _ (t : ℕ) where
       let arm3 = c .match3 in
       promised
       (rw (
-        num-is (now (c .before .before .before .before .before .before .before .before .before .args .l)),
+        num-is (now (c .before .before .before .before .before .before .before .before .before .before .before .args .l)),
         ← (num-triple .ensures .0),
         ← (units .ensures .0),
         enum-told .given .1,
@@ -137,9 +150,9 @@ module _ (t : ℕ) where
   num-literal-requires : num-lts.Need-literal-requires num-claims num-at num.Post
   num-literal-requires c κs = search needs
 
-  num-returns-4 : num-lts.Need-returns-4 num-claims num-at num.Post
+  num-returns-5 : num-lts.Need-returns-5 num-claims num-at num.Post
   unfolding numStep
-  num-returns-4 c =
+  num-returns-5 c =
       let num-triple = c .before .before .before .before .before .before .before .before .before .num-triple in
       let units = c .before .before .before .before .before .before .before .before .units in
       let enum-told = c .before .before .before .before .before .before .enum-told in
@@ -149,7 +162,7 @@ module _ (t : ℕ) where
       let literal = c .literal in
       promised
       (rw (
-        num-is (now (c .before .before .before .before .before .before .before .before .before .before .before .args .l)),
+        num-is (now (c .before .before .before .before .before .before .before .before .before .before .before .before .before .args .l)),
         ← (num-triple .ensures .0),
         ← (units .ensures .0),
         enum-told .given .1,
@@ -260,17 +273,19 @@ pub +num+units-spec : {M : Type 1} → statement M
     close μ-num μ-units
     (λ t.
     num-lts.spec (num-claims t) (num-at t) num.Post
+    (num-begins-number-requires t)
+    (num-returns t)
     (num-num-triple-requires t)
     (num-units-requires t)
     (num-enum-told t)
-    (num-returns t)
+    (num-returns-2 t)
     (num-units-requires-2 t)
     (num-enum-told-2 t)
-    (num-returns-2 t)
-    (num-enum-told-3 t)
     (num-returns-3 t)
+    (num-enum-told-3 t)
+    (num-returns-4 t)
     (num-literal-requires t)
-    (num-returns-4 t))
+    (num-returns-5 t))
     (λ t.
     units-lts.spec (units-claims t) (units-at t) units.Post
     (units-enum-known-triple t)

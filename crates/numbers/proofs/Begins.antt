@@ -1,0 +1,75 @@
+-- Each alternative of a number reader tests the first lexeme: where no number begins with it, none is read.
+use mathlib.Core.Path.{_≡_, refl}
+use mathlib.Core.Bool.{Bool, true, false, _||_, true≢false, and-false}
+use mathlib.Core.List.{List}
+use Prim.Native.Nat.{ℕ, _+_, _≤_}
+use native.Mathlib.Omega.{arith}
+use lib.Dec.{leb, ltb}
+use lib.ListN.{length}
+use borrow.Author.Tests.{leb-false, le-leb, lt-leb, ne-eqb}
+use Rattle.lexer.specs.Lexemes.{One, Ninety, Hundred, Thousand, Million, Billion, NUM}
+use Rattle.numbers.specs.declared.Found.{Found}
+use Rattle.numbers.specs.declared.Found.the-variants.{Nothing}
+use Rattle.numbers.specs.Slices.{get, isAt, within}
+use Rattle.numbers.specs.Answers.{MAX, pick}
+use Rattle.numbers.specs.Numbers.{beginsNumber, wordOf, literalOf, onesOf, teensOf, tensOf, tensOnesOf, numDoubleOf, hundredsOf, numTripleOf, numTripleUnitOf, unitsOf, numStep, numOf}
+use Rattle.numbers.proofs.Places.{within-bounds}
+use Rattle.numbers.proofs.Turns.{num-is}
+
+-- none of three tests held
+failed : (p q r : Bool) → p || (q || r) ≡ false → (p ≡ false) × (q ≡ false) × (r ≡ false)
+failed true q r e = absurd (true≢false e)
+failed false true r e = absurd (true≢false e)
+failed false false r e = (refl, refl, e)
+
+-- a test `within` that failed
+outside : (lo x hi : ℕ) → within lo x hi ≡ false → lo ≤ x → x ≤ hi → ⊥
+unfolding within
+outside lo x hi e a b = true≢false (rw (le-leb lo x a, le-leb x hi b) at e)
+
+-- a test that cannot hold
+never : (b : Bool) (w : Found) → (b ≡ true → ⊥) → pick b w Nothing ≡ Nothing
+never true w h = absurd (h refl)
+never false w h = refl
+
+module _ (l : List ℕ) (none : beginsNumber (get l 0) ≡ false) where
+  tests : (within One (get l 0) Ninety ≡ false) × (within Hundred (get l 0) Billion ≡ false) × (leb NUM (get l 0) ≡ false)
+  unfolding beginsNumber
+  tests = failed _ _ _ none
+
+  no-word : (lo hi tokens : ℕ) → One ≤ lo → hi ≤ Ninety → wordOf l lo hi tokens ≡ Nothing
+  unfolding wordOf
+  no-word lo hi tokens a b =
+      never (within lo (get l 0) hi) _ (λ e.
+      let h = within-bounds lo (get l 0) hi refl e in
+      outside One (get l 0) Ninety (tests .0) (omega arith) (omega arith))
+
+  no-literal : (lo hi tokens : ℕ) → literalOf l lo hi tokens ≡ Nothing
+  unfolding literalOf within
+  no-literal lo hi tokens = let h = leb-false NUM (get l 0) (tests .2) in rw (lt-leb (NUM + lo) (get l 0) (omega arith))
+
+  not-at : (x : ℕ) → Hundred ≤ x → x ≤ Billion → isAt l 0 x ≡ false
+  unfolding isAt get
+  not-at x a b =
+      rw (ne-eqb (get l 0) x (λ e. outside Hundred (get l 0) Billion (tests .1) (omega arith) (omega arith))) (and-false (ltb 0 (length l)))
+
+  no-ones : onesOf l ≡ Nothing
+  unfolding onesOf
+  no-ones = rw (no-word 1 9 _ (omega arith) (omega arith), no-literal 0 9 _)
+
+  no-double : numDoubleOf l ≡ Nothing
+  unfolding numDoubleOf tensOnesOf tensOf teensOf
+  no-double = rw (no-word 20 90 _ (omega arith) (omega arith), no-word 10 19 _ (omega arith) (omega arith), no-literal 10 19 _, no-ones, no-literal 20 99 1)
+
+  no-triple : numTripleOf l ≡ Nothing
+  unfolding numTripleOf hundredsOf
+  no-triple = rw (no-ones, not-at Hundred (omega arith) (omega arith), no-double, no-literal 100 999 _)
+
+  no-unit : numTripleUnitOf l ≡ Nothing
+  unfolding numTripleUnitOf
+  no-unit = rw (not-at Thousand (omega arith) (omega arith), not-at Million (omega arith) (omega arith), not-at Billion (omega arith) (omega arith))
+
+  -- what no number begins with has none
+  pub no-num : numOf l ≡ Nothing
+  unfolding numStep unitsOf
+  no-num = rw (num-is l, no-triple, no-unit, no-literal 1000 MAX 1)
