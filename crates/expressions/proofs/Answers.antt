@@ -1,22 +1,31 @@
 -- The code's answers are those of the definitions: what each reader hands on, taken apart by cases.
-use Prim.Native.Nat.{ℕ, _+_}
+use Prim.Native.Nat.{ℕ, _+_, _≤_}
 use mathlib.Core.Path.{_≡_, refl, _∙_}
 use mathlib.Core.Bool.{Bool, true, false, cond}
 use mathlib.Core.List.{List, [], _∷_}
-use lib.ListN.{drop}
+use lib.ListN.{length, drop, drop-of-length-le}
 use Rattle.lexer.specs.Lexemes as lexeme
 use Rattle.numbers.specs.Slices.{get, within, isAt}
+use Rattle.numbers.specs.Again.{turns, again}
+use Rattle.numbers.specs.Numbers.{beginsNumber}
+use Rattle.numbers.proofs.Begins.{no-num}
 use Rattle.dates.specs.Parsed.{Parsed, is, nothing, overflow, pick, ifLet, andThen}
-use Rattle.dates.specs.Durations.{Duration, into, isSubDaily}
-use Rattle.dates.specs.Units.{weekdayOf}
+use Rattle.dates.specs.Durations.{Duration, into, isSubDaily, specificOf, articleOf, concreteOf, durationStep, durationOf}
+use Rattle.dates.specs.Units.{isArticle, weekdayOf, relativeSpecifierOf}
 use Rattle.dates.specs.Dates.{dateOf}
 use Rattle.dates.specs.declared.date.Date.{Date}
 use Rattle.dates.specs.declared.date.Date.the-variants.{Empty}
 use Rattle.dates.specs.declared.duration.Parts.{Parts}
 use Rattle.dates.proofs.Laws.{Arm, none}
 use Rattle.expressions.specs.Tree.{date, weekday, before, after}
-use Rattle.expressions.specs.DateExprs.{Tail, relative, ago, inside, stray, withDate, withWeekday, withDurationOf}
+use Rattle.expressions.specs.DateExprs.{Tail, relative, ago, inside, stray, inTailOf, durationTailOf, tailOf, withDate, withWeekday, withDurationOf}
 use Rattle.expressions.specs.ExprAnswers.{tailAnswer, exprAnswer, dateTailed, weekdayTailed, afterTaken, withDurationAnswer}
+
+-- behind the last lexeme stands no tail
+pub tail-none : (l : List ℕ) (t : ℕ) → length l ≤ t → tailOf (drop t l) ≡ nothing
+unfolding get isAt within beginsNumber isArticle relativeSpecifierOf specificOf articleOf concreteOf turns again durationStep durationOf
+    inTailOf durationTailOf tailOf
+tail-none l t h = rw (drop-of-length-le l h, no-num [] refl)
 
 -- a date with the tail behind it
 pub date-tailed :

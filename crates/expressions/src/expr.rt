@@ -21,7 +21,7 @@ use numbers::slices::is_at;
 use numbers::slices::rest;
 ghost use mathlib.Core.Path.{_≡_};
 ghost use Prim.Native.Nat.{_+_, _*_, _≤_};
-ghost use lib.ListN.{length};
+ghost use lib.ListN.{length, drop};
 ghost use Rattle.expressions.specs.DateExprs.{inTailOf, durationTailOf, tailOf, relativeExprOf, weekdayExprOf, undatedOf, dateExprOf};
 ghost use Rattle.expressions.specs.ExprAnswers.{tailAnswer, TailCounted, dateTailed, weekdayTailed};
 ghost use Rattle.expressions.specs.ExprAnswers.{exprAnswer, ExprCounted, afterAnswer, withDurationAnswer};
@@ -247,6 +247,34 @@ fn with_weekday(w: u32, t: usize, tail: TailFound, parts: Parts) -> ExprFound
     }
 }
 
+// A date of t lexemes and what stands behind it: no tail is looked for where no lexeme is left.
+fn read_date_tail(l: &[u64], d: Date, t: usize, parts: Parts) -> ExprFound
+    requires { ⌜ (t ≤ length (now l)) × (3 * parts .n + length (now l) ≤ 64) ⌝ }
+    ensures { λ r. ⌜ r ≡ dateTailed d t (tailAnswer parts (tailOf (drop t (now (l .entry))))) parts ⌝ }
+{
+    if l.len() <= t {
+        return ExprFound {
+            expr: ExprTaken::Is(Expr::Date(d), t),
+            parts,
+        };
+    }
+    with_date(d, t, read_tail(rest(l, t), parts), parts)
+}
+
+// A weekday of t lexemes and what stands behind it: no tail is looked for where no lexeme is left.
+fn read_weekday_tail(l: &[u64], w: u32, t: usize, parts: Parts) -> ExprFound
+    requires { ⌜ (t ≤ length (now l)) × (3 * parts .n + length (now l) ≤ 64) ⌝ }
+    ensures { λ r. ⌜ r ≡ weekdayTailed w t (tailAnswer parts (tailOf (drop t (now (l .entry))))) parts ⌝ }
+{
+    if l.len() <= t {
+        return ExprFound {
+            expr: ExprTaken::Is(Expr::Weekday(w), t),
+            parts,
+        };
+    }
+    with_weekday(w, t, read_tail(rest(l, t), parts), parts)
+}
+
 // after <date> | from <date>: the date behind a duration and its connection, which end at t
 fn read_after(l: &[u64], t: usize, with: Parts, parts: Parts) -> ExprFound
     requires { ⌜ (t ≤ length (now l)) × (length (now l) ≤ 64) ⌝ }
@@ -337,7 +365,7 @@ fn read_weekday_expr(l: &[u64], parts: Parts) -> ExprFound
     let Found::Is(w, t) = read_weekday(l) else {
         return read_relative(l, parts);
     };
-    with_weekday(w, t, read_tail(rest(l, t), parts), parts)
+    read_weekday_tail(l, w, t, parts)
 }
 
 // A duration and what stands behind it, or what begins with a weekday or a relative specifier.
@@ -369,7 +397,7 @@ pub fn read_expr(l: &[u64], parts: Parts) -> ExprFound
     ensures { λ r. ⌜ ExprCounted r (parts .n) (length (now (l .entry))) ⌝ }
 {
     match read_date(l) {
-        DateFound::Is(d, t) => with_date(d, t, read_tail(rest(l, t), parts), parts),
+        DateFound::Is(d, t) => read_date_tail(l, d, t, parts),
         DateFound::Nothing => read_undated(l, parts),
         DateFound::Overflow => ExprFound {
             expr: ExprTaken::Overflow,

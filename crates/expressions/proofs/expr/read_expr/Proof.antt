@@ -1,11 +1,12 @@
 use mathlib.Core.Path.{ap}
 use native.Mathlib.Omega.{arith}
+use lib.ListN.{drop}
 use denote.Ref.{now}
 use Rattle.dates.specs.Dates.{parsedDate}
 use Rattle.dates.proofs.Laws.{found}
 use Rattle.expressions.specs.DateExprs.{tailOf, dateExprOf}
 use Rattle.expressions.proofs.Answers.{date-tailed}
-use Rattle.expressions.proofs.Few.{tail-wider, expr-few, expr-promised}
+use Rattle.expressions.proofs.Few.{expr-few, expr-promised}
 use borrow.Author.Needs.{needs}
 use Rattle.expressions.proofs.expr.read_expr.Statement.{statement}
 use Rattle.expressions.proofs.expr.read_expr.Tie as tie
@@ -16,22 +17,12 @@ read-date-requires c κs = search needs
 enum-known-d : tie.Need-enum-known-d
 enum-known-d c = search needs
 
-rest-requires : tie.Need-rest-requires
-rest-requires c κs =
+read-date-tail-requires : tie.Need-read-date-tail-requires
+read-date-tail-requires c κs =
     let read-date = c .before .before .before .read-date in
     let d = c .before .d in
     let b = found (ap parsedDate (d .given .1)) (read-date .ensures .1) in
-    omega arith
-
-read-tail-requires : tie.Need-read-tail-requires
-read-tail-requires c κs = search needs
-
-with-date-requires : tie.Need-with-date-requires
-with-date-requires c κs =
-    let read-date = c .before .before .before .before .before .read-date in
-    let d = c .before .before .before .d in
-    let b = found (ap parsedDate (d .given .1)) (read-date .ensures .1) in
-    (omega arith, tail-wider (c .read-tail .ensures .1) (omega arith))
+    (omega arith, search needs)
 
 enum-told : tie.Need-enum-told
 enum-told c = search needs
@@ -45,19 +36,15 @@ enum-told-2 c = search needs
 returns : tie.Need-returns
 unfolding dateExprOf
 returns c =
-    let args = c .before .before .before .before .before .before .before .before .args in
-    let read-date = c .before .before .before .before .before .before .read-date in
-    let d = c .before .before .before .before .d in
-    let rest = c .before .before .rest in
-    let read-tail = c .before .read-tail in
+    let args = c .before .before .before .before .before .before .args in
+    let read-date = c .before .before .before .before .read-date in
+    let d = c .before .before .d in
     expr-promised (args .parts)
     (rw (
       ← (read-date .ensures .0),
       d .given .1,
-      ← (rest .ensures .0),
-      ← (date-tailed (d .given .0 .0) (d .given .0 .1 .0) (args .parts) (tailOf (now (rest .result)))),
-      ← (read-tail .ensures .0),
-    ) (c .with-date .ensures))
+      ← (date-tailed (d .given .0 .0) (d .given .0 .1 .0) (args .parts) (tailOf (drop (d .given .0 .1 .0) (now (args .l))))),
+    ) (c .read-date-tail .ensures))
     (expr-few (now (args .l)))
 
 returns-2 : tie.Need-returns-2
@@ -85,9 +72,7 @@ read-expr-spec =
     (tie.spec
     read-date-requires
     enum-known-d
-    rest-requires
-    read-tail-requires
-    with-date-requires
+    read-date-tail-requires
     enum-told
     read-undated-requires
     enum-told-2

@@ -1,11 +1,12 @@
 use mathlib.Core.Path.{ap}
 use native.Mathlib.Omega.{arith}
+use lib.ListN.{drop}
 use denote.Ref.{now}
 use Rattle.dates.specs.Parsed.{parsedNumber}
 use Rattle.dates.proofs.Laws.{found, number-arm}
 use Rattle.expressions.specs.DateExprs.{tailOf, weekdayExprOf}
 use Rattle.expressions.proofs.Answers.{weekday-none, weekday-tailed}
-use Rattle.expressions.proofs.Few.{tail-wider, weekday-few, expr-promised}
+use Rattle.expressions.proofs.Few.{weekday-few, expr-promised}
 use borrow.Author.Needs.{needs}
 use Rattle.expressions.proofs.expr.read_weekday_expr.Statement.{statement}
 use Rattle.expressions.proofs.expr.read_weekday_expr.Tie as tie
@@ -30,39 +31,25 @@ returns c =
     (rw (← (read-weekday .ensures .0), none) (c .read-relative .ensures .0))
     (weekday-few (now (args .l)))
 
-rest-requires : tie.Need-rest-requires
-rest-requires c κs =
+read-weekday-tail-requires : tie.Need-read-weekday-tail-requires
+read-weekday-tail-requires c κs =
     let read-weekday = c .before .before .before .read-weekday in
     let w = c .before .w in
     let b = found (ap parsedNumber (w .given .1)) (read-weekday .ensures .1) in
-    omega arith
-
-read-tail-requires : tie.Need-read-tail-requires
-read-tail-requires c κs = search needs
-
-with-weekday-requires : tie.Need-with-weekday-requires
-with-weekday-requires c κs =
-    let read-weekday = c .before .before .before .before .before .read-weekday in
-    let w = c .before .before .before .w in
-    let b = found (ap parsedNumber (w .given .1)) (read-weekday .ensures .1) in
-    (omega arith, tail-wider (c .read-tail .ensures .1) (omega arith))
+    (omega arith, search needs)
 
 returns-2 : tie.Need-returns-2
 unfolding weekdayExprOf
 returns-2 c =
-    let args = c .before .before .before .before .before .before .before .before .args in
-    let read-weekday = c .before .before .before .before .before .before .read-weekday in
-    let w = c .before .before .before .before .w in
-    let rest = c .before .before .rest in
-    let read-tail = c .before .read-tail in
+    let args = c .before .before .before .before .before .before .args in
+    let read-weekday = c .before .before .before .before .read-weekday in
+    let w = c .before .before .w in
     expr-promised (args .parts)
     (rw (
       ← (read-weekday .ensures .0),
       w .given .1,
-      ← (rest .ensures .0),
-      ← (weekday-tailed (w .given .0 .0) (w .given .0 .1 .0) (args .parts) (tailOf (now (rest .result)))),
-      ← (read-tail .ensures .0),
-    ) (c .with-weekday .ensures))
+      ← (weekday-tailed (w .given .0 .0) (w .given .0 .1 .0) (args .parts) (tailOf (drop (w .given .0 .1 .0) (now (args .l))))),
+    ) (c .read-weekday-tail .ensures))
     (weekday-few (now (args .l)))
 
 pub read-weekday-expr-spec : {M : Type 1} → statement M
@@ -73,7 +60,5 @@ read-weekday-expr-spec =
     enum-known-w
     read-relative-requires
     returns
-    rest-requires
-    read-tail-requires
-    with-weekday-requires
+    read-weekday-tail-requires
     returns-2)
