@@ -36,7 +36,7 @@ pub struct Slot {
 
 // A row of parts: 64 lexemes have at most 21.
 pub struct Parts {
-    pub n: usize,
+    pub n: u8,
     pub items: [Slot; 21],
 }
 
@@ -131,7 +131,7 @@ fn push(parts: Parts, part: Part) -> Parts
 {
     let mut q = parts;
     let n = q.n;
-    q.items[n] = Slot { part };
+    q.items[n as usize] = Slot { part };
     q.n = n + 1;
     q
 }

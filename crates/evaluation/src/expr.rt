@@ -113,7 +113,7 @@ fn weekday_relative(w: u32, specifier: RelativeSpecifier, unit: Unit, t: Moment)
 }
 
 // A duration from a date that was reached.
-fn from_date(x: Reached, back: bool, parts: Parts, own: usize) -> Reached
+fn from_date(x: Reached, back: bool, parts: Parts, own: u8) -> Reached
     requires { ⌜ Valid (reachedOf x) × (own < parts .n) × (parts .n ≤ 21) ⌝ }
     ensures { λ r. ⌜ reachedOf r ≡ andThen (reachedOf x) (durationStep back (rowDuration (slice own (parts .n) (parts .items)))) ⌝ }
     ensures { λ r. ⌜ Valid (reachedOf r) ⌝ }
@@ -125,7 +125,7 @@ fn from_date(x: Reached, back: bool, parts: Parts, own: usize) -> Reached
 }
 
 // Back by the duration, then back to the weekday.
-fn weekday_before(w: u32, parts: Parts, own: usize, t: Moment) -> Reached
+fn weekday_before(w: u32, parts: Parts, own: u8, t: Moment) -> Reached
     requires { ⌜ IsMoment t × (own < parts .n) × (parts .n ≤ 21) ⌝ }
     ensures { λ r. ⌜ reachedOf r ≡ andThen (durationStep true (rowDuration (slice own (parts .n) (parts .items))) t) (backTo (w % 7)) ⌝ }
     ensures { λ r. ⌜ Valid (reachedOf r) ⌝ }
@@ -138,7 +138,7 @@ fn weekday_before(w: u32, parts: Parts, own: usize, t: Moment) -> Reached
 }
 
 // DateExpr::to_chrono, at the time of day of t.
-pub fn expr_at(expr: Expr, parts: Parts, own: usize, t: Moment) -> Reached
+pub fn expr_at(expr: Expr, parts: Parts, own: u8, t: Moment) -> Reached
     requires { ⌜ IsMoment t × (parts .n ≤ 21) × (hasDuration expr ≡ true → own < parts .n) ⌝ }
     ensures { λ r. ⌜ reachedOf r ≡ dateExprAt (exprFrom expr (rowDuration (slice own (parts .n) (parts .items)))) t ⌝ }
     ensures { λ r. ⌜ Valid (reachedOf r) ⌝ }

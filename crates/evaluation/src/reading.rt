@@ -59,7 +59,7 @@ pub fn evaluate(r: Reading, now: Moment) -> Reached
     let mut i = r.m;
     while 0 < i {
         i -= 1;
-        let link = r.links[i];
+        let link = r.links[i as usize];
         match duration_step(link.back, parts, link.from, link.to, t) {
             Reached::At(u) => {
                 t = u;

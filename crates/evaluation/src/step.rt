@@ -96,7 +96,7 @@ fn part_step(back: bool, part: Part, t: Moment) -> Reached
 }
 
 // The parts from one place up to another, first to last: each one's own result is tested.
-pub fn duration_step(back: bool, parts: Parts, from: usize, to: usize, begin: Moment) -> Reached
+pub fn duration_step(back: bool, parts: Parts, from: u8, to: u8, begin: Moment) -> Reached
     requires { ⌜ (from < to) × (to ≤ 21) × IsMoment begin ⌝ }
     ensures { λ r. ⌜ reachedOf r ≡ durationStep back (rowDuration (slice from to (parts .items))) begin ⌝ }
     ensures { λ r. ⌜ Valid (reachedOf r) ⌝ }
@@ -104,7 +104,7 @@ pub fn duration_step(back: bool, parts: Parts, from: usize, to: usize, begin: Mo
     let mut t = begin;
     let mut i = from;
     while i < to {
-        let slot = parts.items[i];
+        let slot = parts.items[i as usize];
         let part = slot.part;
         match part_step(back, part, t) {
             Reached::At(u) => {

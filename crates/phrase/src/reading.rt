@@ -19,8 +19,8 @@ pub enum Base {
 // `DateTime::After`, `DateTime::Before`: a direction, and the parts from one place up to another.
 pub struct Link {
     pub back: bool,
-    pub from: usize,
-    pub to: usize,
+    pub from: u8,
+    pub to: u8,
 }
 
 // The base has its own parts from `own` on; the m links are in front of it, outermost first.
@@ -28,8 +28,8 @@ pub struct Reading {
     pub base: Base,
     pub time: Time,
     pub parts: Parts,
-    pub own: usize,
-    pub m: usize,
+    pub own: u8,
+    pub m: u8,
     pub links: [Link; 21],
 }
 
@@ -81,7 +81,7 @@ pub fn with_link(r: Reading, back: bool, parts: Parts) -> Reading
     let to = parts.n;
     let m = r.m;
     let mut q = r;
-    q.links[m] = Link { back, from, to };
+    q.links[m as usize] = Link { back, from, to };
     q.m = m + 1;
     q.parts = parts;
     q

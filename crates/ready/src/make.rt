@@ -65,7 +65,7 @@ fn part_step(back: bool, part: Part) -> Step
 }
 
 // The parts from one place up to another behind a list, first to last.
-fn add_parts(p: Plan, parts: Parts, from: usize, to: usize, back: bool) -> Plan
+fn add_parts(p: Plan, parts: Parts, from: u8, to: u8, back: bool) -> Plan
     requires { ⌜ (0 < p .n) × (from < to) × (to ≤ 21) × (p .n + to ≤ 24 + from) ⌝ }
     requires { ⌜ minutesOf (lastOf p) + to * widest ≤ (24 + from) * widest ⌝ }
     ensures { λ r. ⌜ r ≡ addDuration held back p (rowDuration (slice from to (parts .items))) ⌝ }
@@ -74,7 +74,7 @@ fn add_parts(p: Plan, parts: Parts, from: usize, to: usize, back: bool) -> Plan
     let mut q = p;
     let mut i = from;
     while i < to {
-        let slot = parts.items[i];
+        let slot = parts.items[i as usize];
         let part = slot.part;
         q = add(q, part_step(back, part));
         i += 1;
@@ -138,7 +138,7 @@ fn weekday_relative(w: u32, specifier: RelativeSpecifier, unit: Unit) -> Plan
 }
 
 // A date, and a duration from it.
-fn from_date(date: Date, parts: Parts, own: usize, back: bool) -> Plan
+fn from_date(date: Date, parts: Parts, own: u8, back: bool) -> Plan
     requires { ⌜ (own < parts .n) × (parts .n ≤ 21) ⌝ }
     ensures { λ r. ⌜ r ≡ addDuration held back (pushed blankPlan (OnDate date)) (rowDuration (slice own (parts .n) (parts .items))) ⌝ }
     ensures { λ r. ⌜ Within r (1 + size (rowDuration (slice own (parts .n) (parts .items)))) ⌝ }
@@ -147,7 +147,7 @@ fn from_date(date: Date, parts: Parts, own: usize, back: bool) -> Plan
 }
 
 // The steps of a date expression, whose duration's parts are those from `own` on.
-fn expr_plan(expr: Expr, parts: Parts, own: usize) -> Plan
+fn expr_plan(expr: Expr, parts: Parts, own: u8) -> Plan
     requires { ⌜ (parts .n ≤ 21) × (hasDuration expr ≡ true → own < parts .n) ⌝ }
     ensures { λ r. ⌜ r ≡ exprSteps held (exprFrom expr (rowDuration (slice own (parts .n) (parts .items)))) ⌝ }
     ensures { λ r. ⌜ Within r (2 + sizeExpr (exprFrom expr (rowDuration (slice own (parts .n) (parts .items))))) ⌝ }
@@ -197,7 +197,7 @@ pub fn plan_of(r: Reading) -> Plan
     let mut i = r.m;
     while 0 < i {
         i -= 1;
-        let link = r.links[i];
+        let link = r.links[i as usize];
         p = add_parts(p, parts, link.from, link.to, link.back);
     }
     p

@@ -97,8 +97,8 @@ fn write_part(p: Part) {
 }
 
 // So many closing brackets.
-fn close(n: usize) {
-    let mut i: usize = 0;
+fn close(n: u8) {
+    let mut i: u8 = 0;
     while i < n {
         text(b")");
         i += 1;
@@ -106,7 +106,7 @@ fn close(n: usize) {
 }
 
 // `enum Duration`: each part but the last is joined to what follows it. Nothing where there are no parts.
-fn write_duration(parts: Parts, from: usize, to: usize) {
+fn write_duration(parts: Parts, from: u8, to: u8) {
     let mut i = from;
     while i < to {
         if 21 <= i {
@@ -115,7 +115,7 @@ fn write_duration(parts: Parts, from: usize, to: usize) {
         if i + 1 < to {
             text(b"Concat(");
         }
-        let slot = parts.items[i];
+        let slot = parts.items[i as usize];
         let part = slot.part;
         write_part(part);
         if i + 1 < to {
@@ -243,12 +243,12 @@ fn open_link(back: bool) {
 pub fn write_reading(r: Reading) {
     let parts = r.parts;
     let m = r.m;
-    let mut i: usize = 0;
+    let mut i: u8 = 0;
     while i < m {
         if 21 <= i {
             return;
         }
-        let link = r.links[i];
+        let link = r.links[i as usize];
         open_link(link.back);
         write_duration(parts, link.from, link.to);
         text(b",");

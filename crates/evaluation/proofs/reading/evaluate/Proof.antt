@@ -78,6 +78,9 @@ loop-holds c =
 sub-i : tie.Need-sub-i Inv-loop μ-loop
 sub-i c = search needs
 
+cast-link : tie.Need-cast-link Inv-loop μ-loop
+cast-link c = search needs
+
 mul-link : tie.Need-mul-link Inv-loop μ-loop
 mul-link c = omega (arith, c .before .before .before .before .before .before .before .pre .1 .links)
 
@@ -132,6 +135,7 @@ evaluate-spec =
     returns
     loop-holds
     sub-i
+    cast-link
     mul-link
     element-copy-out-link
     duration-step-requires

@@ -50,6 +50,9 @@ turned c r e =
 loop-holds : tie.Need-loop-holds Inv-loop μ-loop
 loop-holds c = search needs
 
+cast-slot : tie.Need-cast-slot Inv-loop μ-loop
+cast-slot c = search needs
+
 mul-slot : tie.Need-mul-slot Inv-loop μ-loop
 mul-slot c = search needs
 
@@ -97,6 +100,7 @@ duration-step-spec =
     Inv-loop
     μ-loop
     loop-holds
+    cast-slot
     mul-slot
     element-copy-out-slot
     part-step-requires

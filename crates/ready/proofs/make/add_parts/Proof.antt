@@ -26,6 +26,9 @@ within c = let long = simp length-map at (c .good .1 .0 .1 .1 .1 .0 .1 .0 .1) in
 loop-holds : tie.Need-loop-holds Inv-loop μ-loop
 loop-holds c = (omega arith, omega arith, record { some = c .pre .0 .0; most = omega arith; minutes = omega arith }, refl)
 
+cast-slot : tie.Need-cast-slot Inv-loop μ-loop
+cast-slot c = search needs
+
 mul-slot : tie.Need-mul-slot Inv-loop μ-loop
 mul-slot c = search needs
 
@@ -76,6 +79,7 @@ add-parts-spec =
     Inv-loop
     μ-loop
     loop-holds
+    cast-slot
     mul-slot
     element-copy-out-slot
     part-step-requires

@@ -25,6 +25,9 @@ slice-aggregate-text c = search needs
 text-requires : tie.Need-text-requires Inv-loop μ-loop
 text-requires c κs = search needs
 
+cast-slot : tie.Need-cast-slot Inv-loop μ-loop
+cast-slot c = search needs
+
 mul-slot : tie.Need-mul-slot Inv-loop μ-loop
 mul-slot c = search needs
 
@@ -78,6 +81,7 @@ write-duration-spec =
     add-if2
     slice-aggregate-text
     text-requires
+    cast-slot
     mul-slot
     element-copy-out-slot
     write-part-requires

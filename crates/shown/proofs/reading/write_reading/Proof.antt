@@ -16,6 +16,9 @@ loop-holds c = search needs
 returns : tie.Need-returns Inv-loop μ-loop
 returns c = search needs
 
+cast-link : tie.Need-cast-link Inv-loop μ-loop
+cast-link c = search needs
+
 mul-link : tie.Need-mul-link Inv-loop μ-loop
 mul-link c = search needs
 
@@ -66,6 +69,7 @@ write-reading-spec =
     μ-loop
     loop-holds
     returns
+    cast-link
     mul-link
     element-copy-out-link
     open-link-requires
