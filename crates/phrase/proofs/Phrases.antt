@@ -1,11 +1,11 @@
 -- A phrase read whole: what reading takes of lexing, where the offending part stands, and what a reading stands for.
 use Prim.Native.Nat.{ℕ, zero, suc, _+_, _≤_, _<_}
 use native.Mathlib.Omega.{arith}
-use mathlib.Core.Path.{_≡_, refl, ap, sym}
+use mathlib.Core.Path.{_≡_, refl, ap, sym, _∙_}
 use mathlib.Core.Bool.{Bool, true, false, cond}
 use mathlib.Core.List.{List}
 use lib.Dec.{eqb, leb, ltb}
-use lib.ListN.{length, getD, length-map}
+use lib.ListN.{length, getD, take, length-map}
 use borrow.Author.Tests.{ltb-true, ltb-false}
 use Rattle.lexer.specs.Words.{Word, meaning, folded}
 use Rattle.lexer.specs.Keywords.{keywords}
@@ -25,7 +25,8 @@ use Rattle.phrase.specs.Tree.{DateTime}
 use Rattle.phrase.specs.DateTimes.{dateTimeOf}
 use Rattle.phrase.specs.Flat.{flat, blank, treeOf}
 use Rattle.phrase.specs.Refusals.{LexemesLeft}
-use Rattle.phrase.specs.Read.{ReadPhrase, refusal, tree, readCodes, readLexed, readOf, phraseAnswer, readLine, placeOf, offendingOf}
+use Rattle.phrase.specs.Read.{ReadPhrase, refusal, tree, readCodes, readLexed, readOf, refusedWith, phraseAnswer, placeOf, offendingOf}
+use Rattle.phrase.specs.declared.reading.Reading.{Reading}
 use Rattle.phrase.specs.declared.read.PhraseRead.{PhraseRead}
 use Rattle.phrase.proofs.Few.{date-time-few, at-most-21}
 use Rattle.phrase.proofs.Decoded.{tree-count, decoded}
@@ -112,6 +113,10 @@ starts-filled items n (is x t) = go (ltb t (length items)) refl
 starts-filled items n nothing = refl
 starts-filled items n overflow = refl
 
+-- the code reads a lexed phrase of n bytes by its count, codes and places
+abbrev readLine : Line → ℕ → ReadPhrase
+readLine line n = readCodes (dateTimeOf (take (line .count) (line .codes))) (line .count) (line .starts) n
+
 -- the lexemes from the code's arrays are read as the lexemes themselves
 line-read : (items : List Item) (n : ℕ) → readLine (lineOf (whole items)) n ≡ readLexed (whole items) n
 line-read items n =
@@ -137,6 +142,11 @@ module _ (s : List ℕ) {line : Line} (answer : line ≡ lineOf (lexed keywords 
   pub read-refused : (line .number ≡ 0 → ⊥) → refusal (line .number) (line .place) (line .end) ≡ readOf keywords s
   unfolding readOf
   read-refused h = rw answer (line-refused (lexed keywords s) (length s) (rw answer at h))
+
+-- a refusal with the reading of nothing is the answer to what is so refused
+pub refusal-answered : {r : PhraseRead} {none : Reading} {k a e : ℕ} {w : ReadPhrase} →
+    r ≡ refusedWith k a e none → none ≡ blank → refusal k a e ≡ w → r ≡ phraseAnswer w
+refusal-answered {k = k} {a = a} {e = e} answer empty same = answer ∙ ap (refusedWith k a e) empty ∙ ap phraseAnswer same
 
 -- the offending part begins and ends within the first n bytes
 abbrev Within : ℕ → ReadPhrase → Type 0

@@ -3,7 +3,7 @@ use Prim.Native.Nat.{ℕ}
 use mathlib.Core.Bool.{cond}
 use mathlib.Core.List.{List, []}
 use lib.Dec.{ltb}
-use lib.ListN.{length, getD, take}
+use lib.ListN.{length, getD}
 use Rattle.lexer.specs.Words.{Word}
 use Rattle.lexer.specs.Lex.{Lexed, refused, whole, lexed, codesOf, startsOf, between}
 use Rattle.dates.specs.Parsed.{Parsed, is, nothing, overflow}
@@ -11,7 +11,7 @@ use Rattle.phrase.specs.Tree.{DateTime}
 use Rattle.phrase.specs.DateTimes.{dateTimeOf}
 use Rattle.phrase.specs.Flat.{flat, blank}
 use Rattle.phrase.specs.Refusals.{NothingRead, SumTooLarge, LexemesLeft}
-use Rattle.lexer.specs.declared.lex.Line.{Line}
+use Rattle.phrase.specs.declared.reading.Reading.{Reading}
 use Rattle.phrase.specs.declared.read.PhraseRead.{PhraseRead}
 
 -- a refusal's number, place and end of the part; or the tree and the lexemes taken
@@ -34,14 +34,14 @@ readLexed (whole items) n = readCodes (dateTimeOf (codesOf items)) (length items
 unfoldable pub readOf : List Word → List ℕ → ReadPhrase
 readOf ws s = readLexed (lexed ws s) (length s)
 
--- the code's answer: number 0, and the lexemes taken and the flat reading; or a refusal's number, place and end
-abbrev pub phraseAnswer : ReadPhrase → PhraseRead
-phraseAnswer (refusal k a e) = record { number = k; place = a; end = e; taken = 0; reading = blank }
-phraseAnswer (tree x t) = record { number = 0; place = 0; end = 0; taken = t; reading = flat x }
+-- the code's answer for a refusal's number, place and end: no lexemes, and the reading that stands for none
+abbrev pub refusedWith : ℕ → ℕ → ℕ → Reading → PhraseRead
+refusedWith k a e none = record { number = k; place = a; end = e; taken = 0; reading = none }
 
--- the code reads a lexed phrase of n bytes by its count, codes and places
-abbrev pub readLine : Line → ℕ → ReadPhrase
-readLine line n = readCodes (dateTimeOf (take (line .count) (line .codes))) (line .count) (line .starts) n
+-- the code's answer: number 0, and the lexemes taken and the flat reading; or a refusal with the reading of nothing
+abbrev pub phraseAnswer : ReadPhrase → PhraseRead
+phraseAnswer (refusal k a e) = refusedWith k a e blank
+phraseAnswer (tree x t) = record { number = 0; place = 0; end = 0; taken = t; reading = flat x }
 
 -- the place of a refusal, 0 where nothing is refused
 abbrev pub placeOf : ReadPhrase → ℕ

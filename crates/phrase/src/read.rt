@@ -6,14 +6,12 @@ use super::reading::empty;
 use super::refusal::LEXEMES_LEFT;
 use super::refusal::NOTHING_READ;
 use super::refusal::SUM_TOO_LARGE;
-use lexer::lex::Line;
 use lexer::lex::lex;
 use lexer::part::part;
 ghost use mathlib.Core.Path.{_≡_};
 ghost use Prim.Native.Nat.{_+_};
 ghost use Rattle.lexer.specs.Keywords.{keywords};
-ghost use Rattle.lexer.specs.Lex.{Placed};
-ghost use Rattle.phrase.specs.Read.{refusal, readOf, readLine, phraseAnswer, placeOf, offendingOf};
+ghost use Rattle.phrase.specs.Read.{refusedWith, readOf, phraseAnswer, placeOf, offendingOf};
 
 // Number 0: the lexemes taken and the reading. Else a refusal of 1 to 7, with its place and the end of its part.
 pub struct PhraseRead {
@@ -24,35 +22,40 @@ pub struct PhraseRead {
     pub reading: Reading,
 }
 
-// A refusal, with no reading.
-fn refuse(number: u8, place: usize, end: usize) -> PhraseRead
-    ensures { λ r. ⌜ r ≡ phraseAnswer (refusal number place end) ⌝ }
+// A refusal, with the reading that stands for none.
+fn refuse(number: u8, place: usize, end: usize, none: Reading) -> PhraseRead
+    ensures { λ r. ⌜ r ≡ refusedWith number place end none ⌝ }
 {
     PhraseRead {
         number,
         place,
         end,
         taken: 0,
-        reading: empty(),
+        reading: none,
     }
 }
 
-// A phrase's lexemes read: what is left behind the reading is refusal 7, from its first byte to the end of the phrase.
-fn read_line(line: Line, size: usize) -> PhraseRead
-    requires { ⌜ Placed size line ⌝ }
-    ensures { λ r. ⌜ r ≡ phraseAnswer (readLine line size) ⌝ }
+// A phrase read: a reading, or a refusal of 1 to 7 in their order. What is left behind the reading is refusal 7, from its first byte to the end of the phrase.
+pub fn read(phrase: &[u8]) -> PhraseRead
+    ensures { λ r. ⌜ r ≡ phraseAnswer (readOf keywords (now (phrase .entry))) ⌝ }
 {
+    // One for every answer: a second one would be copied field by field.
+    let none = empty();
+    let line = lex(phrase);
+    if line.number != 0 {
+        return refuse(line.number, line.place, line.end, none);
+    }
     let n = line.count;
     let codes = line.codes;
-    let x = read_date_time(&codes[..n], empty());
+    let starts = line.starts;
+    let x = read_date_time(&codes[..n], none);
     let taken = x.taken;
-    let reading = x.reading;
     match taken {
         Count::Is(t) => {
             if t < n {
-                let starts = line.starts;
-                return refuse(LEXEMES_LEFT, starts[t] as usize, size);
+                return refuse(LEXEMES_LEFT, starts[t] as usize, phrase.len(), none);
             }
+            let reading = x.reading;
             PhraseRead {
                 number: 0,
                 place: 0,
@@ -61,20 +64,9 @@ fn read_line(line: Line, size: usize) -> PhraseRead
                 reading,
             }
         }
-        Count::Nothing => refuse(NOTHING_READ, 0, 0),
-        Count::Overflow => refuse(SUM_TOO_LARGE, 0, 0),
+        Count::Nothing => refuse(NOTHING_READ, 0, 0, none),
+        Count::Overflow => refuse(SUM_TOO_LARGE, 0, 0, none),
     }
-}
-
-// A phrase read: a reading, or a refusal of 1 to 7 in their order.
-pub fn read(phrase: &[u8]) -> PhraseRead
-    ensures { λ r. ⌜ r ≡ phraseAnswer (readOf keywords (now (phrase .entry))) ⌝ }
-{
-    let line = lex(phrase);
-    if line.number == 0 {
-        return read_line(line, phrase.len());
-    }
-    refuse(line.number, line.place, line.end)
 }
 
 // The offending part of the caller's own phrase; empty where nothing is refused.
