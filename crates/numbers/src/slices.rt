@@ -1,6 +1,6 @@
 // Reading a slice of lexemes at a place: what all readers share.
 ghost use mathlib.Core.Path.{_≡_};
-ghost use Prim.Native.Nat.{_+_, _≤_, min, max};
+ghost use Prim.Native.Nat.{_+_, _*_, _≤_, min, max};
 ghost use lib.ListN.{length, drop};
 ghost use Rattle.numbers.specs.Slices.{get, isAt, oneIf, within};
 
@@ -41,6 +41,7 @@ pub fn rest(l: &[u64], t: usize) -> &[u64]
     requires { ⌜ t ≤ length (now l) ⌝ }
     ensures { λ r. ⌜ now r ≡ drop t (now (l .entry)) ⌝ }
     ensures { λ r. ⌜ t + length (now r) ≡ length (now (l .entry)) ⌝ }
+    ensures own { λ r. ⌜ r .ptr ≡ ((l .entry) .ptr .0, t * 8 + (l .entry) .ptr .1) ⌝ }
 {
     &l[t..]
 }

@@ -23,8 +23,8 @@ one-if = same one-if'.Post _ _ (λ κs a z e p. p .0)
 pub take-if : Settled take-if'.Post
 take-if = same take-if'.Post _ _ (λ κs a z e p. p .0)
 
-pub rest : Same rest'.Post (λ κs z e. z .now)
-rest = same rest'.Post _ _ (λ κs a z e p. p .0)
+pub rest : Same rest'.Post (λ κs z e. z .now) × Same rest'.Post (λ κs z e. z .ptr)
+rest = (same rest'.Post _ _ (λ κs a z e p. p .0), same rest'.Post _ _ (λ κs a z e p. p .1 .1))
 
 pub is-within : Settled is-within'.Post
 is-within = same is-within'.Post _ _ (λ κs a z e p. p)

@@ -1,4 +1,4 @@
-use mathlib.Core.Path.{ap, _∙_}
+use mathlib.Core.Path.{refl, ap, _∙_}
 use Prim.Native.Nat.{_-_}
 use native.Mathlib.Omega.{arith}
 use lib.ListN.{length, drop, length-drop}
@@ -24,7 +24,7 @@ returns c =
     let a = c .before .args in
     let e = take-all (length (a .l .now) - a .t) (drop (a .t) (a .l .now)) (simp length-drop (omega arith)) in
     let n = ap length e ∙ length-drop (a .t) (a .l .now) in
-    (e, omega arith)
+    (e, (omega arith, refl))
 
 pub rest-spec : {M : Type 1} → statement M
 rest-spec = tie.close (tie.spec mul-result sub-result part-result-start part-result-end returns)
