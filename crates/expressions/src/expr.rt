@@ -54,8 +54,8 @@ pub enum Tail {
 
 // A tail, with the parts of its duration behind those that were there.
 pub struct TailFound {
-    pub tail: Tail,
     pub parts: Parts,
+    pub tail: Tail,
 }
 
 // A date expression and the lexemes taken.
@@ -67,8 +67,8 @@ pub enum ExprTaken {
 
 // A date expression, with the parts of its duration behind those that were there.
 pub struct ExprFound {
-    pub expr: ExprTaken,
     pub parts: Parts,
+    pub expr: ExprTaken,
 }
 
 // in <duration>, unless that is sub-daily

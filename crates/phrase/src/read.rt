@@ -15,11 +15,11 @@ ghost use Rattle.phrase.specs.Read.{refusedWith, readOf, phraseAnswer, p
 
 // Number 0: the lexemes taken and the reading. Else a refusal of 1 to 7, with its place and the end of its part.
 pub struct PhraseRead {
+    pub reading: Reading,
     pub number: u8,
     pub place: usize,
     pub end: usize,
     pub taken: usize,
-    pub reading: Reading,
 }
 
 // A refusal, with the reading that stands for none.
@@ -35,7 +35,8 @@ fn refuse(number: u8, place: usize, end: usize, none: Reading) -> PhraseRead
     }
 }
 
-// A phrase read: a reading, or a refusal of 1 to 7 in their order. What is left behind the reading is refusal 7, from its first byte to the end of the phrase.
+// A phrase read: a reading, or a refusal of 1 to 7 in their order. What is left behind the reading is refusal 7, from its first byte to the end
+// of the phrase.
 pub fn read(phrase: &[u8]) -> PhraseRead
     ensures { λ r. ⌜ r ≡ phraseAnswer (readOf keywords (now (phrase .entry))) ⌝ }
 {
@@ -47,12 +48,12 @@ pub fn read(phrase: &[u8]) -> PhraseRead
     }
     let n = line.count;
     let codes = line.codes;
-    let starts = line.starts;
     let x = read_date_time(&codes[..n], none);
     let taken = x.taken;
     match taken {
         Count::Is(t) => {
             if t < n {
+                let starts = line.starts;
                 return refuse(LEXEMES_LEFT, starts[t] as usize, phrase.len(), none);
             }
             let reading = x.reading;

@@ -23,19 +23,19 @@ use Rattle.phrase.proofs.read.read.Tie as tie
 
 -- there are as many codes as lexemes
 counted : (c : tie.After-codes2) →
-    let line = c .before .before .before .before .before .lex .result in
+    let line = c .before .before .before .before .lex .result in
     length (take (line .count) (line .codes)) ≡ line .count
 counted c =
-    let lex = c .before .before .before .before .before .lex in
+    let lex = c .before .before .before .before .lex in
     length-take-le (lex .result .count) (lex .result .codes) (omega arith)
 
 -- the phrase
 abbrev bytes : tie.After-read-date-time → List ℕ
-bytes d = now (d .before .before .before .before .before .before .before .before .before .args .phrase)
+bytes d = now (d .before .before .before .before .before .before .before .before .args .phrase)
 
 -- its lexemes in the code's arrays
 abbrev line : tie.After-read-date-time → Line
-line d = d .before .before .before .before .before .before .lex .result
+line d = d .before .before .before .before .before .lex .result
 
 -- what is read of them
 abbrev parsed : tie.After-read-date-time → Parsed DateTime
@@ -44,11 +44,11 @@ parsed d = dateTimeOf (take (line d .count) (line d .codes))
 -- and so of the phrase
 whole : (d : tie.After-read-date-time) →
     readCodes (parsed d) (line d .count) (line d .starts) (length (bytes d)) ≡ readOf keywords (bytes d)
-whole d = read-whole (bytes d) (d .before .before .before .before .before .before .lex .ensures .0) (d .before .before .before .before .if1 .left)
+whole d = read-whole (bytes d) (d .before .before .before .before .before .lex .ensures .0) (d .before .before .before .if1 .left)
 
 -- the reading that is handed on is that of nothing
-none-is : (d : tie.After-read-date-time) → d .before .before .before .before .before .before .before .empty .result ≡ blank
-none-is d = d .before .before .before .before .before .before .before .empty .ensures
+none-is : (d : tie.After-read-date-time) → d .before .before .before .before .before .before .empty .result ≡ blank
+none-is d = d .before .before .before .before .before .before .empty .ensures
 
 -- the code's answer, inside it
 answer : (d : tie.After-read-date-time) → d .read-date-time .result ≡ readingAnswer blank (parsed d)
@@ -80,7 +80,7 @@ slice-aggregate-read-date-time c = sym (counted c)
 read-date-time-requires : tie.Need-read-date-time-requires
 read-date-time-requires c κs =
     let n = counted c in
-    rw (c .before .before .before .before .before .before .empty .ensures) (record { parts = omega arith; links = omega arith })
+    rw (c .before .before .before .before .before .empty .ensures) (record { parts = omega arith; links = omega arith })
 
 enum-known-taken : tie.Need-enum-known-taken
 enum-known-taken c = search needs
@@ -96,11 +96,11 @@ refuse-requires-2 c κs = search needs
 
 returns-2 : tie.Need-returns-2
 returns-2 c =
-    let d = c .before .before .before .before .before in
-    let taken = c .before .before .before .taken in
+    let d = c .before .before .before .before .before .before in
+    let taken = c .before .before .before .before .taken in
     let said = tree-read blank (parsed d) (answer d) (taken .given .1) in
     refusal-answered (c .refuse2 .ensures) (none-is d) (
-    rw (said .reading, lt-ltb (taken .given .0 .0) (line d .count) (c .before .if2 .taken)) at (whole d)
+    rw (said .reading, lt-ltb (taken .given .0 .0) (line d .count) (c .before .before .if2 .taken)) at (whole d)
     )
 
 enum-told : tie.Need-enum-told
