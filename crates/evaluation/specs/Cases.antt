@@ -26,6 +26,7 @@ pub record Case : Type 0 where
   pub from : Moment
   pub answer : Outcome
 
+-- a row of the table
 abbrev pub row : (Moment → Outcome) → Moment → Outcome → Case
 row f t o = record { rule = f; from = t; answer = o }
 

@@ -1,5 +1,5 @@
-// Reads lines `YYYY-MM-DD HH:MM:SS|PHRASE` on standard input and writes for each the answer to the phrase at that now, the answer of what it is
-// made ready as, run at that now, and how many steps that has.
+// Reads lines `YYYY-MM-DD HH:MM:SS|PHRASE` on standard input and writes for each the answer to the phrase at that now, the answer of what
+// it is made ready as, run at that now, and how many steps that has.
 use answer::Answered;
 use answer::answer;
 use bytes::scan;

@@ -66,14 +66,16 @@ wordsOf (Years back k) = words 8 (direction back) k 0 0
 wordsOf (BackTo w) = words 9 0 w 0 0
 wordsOf (AtTime t) = timeWords t
 
--- the value of a number in a table, and another one where it has none
+-- a number and its value
 pub record Row (A : Type 0) : Type 0 where
   pub number : ℕ
   pub value : A
 
+-- a row of a table
 abbrev pub row : {A : Type 0} → ℕ → A → Row A
 row k x = record { number = k; value = x }
 
+-- the value of a number in a table, and another one where it has none
 abbrev pub look : {A : Type 0} → ℕ → List (Row A) → A → A
 look k [] none = none
 look k (r ∷ rs) none = cond (eqb k (r .number)) (r .value) (look k rs none)

@@ -27,7 +27,8 @@ fn write_answer(phrase: &[u8], now: [u32; 6]) {
     text(b"\n");
 }
 
-// `NOW|PHRASE`: only the first bar splits, and with no bar there is no phrase. Of a phrase 257 bytes are taken at most: more is refusal 1 anyway.
+// `NOW|PHRASE`: only the first bar splits, and with no bar there is no phrase. Of a phrase 257 bytes are taken at most: more is refusal 1
+// anyway.
 pub fn write_line(line: &[u8]) {
     let bar = scan::find(line, 0, line.len(), b'|');
     let mut phrase = [0u8; 257];

@@ -11,8 +11,8 @@ mod moment;
 mod now;
 mod read;
 
-// So many bytes of an unfinished line are kept: behind a now and its bar that is more than 256 bytes of a phrase, each in at most four, and so
-// refusal 1 whatever follows.
+// So many bytes of an unfinished line are kept: behind a now and its bar that is more than 256 bytes of a phrase, each in at most four,
+// and so refusal 1 whatever follows.
 const MOST: usize = 2048;
 
 // Reads behind the bytes that are kept; how many came, 0 at the end of the input.

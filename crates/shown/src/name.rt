@@ -17,7 +17,8 @@ use lexer::lexeme::THIS;
 use lexer::lexeme::WEEK;
 use lexer::lexeme::YEAR;
 
-// `enum Lexeme` but for Num, in the order of the codes, ten bytes each: nothing, one to nineteen, the tens, then from A on in the enum's order.
+// `enum Lexeme` but for Num, in the order of the codes, ten bytes each: nothing, one to nineteen, the tens, then from A on in the enum's
+// order.
 const NAMES: [u8; 890] = *b"\
     ?         One       Two       Three     Four      Five      Six       Seven     Eight     Nine      \
     Ten       Eleven    Twelve    Thirteen  Fourteen  Fifteen   Sixteen   Seventeen Eighteen  Nineteen  \
