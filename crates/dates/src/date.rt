@@ -14,6 +14,8 @@ use numbers::slices::rest;
 ghost use mathlib.Core.Path.{_≡_};
 ghost use Prim.Native.Nat.{_≤_};
 ghost use lib.ListN.{length};
+ghost use Rattle.numbers.specs.Answers.{Read};
+ghost use Rattle.numbers.specs.Numbers.{numOf};
 ghost use Rattle.dates.specs.Parsed.{Took, stopped, parsedNumber};
 ghost use Rattle.dates.specs.Dates.{namedDayOf, dayMonthYearOf, monthDayOf, isDelim, threeNumbersOf, twoNumbersOf, behindSecondOf, delimitedOf, dateOf, parsedDate};
 
@@ -65,12 +67,12 @@ fn read_named_day(l: &[u64]) -> DateFound
     DateFound::Nothing
 }
 
-// <num> <month> <num>
-fn read_day_month_year(l: &[u64]) -> DateFound
+// <num> <month> <num>, the number at the front being read.
+fn read_day_month_year(l: &[u64], a: Found) -> DateFound
+    requires { ⌜ (a ≡ numOf (now l)) × Read a 1 (length (now l)) ⌝ }
     ensures { λ r. ⌜ parsedDate r ≡ dayMonthYearOf (now (l .entry)) ⌝ }
     ensures { λ r. ⌜ Took (parsedDate r) 1 (length (now (l .entry))) ⌝ }
 {
-    let a = num(l);
     let Found::Is(day, t) = a else {
         return date_stopped(a);
     };
@@ -156,12 +158,12 @@ fn behind_second(l: &[u64], delim: u64, num1: u32, num2: u32, t: usize) -> DateF
     DateFound::Is(two_numbers(delim, num1, num2), t)
 }
 
-// <num> <delim> <num> [<delim> <num>]
-fn read_delimited(l: &[u64]) -> DateFound
+// <num> <delim> <num> [<delim> <num>], the number at the front being read.
+fn read_delimited(l: &[u64], a: Found) -> DateFound
+    requires { ⌜ (a ≡ numOf (now l)) × Read a 1 (length (now l)) ⌝ }
     ensures { λ r. ⌜ parsedDate r ≡ delimitedOf (now (l .entry)) ⌝ }
     ensures { λ r. ⌜ Took (parsedDate r) 1 (length (now (l .entry))) ⌝ }
 {
-    let a = num(l);
     let Found::Is(num1, t) = a else {
         return date_stopped(a);
     };
@@ -176,7 +178,7 @@ fn read_delimited(l: &[u64]) -> DateFound
     DateFound::Nothing
 }
 
-// Date::parse
+// Date::parse; the number at the front is read once for both alternatives that begin with it.
 pub fn read_date(l: &[u64]) -> DateFound
     ensures { λ r. ⌜ parsedDate r ≡ dateOf (now (l .entry)) ⌝ }
     ensures { λ r. ⌜ Took (parsedDate r) 1 (length (now (l .entry))) ⌝ }
@@ -185,12 +187,13 @@ pub fn read_date(l: &[u64]) -> DateFound
     let DateFound::Nothing = a else {
         return a;
     };
-    let b = read_day_month_year(l);
+    let first = num(l);
+    let b = read_day_month_year(l, first);
     let DateFound::Nothing = b else {
         return b;
     };
     let Found::Is(month, _) = read_month(l) else {
-        return read_delimited(l);
+        return read_delimited(l, first);
     };
     read_month_day(l, month)
 }

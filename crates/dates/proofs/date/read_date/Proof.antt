@@ -22,6 +22,9 @@ returns c =
     (rw (← (read-named-day .ensures .0)) (kept _ _ (date-arm (read-named-day .result) (c .match .keys2))))
     (date-took _)
 
+num-requires : tie.Need-num-requires
+num-requires c κs = search needs
+
 read-day-month-year-requires : tie.Need-read-day-month-year-requires
 read-day-month-year-requires c κs = search needs
 
@@ -31,8 +34,8 @@ enum-told-2 c = search needs
 returns-2 : tie.Need-returns-2
 unfolding dateOf
 returns-2 c =
-    let read-named-day = c .before .before .before .before .read-named-day in
-    let enum-told = c .before .before .enum-told in
+    let read-named-day = c .before .before .before .before .before .read-named-day in
+    let enum-told = c .before .before .before .enum-told in
     let read-day-month-year = c .before .read-day-month-year in
     promised
     (rw (← (read-named-day .ensures .0), enum-told .given .1, ← (read-day-month-year .ensures .0))
@@ -51,8 +54,8 @@ read-delimited-requires c κs = search needs
 returns-3 : tie.Need-returns-3
 unfolding dateOf
 returns-3 c =
-    let read-named-day = c .before .before .before .before .before .before .before .before .read-named-day in
-    let enum-told = c .before .before .before .before .before .before .enum-told in
+    let read-named-day = c .before .before .before .before .before .before .before .before .before .read-named-day in
+    let enum-told = c .before .before .before .before .before .before .before .enum-told in
     let read-day-month-year = c .before .before .before .before .before .read-day-month-year in
     let enum-told2 = c .before .before .before .enum-told2 in
     let read-month = c .before .before .read-month in
@@ -79,8 +82,8 @@ read-month-day-requires c κs =
 returns-4 : tie.Need-returns-4
 unfolding dateOf
 returns-4 c =
-    let read-named-day = c .before .before .before .before .before .before .before .before .before .before .read-named-day in
-    let enum-told = c .before .before .before .before .before .before .before .before .enum-told in
+    let read-named-day = c .before .before .before .before .before .before .before .before .before .before .before .read-named-day in
+    let enum-told = c .before .before .before .before .before .before .before .before .before .enum-told in
     let read-day-month-year = c .before .before .before .before .before .before .before .read-day-month-year in
     let enum-told2 = c .before .before .before .before .before .enum-told2 in
     let read-month = c .before .before .before .before .read-month in
@@ -104,6 +107,7 @@ read-date-spec =
     read-named-day-requires
     enum-told
     returns
+    num-requires
     read-day-month-year-requires
     enum-told-2
     returns-2

@@ -9,9 +9,6 @@ use borrow.Author.Needs.{needs}
 use Rattle.dates.proofs.date.read_day_month_year.Statement.{statement}
 use Rattle.dates.proofs.date.read_day_month_year.Tie as tie
 
-num-requires : tie.Need-num-requires
-num-requires c κs = search needs
-
 enum-known-a : tie.Need-enum-known-a
 enum-known-a c = search needs
 
@@ -21,17 +18,17 @@ date-stopped-requires c κs = search needs
 returns : tie.Need-returns
 unfolding dayMonthYearOf
 returns c =
-    let num = c .before .before .num in
+    let entry = c .before .before .before in
     let arm = c .before .match in
     promised
-    (rw (← (num .ensures .0)) (unread _ _ (number-arm (num .result) (arm .keys2)) (c .date-stopped .ensures)))
+    (rw (← (entry .pre .0)) (unread _ _ (number-arm (entry .args .a) (arm .keys2)) (c .date-stopped .ensures)))
     (day-month-year-took _)
 
 rest-requires : tie.Need-rest-requires
 rest-requires c κs =
-    let num = c .before .before .before .num in
+    let entry = c .before .before .before .before in
     let a = c .before .a in
-    let e = number-found (a .given .1) (num .ensures .1) in
+    let e = number-found (a .given .1) (entry .pre .1) in
     omega arith
 
 read-month-requires : tie.Need-read-month-requires
@@ -43,13 +40,13 @@ enum-known-month c = search needs
 returns-2 : tie.Need-returns-2
 unfolding dayMonthYearOf
 returns-2 c =
-    let num = c .before .before .before .before .before .before .num in
+    let entry = c .before .before .before .before .before .before .before in
     let a = c .before .before .before .before .a in
     let rest = c .before .before .rest in
     let read-month = c .before .read-month in
     promised
     (rw (
-      ← (num .ensures .0),
+      ← (entry .pre .0),
       a .given .1,
       ← (rest .ensures .0),
       ← (read-month .ensures .0),
@@ -59,22 +56,22 @@ returns-2 c =
 
 rest-requires-2 : tie.Need-rest-requires-2
 rest-requires-2 c κs =
-    let num = c .before .before .before .before .before .before .before .before .num in
+    let entry = c .before .before .before .before .before .before .before .before .before in
     let a = c .before .before .before .before .before .before .a in
     let read-month = c .before .before .before .read-month in
     let month = c .before .month in
-    let e = number-found (a .given .1) (num .ensures .1) in
+    let e = number-found (a .given .1) (entry .pre .1) in
     let f = found (ap parsedNumber (month .given .1)) (read-month .ensures .1) in
     omega arith
 
 add-rest : tie.Need-add-rest
 add-rest c =
-    let entry = c .before .before .before .before .before .before .before .before .before .before in
+    let entry = c .before .before .before .before .before .before .before .before .before in
     let room = rest-requires-2 c (entry .κs) in
     omega arith
 
-num-requires-2 : tie.Need-num-requires-2
-num-requires-2 c κs = search needs
+num-requires : tie.Need-num-requires
+num-requires c κs = search needs
 
 enum-known-b : tie.Need-enum-known-b
 enum-known-b c = search needs
@@ -85,25 +82,25 @@ date-stopped-requires-2 c κs = search needs
 returns-3 : tie.Need-returns-3
 unfolding dayMonthYearOf
 returns-3 c =
-    let num = c .before .before .before .before .before .before .before .before .before .before .before .before .num in
+    let entry = c .before .before .before .before .before .before .before .before .before .before .before .before .before in
     let a = c .before .before .before .before .before .before .before .before .before .before .a in
     let rest = c .before .before .before .before .before .before .before .before .rest in
     let read-month = c .before .before .before .before .before .before .before .read-month in
     let month = c .before .before .before .before .before .month in
     let rest2 = c .before .before .before .rest2 in
-    let num2 = c .before .before .num2 in
+    let num = c .before .before .num in
     let arm3 = c .before .match3 in
     promised
     (rw (
-      ← (num .ensures .0),
+      ← (entry .pre .0),
       a .given .1,
       ← (rest .ensures .0),
       ← (read-month .ensures .0),
       month .given .1,
       ← (rest2 .ensures .0),
-      ← (num2 .ensures .0),
+      ← (num .ensures .0),
     )
-    (unread _ _ (number-arm (num2 .result) (arm3 .keys2)) (c .date-stopped2 .ensures)))
+    (unread _ _ (number-arm (num .result) (arm3 .keys2)) (c .date-stopped2 .ensures)))
     (day-month-year-took _)
 
 add-t13 : tie.Need-add-t13
@@ -111,33 +108,33 @@ add-t13 c = search needs
 
 add-t15 : tie.Need-add-t15
 add-t15 c =
-    let entry = c .before .before .before .before .before .before .before .before .before .before .before .before .before .before .before in
+    let entry = c .before .before .before .before .before .before .before .before .before .before .before .before .before .before in
     let room = rest-requires-2 (c .before .before .before .before .before) (entry .κs) in
     let left = c .before .before .before .before .rest2 .ensures .1 in
-    let e = number-found (c .before .b .given .1) (c .before .before .before .num2 .ensures .1) in
+    let e = number-found (c .before .b .given .1) (c .before .before .before .num .ensures .1) in
     let whole = entry .good in
     omega arith
 
 returns-4 : tie.Need-returns-4
 unfolding dayMonthYearOf
 returns-4 c =
-    let num = c .before .before .before .before .before .before .before .before .before .before .before .before .before .num in
+    let entry = c .before .before .before .before .before .before .before .before .before .before .before .before .before .before in
     let a = c .before .before .before .before .before .before .before .before .before .before .before .a in
     let rest = c .before .before .before .before .before .before .before .before .before .rest in
     let read-month = c .before .before .before .before .before .before .before .before .read-month in
     let month = c .before .before .before .before .before .before .month in
     let rest2 = c .before .before .before .before .rest2 in
-    let num2 = c .before .before .before .num2 in
+    let num = c .before .before .before .num in
     let b = c .before .b in
     promised
     (rw (
-      ← (num .ensures .0),
+      ← (entry .pre .0),
       a .given .1,
       ← (rest .ensures .0),
       ← (read-month .ensures .0),
       month .given .1,
       ← (rest2 .ensures .0),
-      ← (num2 .ensures .0),
+      ← (num .ensures .0),
       b .given .1,
     ))
     (day-month-year-took _)
@@ -146,7 +143,6 @@ pub read-day-month-year-spec : {M : Type 1} → statement M
 read-day-month-year-spec =
     tie.close
     (tie.spec
-    num-requires
     enum-known-a
     date-stopped-requires
     returns
@@ -156,7 +152,7 @@ read-day-month-year-spec =
     returns-2
     add-rest
     rest-requires-2
-    num-requires-2
+    num-requires
     enum-known-b
     date-stopped-requires-2
     returns-3

@@ -7,9 +7,6 @@ use borrow.Author.Needs.{needs}
 use Rattle.dates.proofs.date.read_delimited.Statement.{statement}
 use Rattle.dates.proofs.date.read_delimited.Tie as tie
 
-num-requires : tie.Need-num-requires
-num-requires c κs = search needs
-
 enum-known-a : tie.Need-enum-known-a
 enum-known-a c = search needs
 
@@ -19,10 +16,10 @@ date-stopped-requires c κs = search needs
 returns : tie.Need-returns
 unfolding delimitedOf
 returns c =
-    let num = c .before .before .num in
+    let entry = c .before .before .before in
     let arm = c .before .match in
     promised
-    (rw (← (num .ensures .0)) (unread _ _ (number-arm (num .result) (arm .keys2)) (c .date-stopped .ensures)))
+    (rw (← (entry .pre .0)) (unread _ _ (number-arm (entry .args .a) (arm .keys2)) (c .date-stopped .ensures)))
     (delimited-took _)
 
 get-requires : tie.Need-get-requires
@@ -40,12 +37,12 @@ rest-requires c κs =
 
 add-rest : tie.Need-add-rest
 add-rest c =
-    let entry = c .before .before .before .before .before .before .before .before in
+    let entry = c .before .before .before .before .before .before .before in
     let room = rest-requires c (entry .κs) in
     omega arith
 
-num-requires-2 : tie.Need-num-requires-2
-num-requires-2 c κs = search needs
+num-requires : tie.Need-num-requires
+num-requires c κs = search needs
 
 enum-known-b : tie.Need-enum-known-b
 enum-known-b c = search needs
@@ -56,25 +53,25 @@ date-stopped-requires-2 c κs = search needs
 returns-2 : tie.Need-returns-2
 unfolding delimitedOf
 returns-2 c =
-    let num = c .before .before .before .before .before .before .before .before .before .before .num in
+    let entry = c .before .before .before .before .before .before .before .before .before .before .before in
     let a = c .before .before .before .before .before .before .before .before .a in
     let get = c .before .before .before .before .before .before .get in
     let is-delim = c .before .before .before .before .before .is-delim in
     let if1 = c .before .before .before .before .if1 in
     let rest = c .before .before .before .rest in
-    let num2 = c .before .before .num2 in
+    let num = c .before .before .num in
     let arm2 = c .before .match2 in
     promised
     (rw (
-      ← (num .ensures .0),
+      ← (entry .pre .0),
       a .given .1,
       ← (get .ensures .0),
       ← (is-delim .ensures),
       if1 .taken,
       ← (rest .ensures .0),
-      ← (num2 .ensures .0),
+      ← (num .ensures .0),
     )
-    (unread _ _ (number-arm (num2 .result) (arm2 .keys2)) (c .date-stopped2 .ensures)))
+    (unread _ _ (number-arm (num .result) (arm2 .keys2)) (c .date-stopped2 .ensures)))
     (delimited-took _)
 
 add-behind-second : tie.Need-add-behind-second
@@ -82,37 +79,37 @@ add-behind-second c = search needs
 
 behind-second-requires : tie.Need-behind-second-requires
 behind-second-requires c κs =
-    let num2 = c .before .before .before .num2 in
+    let num = c .before .before .before .num in
     let b = c .before .b in
-    let e = number-found (b .given .1) (num2 .ensures .1) in
+    let e = number-found (b .given .1) (num .ensures .1) in
     omega arith
 
 add-behind-second-2 : tie.Need-add-behind-second-2
 add-behind-second-2 c =
-    let entry = c .before .before .before .before .before .before .before .before .before .before .before .before .before in
+    let entry = c .before .before .before .before .before .before .before .before .before .before .before .before in
     let room = behind-second-requires c (entry .κs) in
     omega arith
 
 returns-3 : tie.Need-returns-3
 unfolding delimitedOf
 returns-3 c =
-    let num = c .before .before .before .before .before .before .before .before .before .before .before .before .num in
+    let entry = c .before .before .before .before .before .before .before .before .before .before .before .before .before in
     let a = c .before .before .before .before .before .before .before .before .before .before .a in
     let get = c .before .before .before .before .before .before .before .before .get in
     let is-delim = c .before .before .before .before .before .before .before .is-delim in
     let if1 = c .before .before .before .before .before .before .if1 in
     let rest = c .before .before .before .before .before .rest in
-    let num2 = c .before .before .before .before .num2 in
+    let num = c .before .before .before .before .num in
     let b = c .before .before .b in
     promised
     (rw (
-      ← (num .ensures .0),
+      ← (entry .pre .0),
       a .given .1,
       ← (get .ensures .0),
       ← (is-delim .ensures),
       if1 .taken,
       ← (rest .ensures .0),
-      ← (num2 .ensures .0),
+      ← (num .ensures .0),
       b .given .1,
       ← (c .behind-second .ensures .0),
     ))
@@ -121,17 +118,16 @@ returns-3 c =
 returns-4 : tie.Need-returns-4
 unfolding delimitedOf
 returns-4 c =
-    let num = c .before .before .before .before .before .before .num in
+    let entry = c .before .before .before .before .before .before .before in
     let a = c .before .before .before .before .a in
     let get = c .before .before .get in
     let is-delim = c .before .is-delim in
-    promised (rw (← (num .ensures .0), a .given .1, ← (get .ensures .0), ← (is-delim .ensures), c .if1 .left)) (delimited-took _)
+    promised (rw (← (entry .pre .0), a .given .1, ← (get .ensures .0), ← (is-delim .ensures), c .if1 .left)) (delimited-took _)
 
 pub read-delimited-spec : {M : Type 1} → statement M
 read-delimited-spec =
     tie.close
     (tie.spec
-    num-requires
     enum-known-a
     date-stopped-requires
     returns
@@ -139,7 +135,7 @@ read-delimited-spec =
     is-delim-requires
     add-rest
     rest-requires
-    num-requires-2
+    num-requires
     enum-known-b
     date-stopped-requires-2
     returns-2
