@@ -9,9 +9,10 @@ use lib.ListN.{length, drop, length-drop}
 use borrow.Author.Tests.{eqb-true}
 use Rattle.lexer.specs.Lexemes as lexeme
 use Rattle.numbers.specs.Slices.{get, isAt, within, oneIf}
-use Rattle.numbers.specs.Numbers.{numOf}
+use Rattle.numbers.specs.Numbers.{beginsNumber, numOf}
 use Rattle.numbers.proofs.Places.{within-bounds, at-most, there}
 use Rattle.numbers.proofs.Bounds.{num-read}
+use Rattle.numbers.proofs.Begins.{no-num}
 use Rattle.dates.specs.Parsed.{Parsed, nothing, parsedNumber, Took}
 use Rattle.dates.specs.Units.{isArticle, unitOf, monthOf, weekdayOf, relativeSpecifierOf}
 use Rattle.dates.specs.Dates.{namedDayOf, dayMonthYearOf, monthDayOf, isDelim, behindSecondOf, delimitedOf, dateOf}
@@ -116,6 +117,12 @@ time-took l =
     one-took (isAt l 0 lexeme.Midnight) _ _ (there (at-most l 0 lexeme.Midnight))
     (one-took (isAt l 0 lexeme.Noon) _ _ (there (at-most l 0 lexeme.Noon))
     (clock-took l))
+
+-- where no lexeme is left, no time is read
+pub time-none : (l : List ℕ) → length l ≡ 0 → timeOf l ≡ nothing
+unfolding get isAt within beginsNumber clockOf timeOf
+time-none [] h = rw (no-num [] refl)
+time-none (x ∷ xs) h = absurd (omega arith)
 
 -- a month is never an overflow
 pub month-none : (l : List ℕ) {p : Parsed ℕ} → p ≡ monthOf l → Arm (1 ∷ 2 ∷ []) p → p ≡ nothing

@@ -91,11 +91,14 @@ fn read_clock(l: &[u64]) -> TimeFound
     read_half(l, hour, minute, t + u)
 }
 
-// Time::parse
+// Time::parse; nothing is tried where no lexeme is left.
 pub fn read_time(l: &[u64]) -> TimeFound
     ensures { λ r. ⌜ parsedTime r ≡ timeOf (now (l .entry)) ⌝ }
     ensures { λ r. ⌜ Took (parsedTime r) 1 (length (now (l .entry))) ⌝ }
 {
+    if l.len() == 0 {
+        return TimeFound::Nothing;
+    }
     if is_at(l, 0, MIDNIGHT) {
         return TimeFound::Is(Time::HourMin(0, 0), 1);
     }

@@ -1,49 +1,53 @@
 use Rattle.dates.specs.Times.{timeOf}
 use Rattle.dates.proofs.Laws.{promised}
-use Rattle.dates.proofs.Bounds.{time-took}
+use Rattle.dates.proofs.Bounds.{time-took, time-none}
 use borrow.Author.Needs.{needs}
 use Rattle.dates.proofs.time.read_time.Statement.{statement}
 use Rattle.dates.proofs.time.read_time.Tie as tie
 
+returns : tie.Need-returns
+returns c = promised (rw (time-none _ (c .if1 .taken))) (time-took _)
+
 is-at-requires : tie.Need-is-at-requires
 is-at-requires c κs = search needs
-
-returns : tie.Need-returns
-unfolding timeOf
-returns c =
-    let is-at = c .before .is-at in
-    promised (rw (← (is-at .ensures .0), c .if1 .taken)) (time-took _)
-
-is-at-requires-2 : tie.Need-is-at-requires-2
-is-at-requires-2 c κs = search needs
 
 returns-2 : tie.Need-returns-2
 unfolding timeOf
 returns-2 c =
-    let is-at = c .before .before .before .is-at in
-    let if1 = c .before .before .if1 in
-    let is-at2 = c .before .is-at2 in
-    promised (rw (← (is-at .ensures .0), if1 .left, ← (is-at2 .ensures .0), c .if2 .taken)) (time-took _)
+    let is-at = c .before .is-at in
+    promised (rw (← (is-at .ensures .0), c .if2 .taken)) (time-took _)
 
-read-clock-requires : tie.Need-read-clock-requires
-read-clock-requires c κs = search needs
+is-at-requires-2 : tie.Need-is-at-requires-2
+is-at-requires-2 c κs = search needs
 
 returns-3 : tie.Need-returns-3
 unfolding timeOf
 returns-3 c =
+    let is-at = c .before .before .before .is-at in
+    let if2 = c .before .before .if2 in
+    let is-at2 = c .before .is-at2 in
+    promised (rw (← (is-at .ensures .0), if2 .left, ← (is-at2 .ensures .0), c .if3 .taken)) (time-took _)
+
+read-clock-requires : tie.Need-read-clock-requires
+read-clock-requires c κs = search needs
+
+returns-4 : tie.Need-returns-4
+unfolding timeOf
+returns-4 c =
     let is-at = c .before .before .before .before .is-at in
-    let if1 = c .before .before .before .if1 in
+    let if2 = c .before .before .before .if2 in
     let is-at2 = c .before .before .is-at2 in
-    let if2 = c .before .if2 in
-    promised (rw (← (is-at .ensures .0), if1 .left, ← (is-at2 .ensures .0), if2 .left, ← (c .read-clock .ensures .0))) (time-took _)
+    let if3 = c .before .if3 in
+    promised (rw (← (is-at .ensures .0), if2 .left, ← (is-at2 .ensures .0), if3 .left, ← (c .read-clock .ensures .0))) (time-took _)
 
 pub read-time-spec : {M : Type 1} → statement M
 read-time-spec =
     tie.close
     (tie.spec
-    is-at-requires
     returns
-    is-at-requires-2
+    is-at-requires
     returns-2
+    is-at-requires-2
+    returns-3
     read-clock-requires
-    returns-3)
+    returns-4)
