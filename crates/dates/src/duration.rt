@@ -47,10 +47,10 @@ pub enum Taken {
     Overflow,
 }
 
-// What a duration takes, and its parts behind those that were there.
+// What a duration takes, and its parts behind those that were there; they stand first, so that the row is copied in one go.
 pub struct DurationFound {
-    pub taken: Taken,
     pub parts: Parts,
+    pub taken: Taken,
 }
 
 // Duration::is_sub_daily, of a unit
