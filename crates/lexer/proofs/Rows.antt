@@ -8,6 +8,7 @@ use Rattle.lexer.specs.Keywords.{keywords}
 use Rattle.lexer.specs.Table.{sorted, cells, spellingAt, lexemeAt, firstRow}
 use Rattle.lexer.proofs.Cells.{short, length-most, byte-cell, length-cell, lexeme-cell}
 use Rattle.lexer.proofs.Halves.{increasing}
+use Rattle.lexer.proofs.Starts.{begins-from}
 
 -- there are 133 rows
 pub rows-count : length (sorted keywords) ≡ 133
@@ -37,6 +38,10 @@ rows-end = refl
 module _ (i : ℕ) (h : i < 133) where
   pub in-table : i < length (sorted keywords)
   in-table = omega (arith, rows-count)
+
+  -- its word begins with a letter
+  pub row-letter : 97 ≤ getD (spellingAt (sorted keywords) i) 0 0
+  row-letter = begins-from (sorted keywords) rows-increasing 97 i (omega (arith, rows-from)) in-table
 
   pub row-most : length (spellingAt (sorted keywords) i) ≤ 12
   row-most = length-most (sorted keywords) rows-short i in-table

@@ -1,5 +1,5 @@
--- Where the rows of one first byte stand in a table: those in front are less than a word that begins with it, those behind are more.
--- Assumes nothing.
+-- Where the rows of one first byte stand in a table: those in front are less than a word that begins with it, those behind are more,
+-- and each row between begins with it. Assumes nothing.
 use mathlib.Core.Path.{_≡_, refl}
 use mathlib.Core.Bool.{Bool, true, false, cond}
 use mathlib.Core.List.{List, [], _∷_}
@@ -7,12 +7,12 @@ use Prim.Native.Nat.{ℕ, zero, suc, _+_, _≤_, _<_, zero-le}
 use native.Mathlib.Nat.{not-suc-le-zero, le-of-suc-le-suc}
 use native.Mathlib.Omega.{arith}
 use lib.Dec.{T, ltb}
-use lib.ListN.{length, getD}
+use lib.ListN.{length, getD, drop}
 use borrow.Author.Tests.{lt-ltb, ltb-true, ltb-false}
 use Rattle.lexer.specs.Words.{Word, ordered}
 use Rattle.lexer.specs.Table.{spellingAt, firstRow}
 use Rattle.lexer.specs.declared.find.Order.the-variants.{Less, More}
-use Rattle.lexer.proofs.Order.{counted, head-less, head-more}
+use Rattle.lexer.proofs.Order.{counted, head-less, head-more, head-same, more-less, clash}
 use Rattle.lexer.proofs.Halves.{increasing, all-more}
 
 -- a row's first byte, 0 if it has none
@@ -63,13 +63,35 @@ begins-more [] f h = absurd (not-suc-le-zero h)
 begins-more (x ∷ xs) [] h = refl
 begins-more (x ∷ xs) (y ∷ ys) h = head-more x y xs ys h
 
+pub begins-same : (s f : List ℕ) → 0 < getD s 0 0 → getD s 0 0 ≡ getD f 0 0 → ordered s f ≡ ordered (drop 1 s) (drop 1 f)
+begins-same [] f n e = absurd (not-suc-le-zero n)
+begins-same (x ∷ xs) [] n e = absurd (omega arith)
+begins-same (x ∷ xs) (y ∷ ys) n e = head-same x y xs ys e
+
+-- row k of an increasing table, from the first row of b on
+module _ (ws : List Word) (t : T (increasing ws)) (b k : ℕ) (h : firstRow ws b ≤ k) where
+  -- it begins with b or above
+  pub begins-from : k < length ws → b ≤ getD (spellingAt ws k) 0 0
+  begins-from l = go (ltb (getD (spellingAt ws k) 0 0) b) refl
+    where
+      go : (u : Bool) → ltb (getD (spellingAt ws k) 0 0) b ≡ u → b ≤ getD (spellingAt ws k) 0 0
+      go true e =
+          let s = spellingAt ws k in
+          let m = firstRow ws b in
+          let inside : m < length ws = omega arith in
+          let below : getD s 0 0 < getD (spellingAt ws m) 0 0 = omega (arith, behind ws b inside, ltb-true (getD s 0 0) b e) in
+          let more : ordered s s ≡ More = all-more ws t s m inside (begins-more (spellingAt ws m) s below) k h l in
+          clash more (more-less s s more) tt
+      go false e = ltb-false (getD (spellingAt ws k) 0 0) b e
+
+  -- in front of the next byte's first row it begins with b
+  pub begins-with : k < firstRow ws (b + 1) → getD (spellingAt ws k) 0 0 ≡ b
+  begins-with l = omega (arith, front ws (b + 1) k l, begins-from (omega (arith, first-row-most ws (b + 1))))
+
 -- the rows beside the word f that is looked up
 module _ (ws : List Word) (f : List ℕ) where
   pub starts-less : 0 < length f → (k : ℕ) → k < firstRow ws (getD f 0 0) → ordered (spellingAt ws k) f ≡ Less
   starts-less n k h = begins-less (spellingAt ws k) f n (front ws (getD f 0 0) k h)
 
   pub starts-more : T (increasing ws) → (k : ℕ) → firstRow ws (getD f 0 0 + 1) ≤ k → k < length ws → ordered (spellingAt ws k) f ≡ More
-  starts-more t k h l =
-      let m = firstRow ws (getD f 0 0 + 1) in
-      let inside : m < length ws = omega arith in
-      all-more ws t f m inside (begins-more (spellingAt ws m) f (omega (arith, behind ws (getD f 0 0 + 1) inside))) k h l
+  starts-more t k h l = begins-more (spellingAt ws k) f (omega (arith, begins-from ws t (getD f 0 0 + 1) k h l))

@@ -4,6 +4,7 @@ use super::table::length_of;
 use super::table::lexeme_of;
 ghost use mathlib.Core.Path.{_≡_};
 ghost use Prim.Native.Nat.{_<_};
+ghost use lib.ListN.{getD};
 ghost use Rattle.lexer.specs.Keywords.{keywords};
 ghost use Rattle.lexer.specs.Words.{ordered, meaning, lowerOf, folded};
 ghost use Rattle.lexer.specs.Table.{sorted, cells, spellingAt, firstRow};
@@ -33,13 +34,13 @@ fn lower(b: u8) -> u8
     b
 }
 
-// The order of row i's word and the word that is looked up.
+// The order of row i's word and the word that is looked up. Their first bytes are the same: it begins behind them.
 fn compare(words: &[u8; 1862], i: usize, w: &[u8]) -> Order
-    requires { ⌜ (now words ≡ cells (sorted keywords)) × (i < 133) ⌝ }
+    requires { ⌜ (now words ≡ cells (sorted keywords)) × (i < 133) × (getD (spellingAt (sorted keywords) i) 0 0 ≡ getD (folded (now w)) 0 0) ⌝ }
     ensures { λ r. ⌜ r ≡ ordered (spellingAt (sorted keywords) i) (folded (now (w .entry))) ⌝ }
 {
     let n = length_of(words, i);
-    let mut j: usize = 0;
+    let mut j: usize = 1;
     while j < n {
         if w.len() <= j {
             return Order::More;

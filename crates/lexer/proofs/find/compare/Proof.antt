@@ -1,7 +1,8 @@
--- `lexer::find::compare` meets its contract. The loop's invariant: the first j bytes are the same, so the rests decide. Assumes nothing.
-use mathlib.Core.Path.{_≡_, refl, sym, _∙_}
+-- `lexer::find::compare` meets its contract. The loop's invariant: the first j bytes are the same, so the rests decide;
+-- it begins with j = 1. Assumes nothing.
+use mathlib.Core.Path.{_≡_, sym, _∙_}
 use mathlib.Core.List.{List, _∷_}
-use Prim.Native.Nat.{ℕ, _+_, _-_, _≤_}
+use Prim.Native.Nat.{ℕ, _+_, _-_}
 use native.Mathlib.Omega.{arith}
 use borrow.Author.Needs.{needs}
 use lib.ListN.{length, drop, length-map, List·getD-map}
@@ -9,12 +10,14 @@ use Rattle.lexer.specs.Keywords.{keywords}
 use Rattle.lexer.specs.Words.{ordered, lowerOf, folded}
 use Rattle.lexer.specs.Table.{sorted, spellingAt}
 use Rattle.lexer.proofs.Order.{opened, head-less, head-more, head-same, end-more, end-less, end-same}
+use Rattle.lexer.proofs.Starts.{begins-same}
+use Rattle.lexer.proofs.Rows.{row-letter}
 use Rattle.lexer.proofs.find.compare.Statement.{statement}
 use Rattle.lexer.proofs.find.compare.Tie as tie
 
 abbrev Inv-loop : tie.InvT-loop
-Inv-loop words i w n j₀ j = (j ≤ n) × (j ≤ length w)
-    × (ordered (spellingAt (sorted keywords) i) (folded w) ≡ ordered (drop j (spellingAt (sorted keywords) i)) (drop j (folded w)))
+Inv-loop words i w n j₀ j =
+    ordered (spellingAt (sorted keywords) i) (folded w) ≡ ordered (drop j (spellingAt (sorted keywords) i)) (drop j (folded w))
 
 abbrev μ-loop : tie.MeasureT-loop
 μ-loop words i w n j₀ j = n - j
@@ -50,7 +53,7 @@ module _ (c : tie.After-lower Inv-loop μ-loop) where
   compared =
       let w = at .before .before .before .args .w .now in
       let j = at .loop .j in
-      at .loop .inv .2
+      at .loop .inv
       ∙ opened (row at) (looked at) j a b (omega arith) (omega (arith, looked-length at))
       (c .before .before .byte-of .ensures) (c .lower .ensures ∙ sym (List·getD-map lowerOf w j 0))
 
@@ -58,12 +61,15 @@ length-of-requires : tie.Need-length-of-requires Inv-loop μ-loop
 length-of-requires c κs = search needs
 
 loop-holds : tie.Need-loop-holds Inv-loop μ-loop
-loop-holds c = (omega arith, omega arith, refl)
+loop-holds c =
+    let s = c .before .before in
+    let i = s .args .i in
+    begins-same (spellingAt (sorted keywords) i) (folded (s .args .w .now)) (omega (arith, row-letter i (s .pre .1))) (s .pre .2)
 
 returns : tie.Need-returns Inv-loop μ-loop
 returns c =
     let at = c .before .before in
-    sym (at .loop .inv .2 ∙ end-more (row at) (looked at) (at .loop .j) (omega arith) (omega (arith, looked-length at)))
+    sym (at .loop .inv ∙ end-more (row at) (looked at) (at .loop .j) (omega arith) (omega (arith, looked-length at)))
 
 byte-of-requires : tie.Need-byte-of-requires Inv-loop μ-loop
 byte-of-requires c κs = (c .before .before .before .before .before .pre .0, omega arith, omega arith)
@@ -89,17 +95,17 @@ loop-less c = omega arith
 loop-again : tie.Need-loop-again Inv-loop μ-loop
 loop-again c =
     let d = c .before .before in
-    (omega arith, omega arith, compared d ∙ head-same (a d) (b d) (row-rest d) (looked-rest d) (omega arith))
+    compared d ∙ head-same (a d) (b d) (row-rest d) (looked-rest d) (omega arith)
 
 returns-4 : tie.Need-returns-4 Inv-loop μ-loop
 returns-4 c =
     let at = c .before .before in
-    sym (at .loop .inv .2 ∙ end-less (row at) (looked at) (at .loop .j) (omega arith) (omega (arith, looked-length at)))
+    sym (at .loop .inv ∙ end-less (row at) (looked at) (at .loop .j) (omega arith) (omega (arith, looked-length at)))
 
 returns-5 : tie.Need-returns-5 Inv-loop μ-loop
 returns-5 c =
     let at = c .before .before in
-    sym (at .loop .inv .2 ∙ end-same (row at) (looked at) (at .loop .j) (omega arith) (omega (arith, looked-length at)))
+    sym (at .loop .inv ∙ end-same (row at) (looked at) (at .loop .j) (omega arith) (omega (arith, looked-length at)))
 
 pub compare-spec : {M : Type 1} → statement M
 compare-spec =

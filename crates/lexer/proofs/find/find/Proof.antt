@@ -1,5 +1,5 @@
--- `lexer::find::find` meets its contract. The loop's invariant: each row before `lo` is less than the word, each from `hi` on is more.
--- Assumes nothing.
+-- `lexer::find::find` meets its contract. The loop's invariant: each row before `lo` is less than the word, each from `hi` on is more,
+-- and each between begins with the word's first letter. Assumes nothing.
 use mathlib.Core.Path.{_≡_, sym, ap, _∙_}
 use mathlib.Core.List.{List, []}
 use Prim.Native.Nat.{ℕ, _+_, _-_, _/_, _≤_, _<_}
@@ -14,7 +14,7 @@ use Rattle.lexer.specs.declared.find.Found.the-variants.{Lexeme}
 use Rattle.lexer.proofs.Order.{Tri, below, equal, above, tri, clash}
 use Rattle.lexer.proofs.Sorting.{meaning-sorted}
 use Rattle.lexer.proofs.Halves.{all-less, all-more, none-before, absent, present}
-use Rattle.lexer.proofs.Starts.{first-row-most, starts-less, starts-more}
+use Rattle.lexer.proofs.Starts.{first-row-most, begins-with, starts-less, starts-more}
 use Rattle.lexer.proofs.Rows.{rows-count, rows-increasing, in-table}
 use Rattle.lexer.proofs.find.find.Statement.{statement}
 use Rattle.lexer.proofs.find.find.Tie as tie
@@ -28,7 +28,7 @@ abbrev Above : List ℕ → ℕ → Type 0
 Above w hi = (k : ℕ) → hi ≤ k → k < length (sorted keywords) → ordered (spellingAt (sorted keywords) k) (folded w) ≡ More
 
 abbrev Inv-loop : tie.InvT-loop
-Inv-loop words w b lo₀ hi₀ lo hi = (hi ≤ 133) × Below w lo × Above w hi
+Inv-loop words w b lo₀ hi₀ lo hi = (lo₀ ≤ lo) × (hi ≤ hi₀) × (hi ≤ 133) × Below w lo × Above w hi
 
 abbrev μ-loop : tie.MeasureT-loop
 μ-loop words w b lo₀ hi₀ lo hi = hi - lo
@@ -47,10 +47,14 @@ none-left w lo hi l low high k h = go (tri k lo)
 abbrev start : tie.At-loop Inv-loop μ-loop → tie.Start Inv-loop μ-loop
 start at = at .before .before .before .before .before .before .before
 
+-- the word's first byte
+first-folded : (c : tie.After-lower Inv-loop μ-loop) → c .lower .result ≡ getD (folded (c .before .before .before .before .args .w .now)) 0 0
+first-folded c = c .lower .ensures ∙ sym (List·getD-map lowerOf (c .before .before .before .before .args .w .now) 0 0)
+
 -- the middle row beside the word
-module _ (c : tie.After-compare Inv-loop μ-loop) where
+module _ (c : tie.In-loop Inv-loop μ-loop) where
   abbrev at : tie.At-loop Inv-loop μ-loop
-  at = c .before .before
+  at = c .before
 
   abbrev looked : List ℕ
   looked = folded (start at .args .w .now)
@@ -60,6 +64,14 @@ module _ (c : tie.After-compare Inv-loop μ-loop) where
 
   mid-in : mid < length (sorted keywords)
   mid-in = in-table mid (omega arith)
+
+  mid-begins : getD (spellingAt (sorted keywords) mid) 0 0 ≡ getD looked 0 0
+  mid-begins =
+      let hi = at .before in
+      let lo = hi .before in
+      begins-with (sorted keywords) rows-increasing (lo .before .lower .result) mid
+      (omega (arith, lo .first-row .ensures)) (omega (arith, hi .first-row2 .ensures))
+      ∙ first-folded (lo .before)
 
 returns : tie.Need-returns Inv-loop μ-loop
 unfolding keywords
@@ -90,7 +102,9 @@ loop-holds : tie.Need-loop-holds Inv-loop μ-loop
 loop-holds c =
     let d = c .before .before in
     let w = d .before .before .before .before .args .w .now in
-    let b : d .lower .result ≡ getD (folded w) 0 0 = d .lower .ensures ∙ sym (List·getD-map lowerOf w 0 0) in (
+    let b = first-folded d in (
+      omega arith,
+      omega arith,
       omega (arith, c .first-row2 .ensures, first-row-most (sorted keywords) (d .lower .result + 1), rows-count),
       (λ k h. starts-less (sorted keywords) (folded w) (omega (arith, length-map w lowerOf)) k (rw (← b, ← (c .before .first-row .ensures)) h)),
       (λ k h l. starts-more (sorted keywords) (folded w) rows-increasing k (rw (← b, ← (c .first-row2 .ensures)) h) l),
@@ -106,7 +120,7 @@ add-mid : tie.Need-add-mid Inv-loop μ-loop
 add-mid c = omega arith
 
 compare-requires : tie.Need-compare-requires Inv-loop μ-loop
-compare-requires c κs = (start (c .before) .pre, omega arith)
+compare-requires c κs = (start (at c) .pre, omega arith, mid-begins c)
 
 enum-told : tie.Need-enum-told Inv-loop μ-loop
 enum-told c = search needs
@@ -119,10 +133,13 @@ loop-less c = omega arith
 
 loop-again : tie.Need-loop-again Inv-loop μ-loop
 loop-again c =
-    let d = c .before .before in (
+    let compared = c .before .before in
+    let d = compared .before in (
       omega arith,
-      all-less (sorted keywords) rows-increasing (looked d) (mid d) (mid-in d) (sym (d .compare .ensures) ∙ c .enum-told .given .1),
-      at d .loop .inv .2,
+      omega arith,
+      omega arith,
+      all-less (sorted keywords) rows-increasing (looked d) (mid d) (mid-in d) (sym (compared .compare .ensures) ∙ c .enum-told .given .1),
+      at d .loop .inv .4,
     )
 
 enum-told-2 : tie.Need-enum-told-2 Inv-loop μ-loop
@@ -133,9 +150,10 @@ lexeme-of-requires c κs = (start (c .before .before .before .before) .pre, omeg
 
 returns-2 : tie.Need-returns-2 Inv-loop μ-loop
 returns-2 c =
-    let d = c .before .before .before in
+    let compared = c .before .before .before in
+    let d = compared .before in
     let e : ordered (spellingAt (sorted keywords) (mid d)) (looked d) ≡ Same =
-    sym (d .compare .ensures) ∙ c .before .enum-told2 .given .1 in
+    sym (compared .compare .ensures) ∙ c .before .enum-told2 .given .1 in
     let none = none-before (sorted keywords) rows-increasing (looked d) (mid d) (mid-in d) e in
     ap Lexeme (c .lexeme-of .ensures)
     ∙ sym (present (sorted keywords) (looked d) (mid d) (mid-in d) none e)
@@ -149,17 +167,20 @@ loop-less-2 c = omega arith
 
 loop-again-2 : tie.Need-loop-again-2 Inv-loop μ-loop
 loop-again-2 c =
-    let d = c .before .before in (
+    let compared = c .before .before in
+    let d = compared .before in (
       omega arith,
-      at d .loop .inv .1,
-      all-more (sorted keywords) rows-increasing (looked d) (mid d) (mid-in d) (sym (d .compare .ensures) ∙ c .enum-told3 .given .1),
+      omega arith,
+      omega arith,
+      at d .loop .inv .3,
+      all-more (sorted keywords) rows-increasing (looked d) (mid d) (mid-in d) (sym (compared .compare .ensures) ∙ c .enum-told3 .given .1),
     )
 
 returns-3 : tie.Need-returns-3 Inv-loop μ-loop
 returns-3 c =
     let l = c .before .loop in
     let w = start (c .before) .args .w .now in
-    sym (absent (sorted keywords) (folded w) (none-left w (l .lo) (l .hi) (c .loop-test .left) (l .inv .1) (l .inv .2)))
+    sym (absent (sorted keywords) (folded w) (none-left w (l .lo) (l .hi) (c .loop-test .left) (l .inv .3) (l .inv .4)))
     ∙ meaning-sorted keywords (folded w)
 
 pub find-spec : {M : Type 1} → statement M
