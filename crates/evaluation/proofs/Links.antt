@@ -1,4 +1,4 @@
--- How `evaluate` walks the links of a flat reading, from the last to the first; a refusal on the way stays.
+-- The links of a flat reading are walked from the last to the first, whatever is carried along: a moment or a refusal, steps, a count.
 use Prim.Native.Nat.{ℕ, zero, suc, _-_, _≤_, _<_}
 use native.Mathlib.Omega.{arith}
 use mathlib.Core.Path.{_≡_, refl, ap, _∙_}
@@ -18,60 +18,66 @@ use Rattle.evaluation.specs.Steps.{durationStep}
 use Rattle.evaluation.specs.Evaluate.{evaluate}
 use Rattle.evaluation.specs.Formed.{baseOf}
 
--- the step of a link
-abbrev pub linkStep : List Slot → Link → Moment → Outcome
-linkStep items k t = durationStep (k .back) (rowDuration (slice (k .from) (k .to) items)) t
+-- link i, and its duration
+abbrev pub linkAt : Reading → ℕ → Link
+linkAt r i = getD (r .links) i blankLink
 
--- the steps of links, the last one first, from where a base has led
-abbrev walk : List Slot → List Link → Outcome → Outcome
-walk items [] o = o
-walk items (k ∷ ks) o = andThen (walk items ks o) (linkStep items k)
+abbrev pub lasting : Reading → ℕ → Duration
+lasting r i = rowDuration (slice (linkAt r i .from) (linkAt r i .to) (r .parts .items))
+
+-- what a duration, back or on, makes of what is carried along
+module _ {X : Type 0} (by : Bool → Duration → X → X) where
+  abbrev walk : List Slot → List Link → X → X
+  walk items [] x = x
+  walk items (k ∷ ks) x = by (k .back) (rowDuration (slice (k .from) (k .to) items)) (walk items ks x)
+
+  -- what the links from i on make of it
+  abbrev pub linksAt : Reading → ℕ → X → X
+  linksAt r i x = walk (r .parts .items) (slice i (r .m) (r .links)) x
+
+  -- no link yet
+  pub no-link : (r : Reading) (x : X) → linksAt r (r .m) x ≡ x
+  no-link r x = rw (slice-empty (r .m) (r .links))
+
+  module _ (r : Reading) (x : X) (most : r .m ≤ length (r .links)) where
+    pub next-link : (i : ℕ) → i < r .m → linksAt r i x ≡ by (linkAt r i .back) (lasting r i) (linksAt r (suc i) x)
+    next-link i h = rw (slice-cons i (r .m) (r .links) blankLink h most)
+
+    -- one link more, in front of link i
+    pub turn : (i : ℕ) → 0 < i → i ≤ r .m → linksAt r (i - 1) x ≡ by (linkAt r (i - 1) .back) (lasting r (i - 1)) (linksAt r i x)
+    turn i some h =
+        let same : suc (i - 1) ≡ i = omega arith in
+        next-link (i - 1) (omega arith) ∙ ap (λ (j : ℕ). by (linkAt r (i - 1) .back) (lasting r (i - 1)) (linksAt r j x)) same
+
+  -- a value of trees that a duration around a tree changes so: that of a reading is that of its base, changed by the links
+  module _ (value : DateTime → X) (said : (back : Bool) (d : Duration) (t : DateTime) → value (around back d t) ≡ by back d (value t)) where
+    walked : (ks : List Link) (items : List Slot) (t : DateTime) → value (linksFrom ks items t) ≡ walk items ks (value t)
+    walked [] items t = refl
+    walked (k ∷ ks) items t =
+        let d = rowDuration (slice (k .from) (k .to) items) in
+        said (k .back) d (linksFrom ks items t) ∙ ap (by (k .back) d) (walked ks items t)
+
+    pub reading-walked : (r : Reading) → value (treeOf r) ≡ linksAt r 0 (value (baseOf r))
+    unfolding treeOf
+    reading-walked r = walked (take (r .m) (r .links)) (r .parts .items) (baseOf r)
+
+-- a duration from where a moment has led
+abbrev pub stepped : Bool → Duration → Outcome → Outcome
+stepped back d o = andThen o (durationStep back d)
 
 -- a duration around a tree is a step from where the tree leads
-around-step :
-    (back : Bool) (dur : Duration) (x : DateTime) (n : Moment) →
-    evaluate (around back dur x) n ≡ andThen (evaluate x n) (durationStep back dur)
+pub around-step : (n : Moment) (back : Bool) (d : Duration) (x : DateTime) → evaluate (around back d x) n ≡ stepped back d (evaluate x n)
 unfolding evaluate
-around-step true dur x n = refl
-around-step false dur x n = refl
-
--- links around a base are steps from where the base leads
-walked :
-    (ks : List Link) (items : List Slot) (x : DateTime) (n : Moment) →
-    evaluate (linksFrom ks items x) n ≡ walk items ks (evaluate x n)
-walked [] items x n = refl
-walked (k ∷ ks) items x n =
-    around-step (k .back) (rowDuration (slice (k .from) (k .to) items)) (linksFrom ks items x) n ∙ rw (walked ks items x n)
-
--- where the links from i on lead
-abbrev pub linksAt : Reading → ℕ → Outcome → Outcome
-linksAt r i o = walk (r .parts .items) (slice i (r .m) (r .links)) o
-
--- a reading is its links from where its base leads
-pub reading-walked : (r : Reading) (n : Moment) → evaluate (treeOf r) n ≡ linksAt r 0 (evaluate (baseOf r) n)
-unfolding treeOf
-reading-walked r n = walked (take (r .m) (r .links)) (r .parts .items) (baseOf r) n
-
--- no link yet
-pub no-link : (r : Reading) (o : Outcome) → linksAt r (r .m) o ≡ o
-no-link r o = rw (slice-empty (r .m) (r .links))
+around-step n true d x = refl
+around-step n false d x = refl
 
 module _ (r : Reading) (o : Outcome) (most : r .m ≤ length (r .links)) where
-  -- the step of link i
-  abbrev step : ℕ → Moment → Outcome
-  step i t = linkStep (r .parts .items) (getD (r .links) i blankLink) t
-
-  next-link : (i : ℕ) → i < r .m → linksAt r i o ≡ andThen (linksAt r (suc i) o) (step i)
-  next-link i h = rw (slice-cons i (r .m) (r .links) blankLink h most)
-
-  -- one link more
-  pub turn : (i : ℕ) {t : Moment} → 0 < i → i ≤ r .m → linksAt r i o ≡ moment t → linksAt r (i - 1) o ≡ step (i - 1) t
-  turn i {t} some h e =
-      let same : suc (i - 1) ≡ i = omega arith in
-      let before : linksAt r (suc (i - 1)) o ≡ moment t = rw same e in
-      next-link (i - 1) (omega arith) ∙ rw before
+  -- one link more, from a moment
+  pub from-moment : (i : ℕ) {t : Moment} → 0 < i → i ≤ r .m → linksAt stepped r i o ≡ moment t
+      → linksAt stepped r (i - 1) o ≡ durationStep (linkAt r (i - 1) .back) (lasting r (i - 1)) t
+  from-moment i some h e = turn stepped r o most i some h ∙ ap (stepped (linkAt r (i - 1) .back) (lasting r (i - 1))) e
 
   -- a refusal stays
-  pub stays : (i : ℕ) {k : ℕ} → i ≤ r .m → linksAt r i o ≡ refused k → linksAt r 0 o ≡ refused k
+  pub stays : (i : ℕ) {k : ℕ} → i ≤ r .m → linksAt stepped r i o ≡ refused k → linksAt stepped r 0 o ≡ refused k
   stays zero h e = e
-  stays (suc i) h e = stays i (omega arith) (next-link i (omega arith) ∙ rw e)
+  stays (suc i) h e = stays i (omega arith) (next-link stepped r o most i (omega arith) ∙ rw e)

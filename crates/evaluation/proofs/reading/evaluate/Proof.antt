@@ -9,13 +9,13 @@ use Rattle.evaluation.specs.Evaluate.{evaluate}
 use Rattle.evaluation.specs.Formed.{baseOf}
 use Rattle.evaluation.specs.declared.step.Reached.{Reached}
 use Rattle.evaluation.proofs.Laws.{moment-valid, at-moment, refused-valid}
-use Rattle.evaluation.proofs.Links.{linksAt, reading-walked, no-link, turn, stays}
+use Rattle.evaluation.proofs.Links.{linksAt, stepped, around-step, reading-walked, no-link, from-moment, stays}
 use borrow.Author.Needs.{needs}
 use Rattle.evaluation.proofs.reading.evaluate.Statement.{statement}
 use Rattle.evaluation.proofs.reading.evaluate.Tie as tie
 
 abbrev Inv-loop : tie.InvT-loop
-Inv-loop r parts t₀ i₀ t i = (i ≤ r .m) × IsMoment t × (linksAt r i (moment t₀) ≡ moment t)
+Inv-loop r parts t₀ i₀ t i = (i ≤ r .m) × IsMoment t × (linksAt stepped r i (moment t₀) ≡ moment t)
 
 abbrev μ-loop : tie.MeasureT-loop
 μ-loop r parts t₀ i₀ t i = i
@@ -28,25 +28,25 @@ all-there c = let l = simp length-map at (c .good .0 .1 .1 .1 .1 .1 .1 .1 .0 .1 
 whole :
     (c : tie.After-parts Inv-loop μ-loop) →
     let start = c .before .before .before .before .before in
-    evaluate (treeOf (start .args .t1)) (start .args .now) ≡ linksAt (start .args .t1) 0 (moment (c .before .before .base .given .0 .0))
+    evaluate (treeOf (start .args .t1)) (start .args .now) ≡ linksAt stepped (start .args .t1) 0 (moment (c .before .before .base .given .0 .0))
 whole c =
     let start = c .before .before .before .before .before in
     let base = c .before .before .before .before .base-at in
-    reading-walked (start .args .t1) (start .args .now)
-    ∙ ap (linksAt (start .args .t1) 0) (sym (base .ensures .0) ∙ ap reachedOf (c .before .before .base .given .1))
+    reading-walked stepped (λ x. evaluate x (start .args .now)) (around-step (start .args .now)) (start .args .t1)
+    ∙ ap (linksAt stepped (start .args .t1) 0) (sym (base .ensures .0) ∙ ap reachedOf (c .before .before .base .given .1))
 
 -- one turn: the links from i - 1 on lead where the duration of link i - 1 leads
 turned :
     (c : tie.After-duration-step Inv-loop μ-loop) {x : Reached} → c .duration-step .result ≡ x →
     let parts = c .before .before .before .before in
-    linksAt (parts .before .before .before .before .before .args .t1) (c .before .before .before .loop .i - 1) (
+    linksAt stepped (parts .before .before .before .before .before .args .t1) (c .before .before .before .loop .i - 1) (
     moment (parts .before .before .base .given .0 .0)
     )
     ≡ reachedOf x
 turned c e =
     let start = c .before .before .before .before .before .before .before .before .before in
     let loop = c .before .before .before .loop in
-    turn (start .args .t1) _ (all-there start) (loop .i) (c .before .before .loop-test .taken) (loop .inv .0) (loop .inv .2)
+    from-moment (start .args .t1) _ (all-there start) (loop .i) (c .before .before .loop-test .taken) (loop .inv .0) (loop .inv .2)
     ∙ sym (c .duration-step .ensures .0) ∙ ap reachedOf e
 
 base-at-requires : tie.Need-base-at-requires Inv-loop μ-loop
@@ -66,14 +66,14 @@ returns c =
     let o = evaluate (baseOf r) (start .args .now) in
     let given = ap reachedOf (c .enum-told .given .1) in
     let at-base = sym (base .ensures .0) ∙ given in
-    let all = stays r o (all-there start) (r .m) (omega arith) (no-link r o ∙ at-base) in
-    (given ∙ sym (reading-walked r (start .args .now) ∙ all), base .ensures .1)
+    let all = stays r o (all-there start) (r .m) (omega arith) (no-link stepped r o ∙ at-base) in
+    (given ∙ sym (reading-walked stepped (λ x. evaluate x (start .args .now)) (around-step (start .args .now)) r ∙ all), base .ensures .1)
 
 loop-holds : tie.Need-loop-holds Inv-loop μ-loop
 loop-holds c =
     let start = c .before .before .before .before .before in
     let base = c .before .before .before .before .base-at in
-    (omega arith, at-moment (base .ensures .1) (c .before .before .base .given .1), no-link (start .args .t1) _)
+    (omega arith, at-moment (base .ensures .1) (c .before .before .base .given .1), no-link stepped (start .args .t1) _)
 
 sub-i : tie.Need-sub-i Inv-loop μ-loop
 sub-i c = search needs

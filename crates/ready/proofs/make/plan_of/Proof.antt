@@ -1,19 +1,21 @@
 use Prim.Native.Nat.{ℕ, _+_, _-_, _≤_}
 use native.Mathlib.Omega.{arith}
-use mathlib.Core.Path.{_≡_, ap, _∙_}
+use mathlib.Core.Path.{_≡_, sym, _∙_}
 use lib.ListN.{length, length-map}
 use Rattle.phrase.specs.Flat.{sizeTree}
+use Rattle.evaluation.specs.Formed.{baseOf}
+use Rattle.evaluation.proofs.Links.{linkAt, no-link}
 use Rattle.ready.specs.Made.{treeSteps, held}
 use Rattle.ready.specs.Bounds.{Within}
 use Rattle.ready.proofs.Rows.{row-size}
-use Rattle.ready.proofs.Links.{inner, linkAt, whole, no-link, inner-size, turn-size, turn}
+use Rattle.ready.proofs.Links.{behind, counted, planAt, sizeAt, whole-plan, whole-size, inner-size, turn-size, turn-plan}
 use Rattle.ready.proofs.Within.{within-row}
 use borrow.Author.Needs.{needs}
 use Rattle.ready.proofs.make.plan_of.Statement.{statement}
 use Rattle.ready.proofs.make.plan_of.Tie as tie
 
 abbrev Inv-loop : tie.InvT-loop
-Inv-loop r parts p₀ i₀ p i = (i ≤ r .m) × (p ≡ treeSteps held (inner r i)) × Within p (3 + sizeTree (inner r i))
+Inv-loop r parts p₀ i₀ p i = (i ≤ r .m) × (p ≡ planAt r i) × Within p (3 + sizeAt r i)
 
 abbrev μ-loop : tie.MeasureT-loop
 μ-loop r parts p₀ i₀ p i = i
@@ -23,8 +25,8 @@ all-there : (c : tie.Start Inv-loop μ-loop) → c .args .t1 .m ≤ length (c .a
 all-there c = let l = simp length-map at (c .good .0 .1 .1 .1 .1 .1 .1 .1 .0 .1 .0 .1) in omega (arith, c .pre .0 .links)
 
 -- what is inside has at most 21 parts
-few : (c : tie.Start Inv-loop μ-loop) {i : ℕ} → i ≤ c .args .t1 .m → sizeTree (inner (c .args .t1) i) ≤ 21
-few c {i} h = omega (arith, inner-size (c .args .t1) (all-there c) i h, ap sizeTree (whole (c .args .t1)), c .pre .1)
+few : (c : tie.Start Inv-loop μ-loop) {i : ℕ} → i ≤ c .args .t1 .m → sizeAt (c .args .t1) i ≤ 21
+few c {i} h = omega (arith, inner-size (c .args .t1) (all-there c) i h, whole-size (c .args .t1), c .pre .1)
 
 -- the tree with the next link has the parts of that link more
 sizes :
@@ -32,7 +34,7 @@ sizes :
     let r = c .before .before .before .before .before .args .t1 in
     let i = c .before .before .loop .i in
     let link = linkAt r (i - 1) in
-    sizeTree (inner r i) + link .to ≡ sizeTree (inner r (i - 1)) + link .from
+    sizeAt r i + link .to ≡ sizeAt r (i - 1) + link .from
 sizes c =
     let start = c .before .before .before .before .before in
     let r = start .args .t1 in
@@ -47,12 +49,12 @@ base-plan-requires : tie.Need-base-plan-requires Inv-loop μ-loop
 base-plan-requires c κs =
     let start = c .before in
     let r = start .args .t1 in
-    (start .pre .0, omega (arith, few start {i = r .m} (omega arith), ap sizeTree (no-link r)))
+    (start .pre .0, omega (arith, few start {i = r .m} (omega arith), no-link counted r (sizeTree (baseOf r))))
 
 loop-holds : tie.Need-loop-holds Inv-loop μ-loop
 loop-holds c =
-    let same = no-link (c .before .before .args .t1) in
-    (omega arith, rw same (c .base-plan .ensures .0), rw same (c .base-plan .ensures .1))
+    let r = c .before .before .args .t1 in
+    (omega arith, rw (no-link behind r) (c .base-plan .ensures .0), rw (no-link counted r) (c .base-plan .ensures .1))
 
 sub-i : tie.Need-sub-i Inv-loop μ-loop
 sub-i c = search needs
@@ -86,7 +88,7 @@ loop-again c =
     let loop = c .before .before .before .loop in
     let r = start .args .t1 in (
       omega arith,
-      c .add-parts .ensures .0 ∙ turn r (all-there start) (loop .i) (c .before .before .loop-test .taken) (loop .inv .0) (loop .inv .1),
+      c .add-parts .ensures .0 ∙ turn-plan r (all-there start) (loop .i) (c .before .before .loop-test .taken) (loop .inv .0) (loop .inv .1),
       within-row (loop .inv .2) (c .add-parts .ensures .1) (omega (arith, sizes (c .before))),
     )
 
@@ -94,7 +96,7 @@ returns : tie.Need-returns Inv-loop μ-loop
 returns c =
     let loop = c .before .loop in
     let done : loop .i ≡ 0 = omega (arith, c .loop-test .left) in
-    (rw done at (loop .inv .1)) ∙ ap (treeSteps held) (whole (c .before .before .before .before .args .t1))
+    (rw done at (loop .inv .1)) ∙ sym (whole-plan (c .before .before .before .before .args .t1))
 
 pub plan-of-spec : {M : Type 1} → statement M
 plan-of-spec =
