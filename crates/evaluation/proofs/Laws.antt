@@ -1,10 +1,10 @@
--- Which outcomes are valid: the answers of the calendar's steps, a stated date or time that passes its test, and every refusal. And what
--- a promise of the outcome settles.
-use mathlib.Core.Path.{_≡_, _∙_, ap, subst}
+-- Which outcomes are valid: the answers of the calendar's steps, a stated date or time that passes its test, and every refusal. What a promise
+-- of the outcome settles, and what follows an outcome.
+use mathlib.Core.Path.{_≡_, refl, _∙_, ap, subst}
 use Prim.Native.Nat.{ℕ}
 use native.Mathlib.Omega.{arith}
 use Rattle.calendar.specs.Gregorian.{IsDate}
-use Rattle.calendar.specs.Moments.{IsTime, IsMoment, Outcome, moment, refused, withDate, withTime}
+use Rattle.calendar.specs.Moments.{IsTime, IsMoment, Outcome, moment, refused, andThen, withDate, withTime}
 use Rattle.calendar.specs.declared.Moment.{Moment}
 use Rattle.calendar.proofs.Steps.{Answer, answer-moment}
 use Rattle.evaluation.specs.Steps.{reachedOf, Valid}
@@ -45,3 +45,13 @@ determined (At t) (At u) e = cc
 determined (At t) (Refused k) e = cc
 determined (Refused j) (At u) e = cc
 determined (Refused j) (Refused k) e = cc
+
+-- what follows is the same where it is the same from every moment
+pub then-same : (o : Outcome) (f g : Moment → Outcome) → ((t : Moment) → f t ≡ g t) → andThen o f ≡ andThen o g
+then-same (moment t) f g e = e t
+then-same (refused k) f g e = refl
+
+-- staying where it led changes nothing
+pub then-moment : (o : Outcome) → andThen o moment ≡ o
+then-moment (moment t) = refl
+then-moment (refused k) = refl

@@ -1,57 +1,66 @@
--- A duration as a walk over its row of parts.
+-- A duration is walked over its row of parts, first to last, whatever is carried along: a moment or a refusal, or steps.
 use Prim.Native.Nat.{ℕ, suc, _+_, _≤_, _<_}
 use native.Mathlib.Numerals.{add-one}
-use mathlib.Core.Path.{_≡_, refl, ap, sym, _∙_}
+use mathlib.Core.Path.{_≡_, refl, _∙_}
 use mathlib.Core.Bool.{Bool}
 use mathlib.Core.List.{List, [], _∷_}
 use lib.ListN.{length, getD}
 use lib.Seq.{slice, slice-cons, slice-empty}
 use Rattle.calendar.specs.Moments.{Outcome, moment, refused, andThen}
 use Rattle.calendar.specs.declared.Moment.{Moment}
+use Rattle.dates.specs.Durations.{Duration, part, concat}
+use Rattle.dates.specs.declared.duration.Part.{Part}
 use Rattle.dates.specs.declared.duration.Slot.{Slot}
 use Rattle.phrase.specs.Flat.{blankSlot, durationFrom, rowDuration}
 use Rattle.evaluation.specs.Steps.{partStep, durationStep}
 
--- the parts of a row, first to last; a row of none stays where it is
-abbrev pub rowStep : Bool → List Slot → Moment → Outcome
-rowStep back [] t = moment t
-rowStep back (s ∷ ss) t = andThen (partStep back (s .part) t) (rowStep back ss)
+-- what a part makes of what is carried along
+module _ {X : Type 0} (by : Part → X → X) where
+  -- what a duration makes of it
+  abbrev pub over : Duration → X → X
+  over (part p) x = by p x
+  over (concat p d) x = over d (by p x)
 
--- what follows is the same where it is the same from every moment
-pub then-same : (o : Outcome) (f g : Moment → Outcome) → ((t : Moment) → f t ≡ g t) → andThen o f ≡ andThen o g
-then-same (moment t) f g e = e t
-then-same (refused k) f g e = refl
+  -- and a row of parts; a row of none leaves it
+  abbrev pub overRow : List Slot → X → X
+  overRow [] x = x
+  overRow (s ∷ ss) x = overRow ss (by (s .part) x)
 
--- staying where it led changes nothing
-pub then-moment : (o : Outcome) → andThen o moment ≡ o
-then-moment (moment t) = refl
-then-moment (refused k) = refl
+  -- a row of at least one part is its duration
+  row-duration : (s : Slot) (ss : List Slot) (x : X) → over (durationFrom s ss) x ≡ overRow (s ∷ ss) x
+  row-duration s [] x = refl
+  row-duration s (y ∷ ys) x = row-duration y ys (by (s .part) x)
 
--- a row of at least one part is walked as its duration
-row-duration : (back : Bool) (s : Slot) (ss : List Slot) (t : Moment) → rowStep back (s ∷ ss) t ≡ durationStep back (durationFrom s ss) t
-row-duration back s [] t = then-moment (partStep back (s .part) t)
-row-duration back s (x ∷ xs) t =
-    then-same (partStep back (s .part) t) (rowStep back (x ∷ xs)) (durationStep back (durationFrom x xs)) (row-duration back x xs)
+  -- the rows within a longer one
+  module _ (l : List Slot) (i to : ℕ) (x : X) where
+    -- the first part, and then those behind it
+    pub row-first : i < to → to ≤ length l → overRow (slice i to l) x ≡ overRow (slice (i + 1) to l) (by (getD l i blankSlot .part) x)
+    row-first h k = rw (add-one, slice-cons i to l blankSlot h k)
 
--- the rows within a longer one
-module _ (back : Bool) (l : List Slot) (i to : ℕ) (t : Moment) where
-  -- a walk goes by the first part, and then by those behind it
-  pub row-first :
-      i < to → to ≤ length l →
-      rowStep back (slice i to l) t ≡ andThen (partStep back (getD l i blankSlot .part) t) (rowStep back (slice (i + 1) to l))
-  row-first h k =
-      ap (λ (ss : List Slot). rowStep back ss t) (slice-cons i to l blankSlot h k)
-      ∙ ap (λ (m : ℕ). andThen (partStep back (getD l i blankSlot .part) t) (rowStep back (slice m to l))) (sym (add-one i))
+    -- a row is its duration, where there is a part
+    pub row-steps : i < to → to ≤ length l → over (rowDuration (slice i to l)) x ≡ overRow (slice i to l) x
+    row-steps h k = rw (slice-cons i to l blankSlot h k) (row-duration (getD l i blankSlot) (slice (suc i) to l) x)
 
-  -- it is the walk of its duration, where there is a part
-  pub row-steps : i < to → to ≤ length l → durationStep back (rowDuration (slice i to l)) t ≡ rowStep back (slice i to l) t
-  row-steps h k =
-      let first = slice-cons i to l blankSlot h k in
-      ap (λ (ss : List Slot). durationStep back (rowDuration ss) t) first
-      ∙ sym (row-duration back (getD l i blankSlot) (slice (suc i) to l) t)
-      ∙ sym (ap (λ (ss : List Slot). rowStep back ss t) first)
+    -- and ends where no part is left
+    pub row-end : i ≡ to → overRow (slice i to l) x ≡ x
+    row-end e = rw (e, slice-empty)
 
-  -- and ends where no part is left
-  pub row-end : i ≡ to → rowStep back (slice i to l) t ≡ moment t
-  row-end e =
-      ap (λ (j : ℕ). rowStep back (slice j to l) t) e ∙ ap (λ (ss : List Slot). rowStep back ss t) (slice-empty to l)
+-- a part from where a moment has led
+abbrev pub parted : Bool → Part → Outcome → Outcome
+parted back p o = andThen o (partStep back p)
+
+-- a duration from there is the walk over its parts
+duration-over : (back : Bool) (d : Duration) (o : Outcome) → andThen o (durationStep back d) ≡ over (parted back) d o
+duration-over back (part p) o = refl
+duration-over back (concat p d) (moment t) = duration-over back d (partStep back p t)
+duration-over back (concat p d) (refused k) = duration-over back d (refused k)
+
+-- so is that of a row within a longer one
+pub row-walked : (back : Bool) (l : List Slot) (i to : ℕ) (t : Moment) → i < to → to ≤ length l
+    → durationStep back (rowDuration (slice i to l)) t ≡ overRow (parted back) (slice i to l) (moment t)
+row-walked back l i to t h k = duration-over back (rowDuration (slice i to l)) (moment t) ∙ row-steps (parted back) l i to (moment t) h k
+
+-- a refusal stays
+pub row-stays : (back : Bool) (ss : List Slot) (k : ℕ) → overRow (parted back) ss (refused k) ≡ refused k
+row-stays back [] k = refl
+row-stays back (s ∷ ss) k = row-stays back ss k

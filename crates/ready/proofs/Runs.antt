@@ -22,7 +22,7 @@ use Rattle.evaluation.specs.Steps.{unitStep, partStep, durationStep}
 use Rattle.evaluation.specs.Dates.{dateAt}
 use Rattle.evaluation.specs.Times.{timeAt}
 use Rattle.evaluation.specs.Evaluate.{isYear, isWeek, isMonthAndDay, byYear, byUnit, dateExprAt, evaluate}
-use Rattle.evaluation.proofs.Rows.{then-same, then-moment}
+use Rattle.evaluation.proofs.Laws.{then-same, then-moment}
 use Rattle.steps.specs.Joining.{addStep}
 use Rattle.steps.specs.Running.{actOf, walkOf}
 use Rattle.steps.specs.declared.plan.Step.{Step}

@@ -10,7 +10,7 @@ use Rattle.calendar.specs.declared.Moment.{Moment}
 use Rattle.calendar.proofs.Steps.{later-later, earlier-earlier}
 use Rattle.numbers.specs.Slices.{oneIf}
 use Rattle.evaluation.specs.Steps.{minutesStep}
-use Rattle.evaluation.proofs.Rows.{then-same, then-moment}
+use Rattle.evaluation.proofs.Laws.{then-same, then-moment}
 use Rattle.steps.specs.Joining.{joinOf, joined, addStep, areApart, allApart}
 use Rattle.steps.specs.Running.{actOf, walkOf, isStart, isTimeStep, countOf, starts, times}
 use Rattle.steps.specs.declared.plan.Step.{Step}

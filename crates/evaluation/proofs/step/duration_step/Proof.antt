@@ -4,19 +4,18 @@ use mathlib.Core.Path.{_≡_, ap, sym, _∙_}
 use lib.ListN.{length, length-map}
 use lib.Seq.{slice}
 use borrow.Author.Needs.{needs}
-use Rattle.calendar.specs.Moments.{IsMoment, Outcome, andThen}
-use Rattle.calendar.specs.declared.Moment.{Moment}
+use Rattle.calendar.specs.Moments.{IsMoment, Outcome, moment}
 use Rattle.phrase.specs.Flat.{rowDuration}
 use Rattle.evaluation.specs.Steps.{reachedOf, durationStep}
 use Rattle.evaluation.specs.declared.step.Reached.{Reached}
 use Rattle.evaluation.proofs.Laws.{at-moment, moment-valid, refused-valid}
-use Rattle.evaluation.proofs.Rows.{rowStep, row-first, row-steps, row-end}
+use Rattle.evaluation.proofs.Rows.{overRow, parted, row-first, row-end, row-walked, row-stays}
 use Rattle.evaluation.proofs.step.duration_step.Statement.{statement}
 use Rattle.evaluation.proofs.step.duration_step.Tie as tie
 
 abbrev Inv-loop : tie.InvT-loop
 Inv-loop back from to parts t₀ i₀ t i =
-    (i ≤ to) × IsMoment t × (rowStep back (slice from to (parts .items)) t₀ ≡ rowStep back (slice i to (parts .items)) t)
+    (i ≤ to) × IsMoment t × (overRow (parted back) (slice from to (parts .items)) (moment t₀) ≡ overRow (parted back) (slice i to (parts .items)) (moment t))
 
 abbrev μ-loop : tie.MeasureT-loop
 μ-loop back from to parts t₀ i₀ t i = to - i
@@ -26,26 +25,26 @@ within : (c : tie.Start Inv-loop μ-loop) → c .args .to ≤ length (c .args .t
 within c = let long = simp length-map at (c .good .1 .0 .1 .1 .1 .0 .1 .0 .1) in omega (arith, c .pre .1)
 
 -- the way from a part on
-abbrev way : tie.Start Inv-loop μ-loop → ℕ → Moment → Outcome
-way c i t = rowStep (c .args .back) (slice i (c .args .to) (c .args .t2 .items)) t
+abbrev way : tie.Start Inv-loop μ-loop → ℕ → Outcome → Outcome
+way c i o = overRow (parted (c .args .back)) (slice i (c .args .to) (c .args .t2 .items)) o
 
 -- the duration is the whole way
 whole :
     (c : tie.Start Inv-loop μ-loop) →
     durationStep (c .args .back) (rowDuration (slice (c .args .from) (c .args .to) (c .args .t2 .items))) (c .args .begin)
-    ≡ way c (c .args .from) (c .args .begin)
-whole c = row-steps _ _ _ _ _ (c .pre .0) (within c)
+    ≡ way c (c .args .from) (moment (c .args .begin))
+whole c = row-walked _ _ _ _ _ (c .pre .0) (within c)
 
 -- one turn: the whole way is what the part at i gives, and then the way from i + 1 on
 turned :
     (c : tie.After-part-step Inv-loop μ-loop) (r : Reached) → c .part-step .result ≡ r →
-    way (c .before .before .before .before) (c .before .before .before .before .args .from) (c .before .before .before .before .args .begin)
-    ≡ andThen (reachedOf r) (way (c .before .before .before .before) (c .before .before .before .loop .i + 1))
+    way (c .before .before .before .before) (c .before .before .before .before .args .from) (moment (c .before .before .before .before .args .begin))
+    ≡ way (c .before .before .before .before) (c .before .before .before .loop .i + 1) (reachedOf r)
 turned c r e =
     let s = c .before .before .before .before in
     let l = c .before .before .before .loop in
-    l .inv .2 ∙ row-first _ _ _ _ _ (c .before .before .loop-test .taken) (within s)
-    ∙ ap (λ (o : Outcome). andThen o (way s (l .i + 1))) (sym (c .part-step .ensures .0) ∙ ap reachedOf e)
+    l .inv .2 ∙ row-first (parted (s .args .back)) _ _ _ _ (c .before .before .loop-test .taken) (within s)
+    ∙ ap (way s (l .i + 1)) (sym (c .part-step .ensures .0) ∙ ap reachedOf e)
 
 loop-holds : tie.Need-loop-holds Inv-loop μ-loop
 loop-holds c = search needs
@@ -71,8 +70,9 @@ enum-known-k c = search needs
 returns : tie.Need-returns Inv-loop μ-loop
 returns c =
     let a = c .before .before .before in
-    let e = c .before .k .given .1 in
-    (sym (whole (a .before .before .before .before) ∙ turned a _ e), refused-valid _)
+    let s = a .before .before .before .before in
+    let rest = slice (a .before .before .before .loop .i + 1) (s .args .to) (s .args .t2 .items) in
+    (sym (whole s ∙ turned a _ (c .before .k .given .1) ∙ row-stays (s .args .back) rest _), refused-valid _)
 
 add-i : tie.Need-add-i Inv-loop μ-loop
 add-i c = search needs
@@ -91,7 +91,7 @@ returns-2 c =
     let l = c .before .loop in
     let s = c .before .before in
     let last : l .i ≡ s .args .to = omega arith in
-    (sym (whole s ∙ l .inv .2 ∙ row-end _ _ _ _ _ last), moment-valid (l .inv .1))
+    (sym (whole s ∙ l .inv .2 ∙ row-end (parted (s .args .back)) _ _ _ _ last), moment-valid (l .inv .1))
 
 pub duration-step-spec : {M : Type 1} → statement M
 duration-step-spec =

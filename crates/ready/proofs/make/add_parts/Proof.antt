@@ -4,9 +4,9 @@ use mathlib.Core.Path.{_≡_, refl, ap, sym, _∙_}
 use lib.ListN.{length, length-map}
 use lib.Seq.{slice}
 use Rattle.steps.specs.Plans.{addTo}
-use Rattle.steps.specs.declared.plan.Plan.{Plan}
 use Rattle.ready.specs.Bounds.{Longer}
-use Rattle.ready.proofs.Rows.{addRow, row-first, row-steps, row-end}
+use Rattle.evaluation.proofs.Rows.{overRow, row-first, row-end}
+use Rattle.ready.proofs.Rows.{stepBehind, row-added}
 use Rattle.ready.proofs.Within.{grown}
 use borrow.Author.Needs.{needs}
 use Rattle.ready.proofs.make.add_parts.Statement.{statement}
@@ -14,7 +14,7 @@ use Rattle.ready.proofs.make.add_parts.Tie as tie
 
 abbrev Inv-loop : tie.InvT-loop
 Inv-loop from to back parts q₀ i₀ q i =
-    (from ≤ i) × (i ≤ to) × Longer q₀ q from i × (addRow back q₀ (slice from to (parts .items)) ≡ addRow back q (slice i to (parts .items)))
+    (from ≤ i) × (i ≤ to) × Longer q₀ q from i × (overRow (stepBehind back) (slice from to (parts .items)) q₀ ≡ overRow (stepBehind back) (slice i to (parts .items)) q)
 
 abbrev μ-loop : tie.MeasureT-loop
 μ-loop from to back parts q₀ i₀ q i = to - i
@@ -60,8 +60,8 @@ loop-again c =
       omega arith,
       omega arith,
       record { some = more .some; most = omega (arith, inv .2 .most); minutes = omega (arith, inv .2 .minutes) },
-      inv .3 ∙ row-first _ _ _ _ _ (c .before .before .before .loop-test .taken) (within start)
-          ∙ sym (ap (λ (q : Plan). addRow (start .args .back) q (slice (loop .i + 1) (start .args .to) (start .args .t2 .items)))
+      inv .3 ∙ row-first (stepBehind (start .args .back)) _ _ _ _ (c .before .before .before .loop-test .taken) (within start)
+          ∙ sym (ap (overRow (stepBehind (start .args .back)) (slice (loop .i + 1) (start .args .to) (start .args .t2 .items)))
           (c .add .ensures ∙ ap (addTo (loop .q)) (step .ensures .0))),
     )
 
@@ -70,7 +70,7 @@ returns c =
     let loop = c .before .loop in
     let start = c .before .before in
     let last : loop .i ≡ start .args .to = omega arith in
-    (sym (row-steps _ _ _ _ _ (start .pre .0 .1) (within start) ∙ loop .inv .3 ∙ row-end _ _ _ _ _ last), rw last at (loop .inv .2))
+    (sym (row-added _ _ _ (start .pre .0 .1) (within start) _ _ ∙ loop .inv .3 ∙ row-end (stepBehind (start .args .back)) _ _ _ _ last), rw last at (loop .inv .2))
 
 pub add-parts-spec : {M : Type 1} → statement M
 add-parts-spec =

@@ -5,7 +5,6 @@ use lib.ListN.{length, length-map}
 use Rattle.phrase.specs.Flat.{sizeTree}
 use Rattle.evaluation.specs.Formed.{baseOf}
 use Rattle.evaluation.proofs.Links.{linkAt, no-link}
-use Rattle.ready.specs.Made.{treeSteps, held}
 use Rattle.ready.specs.Bounds.{Within}
 use Rattle.ready.proofs.Rows.{row-size}
 use Rattle.ready.proofs.Links.{behind, counted, planAt, sizeAt, whole-plan, whole-size, inner-size, turn-size, turn-plan}
