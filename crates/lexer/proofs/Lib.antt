@@ -9,3 +9,4 @@ pub mod Runs
 pub mod Lines
 pub mod Places
 pub mod Examples
+pub mod Numbered
