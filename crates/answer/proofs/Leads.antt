@@ -1,13 +1,13 @@
 -- What evaluation leads to: a moment with a property that every step keeps, or a refusal of 9 to 13.
 use Prim.Native.Nat.{ℕ, _+_, _-_, _*_, _/_, _%_, _≤_, _<_}
 use native.Mathlib.Omega.{arith}
-use mathlib.Core.Path.{_≡_, refl, ap, sym, _∙_}
+use mathlib.Core.Path.{_≡_, refl, sym, _∙_}
 use mathlib.Core.Logic.{_⊎_, inl, inr, ⊎-elim}
 use mathlib.Core.Bool.{Bool, true, false, cond, _&&_, _||_, and-eq-true-iff}
 use lib.Dec.{leb, ltb}
 use borrow.Author.Tests.{leb-true, ltb-true}
 use Rattle.calendar.specs.Gregorian.{leapYear, monthLength, IsDate, days}
-use Rattle.calendar.specs.Moments.{IsTime, IsMoment, Outcome, moment, refused, inside, andThen, withDate, withTime, isDate, isTime, inRange}
+use Rattle.calendar.specs.Moments.{IsMoment, Outcome, moment, refused, inside, andThen, withDate, isDate, isTime, inRange}
 use Rattle.calendar.specs.Moments.{onDay, minuteNumber, minutes, atMinute, later, earlier, monthNumber, months, monthsLater, monthsEarlier}
 use Rattle.calendar.specs.Moments.{inYear, yearsLater, yearsEarlier}
 use Rattle.calendar.specs.declared.Moment.{Moment}
@@ -29,7 +29,7 @@ use Rattle.expressions.specs.Tree.{DateExpr, date, dateRelative, dateExpression
 use Rattle.expressions.specs.Tree.{weekdayRelative, weekdayExpressionBefore, before, after, weekday, empty}
 use Rattle.phrase.specs.Tree.{DateTime, dateTime, timeDate, durationAfter, durationBefore, now}
 use Rattle.evaluation.specs.Steps.{minutesStep, unitStep, partStep, durationStep}
-use Rattle.evaluation.specs.Weekdays.{daysBack, inWeek, fromToday, backTo}
+use Rattle.evaluation.specs.Weekdays.{daysBack, inWeek, backTo}
 use Rattle.evaluation.specs.Dates.{statedDate, dateAt}
 use Rattle.evaluation.specs.Times.{statedTime, timeAt}
 use Rattle.evaluation.specs.Evaluate.{byYear, isYear, isWeek, isMonthAndDay, byUnit, dateExprAt, evaluate}

@@ -5,11 +5,8 @@ use mathlib.Core.Logic.{_⊎_, inl, inr, ⊎-elim}
 use Prim.Native.Nat.{ℕ, _+_, _-_, _≤_, _<_}
 use native.Mathlib.Omega.{arith}
 use native.Mathlib.Nat.{add-zero, sub-zero, add-assoc, sub-add-eq}
-use mathlib.Core.List.{[], _∷_}
 use lib.Dec.{eqb, leb, ltb, lit<}
-use types.Run.{OneOf}
-use denote.Enum.Declared.{tagOf}
-use borrow.Author.Tests.{eqb-false, leb-true, leb-false, ltb-true, ltb-false, le-leb, lt-leb, lt-ltb, le-ltb}
+use borrow.Author.Tests.{leb-true, leb-false, ltb-true, ltb-false, le-leb, lt-leb, lt-ltb, le-ltb}
 use Rattle.calendar.specs.Gregorian.{leapYear, monthLength, days}
 use Rattle.calendar.specs.Moments.{IsMoment, Outcome, moment, refused, outcomeOf, inside, andThen, withDate, onDay}
 use Rattle.calendar.specs.Moments.{minuteNumber, minutes, later, earlier, monthNumber, months}
@@ -17,7 +14,6 @@ use Rattle.calendar.specs.Moments.{monthsLater, monthsEarlier, inYear, y
 use Rattle.calendar.specs.declared.Moment.{Moment}
 use Rattle.calendar.specs.declared.Step.{Step}
 use Rattle.calendar.specs.declared.Step.the-variants.{At, Outside, NoDay}
-use Rattle.calendar.proofs.Step.{the-type}
 use Rattle.calendar.proofs.Below.{le-or-lt}
 use Rattle.calendar.proofs.Months.{lost-day}
 use Rattle.calendar.proofs.Places.{at-day-moment, minute-below, at-minute-moment, minute-at, at-own-minute}
@@ -38,13 +34,6 @@ step-of NoDay = refl
 pub determined : (r s : Step) → outcomeOf r ≡ outcomeOf s → r ≡ s
 determined r s e = sym (step-of r) ∙ ap stepOf e ∙ step-of s
 
--- a step that led to no moment stays refused, whatever step comes after
-pub stays-refused : (s : Step) (f : Moment → Outcome) → OneOf (1 ∷ (2 ∷ [])) (tagOf the-type s) → outcomeOf s ≡ andThen (outcomeOf s) f
-stays-refused (At u) f (inl e) = absurd (eqb-false 0 1 refl e)
-stays-refused (At u) f (inr e) = absurd (eqb-false 0 2 refl e)
-stays-refused Outside f e = refl
-stays-refused NoDay f e = refl
-
 -- an answer is a moment of the calendar where no refusal is due, or a refusal that is due
 pub data Answer (Due : ℕ → Type 0) : Outcome → Type 0 where
   answered : {u : Moment} → IsMoment u → ((n : ℕ) → Due n → ⊥) → Answer Due (moment u)
@@ -58,11 +47,6 @@ answer-moment (refuses due) e = let z : _≡_ {A = ℕ} 0 1 = cc in absurd (omeg
 -- and so is one that code got from a step
 pub step-moment : {Due : ℕ → Type 0} {o : Outcome} {s : Step} {u : Moment} → Answer Due o → outcomeOf s ≡ o → s ≡ At u → IsMoment u
 step-moment a p e = answer-moment a (sym p ∙ ap outcomeOf e)
-
--- a refusal that is answered is due
-pub answer-refused : {Due : ℕ → Type 0} {o : Outcome} {n : ℕ} → Answer Due o → o ≡ refused n → Due n
-answer-refused (answered v free) e = let z : _≡_ {A = ℕ} 0 1 = cc in absurd (omega arith)
-answer-refused {Due} {n = n} (refuses {n = k} due) e = let same : k ≡ n = cc in subst Due same due
 
 -- an answer by a test
 either : (Due : ℕ → Type 0) (b : Bool) (p q : Outcome) → (b ≡ true → Answer Due p) → (b ≡ false → Answer Due q) →

@@ -16,11 +16,7 @@ use Rattle.dates.specs.Parsed.{Parsed, is, nothing, overflow, pick, orEl
 use Rattle.dates.proofs.date.DateFound.{the-type as date-type}
 use Rattle.dates.specs.declared.date.DateFound.{DateFound}
 use Rattle.dates.specs.declared.date.DateFound.the-variants.{Is as IsDate, Nothing as NoDate, Overflow as DateOverflow}
-use Rattle.dates.proofs.time.TimeFound.{the-type as time-type}
-use Rattle.dates.specs.declared.time.TimeFound.{TimeFound}
-use Rattle.dates.specs.declared.time.TimeFound.the-variants.{Is as IsTime, Nothing as NoTime, Overflow as TimeOverflow}
 use Rattle.dates.specs.Dates.{parsedDate}
-use Rattle.dates.specs.Times.{parsedTime}
 
 -- the variants of every answer are numbered so
 abbrev pub tag : {A : Type 0} → Parsed A → ℕ
@@ -44,12 +40,6 @@ module _ {ks : List ℕ} where
   date-arm (IsDate d t) k = record { tags = k }
   date-arm NoDate k = record { tags = k }
   date-arm DateOverflow k = record { tags = k }
-
-  -- of a time's answer
-  pub time-arm : (w : TimeFound) → OneOf ks (tagOf time-type w) → Arm ks (parsedTime w)
-  time-arm (IsTime x t) k = record { tags = k }
-  time-arm NoTime k = record { tags = k }
-  time-arm TimeOverflow k = record { tags = k }
 
 -- a number is none of two others
 neither : (a b c : ℕ) {A : Type 0} → (a ≡ b → ⊥) → (a ≡ c → ⊥) → OneOf (b ∷ c ∷ []) a → A

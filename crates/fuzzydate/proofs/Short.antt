@@ -1,7 +1,7 @@
 -- A refusal's part lies within the 256 bytes that a phrase may have, so its place and length fit the answer's number.
 use Prim.Native.Nat.{ℕ, _≤_}
 use native.Mathlib.Omega.{arith}
-use mathlib.Core.Path.{_≡_, refl, ap, sym, _∙_}
+use mathlib.Core.Path.{_≡_, refl, _∙_}
 use mathlib.Core.Bool.{Bool, true, false, cond}
 use mathlib.Core.List.{List}
 use borrow.Author.Tests.{leb-true}
@@ -15,7 +15,7 @@ use Rattle.phrase.specs.Read.{ReadPhrase, refusal, tree, readOf, phraseAnswer}
 use Rattle.phrase.proofs.Phrases.{part-within}
 use Rattle.evaluation.specs.Evaluate.{evaluate}
 use Rattle.evaluation.specs.Refusals.{NoNow}
-use Rattle.answer.specs.Answer.{Answer, refusedAt, placed, answerRead, answerOf}
+use Rattle.answer.specs.Answer.{refusedAt, placed, answerRead, answerOf}
 
 -- a part that begins at a and ends at e
 pub record Short (a e : ℕ) : Type 0 where

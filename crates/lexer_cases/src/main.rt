@@ -1,6 +1,6 @@
-// Lexes every single byte as a phrase, then each line of standard input, and writes two lines for each: what the lexer answers, and what lexing
-// by a reader answers. An answer is the lexemes' codes with their places, or the refusal with its place, the end of its part and the part's
-// length.
+// Lexes every single byte as a phrase, then each line of standard input, and writes two lines for each: what the lexer answers, and what
+// lexing by a reader answers. An answer is the lexemes' codes with their places, or the refusal with its place, the end of its part and
+// the part's length.
 use bytes::scan;
 use lexer::lex::Line;
 use lexer::lex::lex;

@@ -1,5 +1,5 @@
 -- The turns of a reader that calls itself: they are never too few, and what each turn keeps the reader keeps.
-use Prim.Native.Nat.{ℕ, zero, suc, _≤_, _<_}
+use Prim.Native.Nat.{ℕ, zero, suc, _<_}
 use native.Mathlib.Omega.{arith}
 use mathlib.Core.Path.{_≡_}
 use mathlib.Core.List.{List}

@@ -1,5 +1,5 @@
 -- A flat reading stands for its tree: `treeOf (flat x) ≡ x` for every tree of at most 21 parts.
-use Prim.Native.Nat.{ℕ, suc, _+_, _≤_, _<_}
+use Prim.Native.Nat.{ℕ, _+_, _≤_, _<_}
 use native.Mathlib.Omega.{arith}
 use native.Mathlib.Numerals.{add-one}
 use mathlib.Core.Path.{_≡_, refl, ap, _∙_}
@@ -28,10 +28,6 @@ use Rattle.expressions.proofs.Few.{into-expr-n}
 abbrev slots : Duration → List Slot
 slots (part p) = record { part = p } ∷ []
 slots (concat p d) = record { part = p } ∷ slots d
-
-length-slots : (d : Duration) → length (slots d) ≡ size d
-length-slots (part p) = refl
-length-slots (concat p d) = ap suc (length-slots d)
 
 -- a row of parts is read back
 row-back : (d : Duration) → rowDuration (slots d) ≡ d

@@ -35,8 +35,8 @@ fn refuse(number: u8, place: usize, end: usize, none: Reading) -> PhraseRead
     }
 }
 
-// A phrase read: a reading, or a refusal of 1 to 7 in their order. What is left behind the reading is refusal 7, from its first byte to the end
-// of the phrase.
+// A phrase read: a reading, or a refusal of 1 to 7 in their order. What is left behind the reading is refusal 7, from its first byte to
+// the end of the phrase.
 pub fn read(phrase: &[u8]) -> PhraseRead
     ensures { λ r. ⌜ r ≡ phraseAnswer (readOf keywords (now (phrase .entry))) ⌝ }
 {

@@ -1,7 +1,7 @@
 -- Demand 3: a phrase made ready and run at any now, valid or not, gives the answer of the phrase at that now.
 use Prim.Native.Nat.{ℕ, _≤_}
 use native.Mathlib.Omega.{arith}
-use mathlib.Core.Path.{_≡_, refl, ap, sym, _∙_}
+use mathlib.Core.Path.{_≡_, refl, ap, sym}
 use mathlib.Core.Bool.{true}
 use mathlib.Core.List.{List}
 use borrow.Author.Tests.{le-leb}
@@ -14,12 +14,11 @@ use Rattle.phrase.specs.Tree.{DateTime}
 use Rattle.phrase.proofs.Decoded.{tree-count}
 use Rattle.phrase.proofs.Phrases.{reads}
 use Rattle.answer.specs.Answer.{answerRead, answerOf}
-use Rattle.evaluation.specs.Evaluate.{evaluate}
 use Rattle.steps.specs.Joining.{allApart}
-use Rattle.steps.specs.Running.{isList, walkOf, runOf}
+use Rattle.steps.specs.Running.{isList, runOf}
 use Rattle.steps.specs.declared.plan.Step.{Step}
 use Rattle.ready.specs.Made.{stepsOf}
-use Rattle.ready.specs.Ready.{ReadyPhrase, refusedReady, steps, readyRead, readyOf, runReady}
+use Rattle.ready.specs.Ready.{refusedReady, steps, readyRead, readyOf, runReady}
 use Rattle.ready.proofs.Made.{at-most-24, neighbours-apart, made-formed}
 use Rattle.ready.proofs.Runs.{tree-runs}
 

@@ -1,7 +1,7 @@
 -- A plan holds its list: what is read out of it is what was put in, and `addTo` is `addStep`.
 use Prim.Native.Nat.{ℕ, zero, suc, _+_, _-_, _≤_, _<_}
 use native.Mathlib.Omega.{arith}
-use mathlib.Core.Path.{_≡_, refl, ap, sym, _∙_}
+use mathlib.Core.Path.{_≡_, refl, ap, _∙_}
 use mathlib.Core.List.{List, [], _∷_, _++_, map}
 use borrow.Author.Tests.{le-leb}
 use lib.ListN.{length, set, getD, take}
@@ -11,7 +11,7 @@ use Rattle.steps.specs.declared.plan.Join.{Join}
 use Rattle.steps.specs.declared.plan.Join.the-variants.{Alone, Apart, One}
 use Rattle.steps.specs.declared.plan.Slot.{Slot}
 use Rattle.steps.specs.declared.plan.Step.{Step}
-use Rattle.steps.specs.declared.plan.Step.the-variants.{Now, Minutes}
+use Rattle.steps.specs.declared.plan.Step.the-variants.{Minutes}
 
 -- the steps that were put in
 taken : (k : ℕ) (ss : List Step) → length ss ≤ k → map stepIn (take (length ss) (slotsOf k ss)) ≡ ss

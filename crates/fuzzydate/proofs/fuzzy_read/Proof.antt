@@ -3,7 +3,6 @@ use denote.Ref.{now}
 use Rattle.lexer.specs.Keywords.{keywords}
 use Rattle.answer.specs.Answer.{Answer, momentOf, answerFrom, answerOf}
 use Rattle.answer.specs.declared.Answered.{Answered}
-use Rattle.fuzzydate.specs.Called.{codeOf, momentAfter}
 use Rattle.fuzzydate.proofs.Short.{short-answer}
 use borrow.Author.Needs.{needs}
 use Rattle.fuzzydate.proofs.fuzzy_read.Statement.{statement}

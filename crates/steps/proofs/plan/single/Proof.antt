@@ -1,5 +1,5 @@
 use native.Mathlib.Omega.{arith}
-use mathlib.Core.Path.{_≡_, ap}
+use mathlib.Core.Path.{ap}
 use Rattle.steps.specs.declared.plan.Plan.{Plan}
 use borrow.Author.Needs.{needs}
 use Rattle.steps.proofs.plan.single.Statement.{statement}
