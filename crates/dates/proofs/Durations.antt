@@ -20,7 +20,8 @@ use Rattle.dates.specs.declared.duration.Parts.{Parts}
 use Rattle.dates.specs.declared.duration.Taken.{Taken}
 use Rattle.dates.specs.declared.duration.Taken.the-variants.{Is, Nothing, Overflow}
 use Rattle.dates.specs.declared.duration.DurationFound.{DurationFound}
-use Rattle.dates.specs.Durations.{Duration, part, concat, isSubDaily, specificOf, articleOf, concreteOf, parsedPart}
+use Rattle.dates.specs.Durations.{Duration, part, concat, isSubDaily, isSubDailyPart, takenAnswer, takenBehind, TakenBounds, TakenCounted}
+use Rattle.dates.specs.Durations.{specificOf, articleOf, concreteOf, parsedPart}
 use Rattle.dates.specs.Durations.{durationStep, durationOf, pushed, into, size, durationAnswer, joinedOf, CountedTaken, Counted}
 use Rattle.dates.proofs.duration.PartFound.{the-type as part-type}
 use Rattle.dates.proofs.Laws.{Arm, nothing-took, pick-took, or-took, then-took}
@@ -155,6 +156,65 @@ counted′ Overflow m k n n′ h e = h
 pub counted-wider : {r : DurationFound} {m n n′ : ℕ} → Counted r m n → n ≤ n′ → Counted r m n′
 counted-wider {r} {m} {n} {n′} h e = record { bounds = counted′ (r .taken) m (r .parts .n) n n′ (h .bounds) e }
 
+-- what the code puts in front is what `durationStep` has behind an "and"
+pub behind-is : (p : Part) (t : ℕ) (w : Parsed Duration)
+    → takenBehind t (isSubDailyPart p) (takenAnswer w) ≡ takenAnswer (ifLet w (λ dur2 u. is (concat p dur2) (t + 1 + u)) (is (part p) t))
+behind-is p t (is d u) = refl
+behind-is p t nothing = refl
+behind-is p t overflow = refl
+
+taken-counted : (w : Parsed Duration) {n : ℕ} → Sized w n → TakenCounted (takenAnswer w) n
+taken-counted (is d t) h = let s = h .sizes in record { bounds = (omega arith, omega arith) }
+taken-counted nothing h = record { bounds = omega arith }
+taken-counted overflow h = record { bounds = omega arith }
+
+taken′ : (w : Taken) (n n′ : ℕ) → TakenBounds w n → n ≤ n′ → TakenBounds w n′
+taken′ (Is t b) n n′ h e = (h .0, omega arith)
+taken′ Nothing n n′ h e = omega arith
+taken′ Overflow n n′ h e = omega arith
+
+-- the same within more lexemes
+pub taken-wider : {r : Taken} {n n′ : ℕ} → TakenCounted r n → n ≤ n′ → TakenCounted r n′
+taken-wider {r} {n} {n′} h e = record { bounds = taken′ r n n′ (h .bounds) e }
+
+-- the lexemes of a duration, once the answer is known
+pub taken-found : {r : Taken} {t n : ℕ} {b : Bool} → r ≡ Is t b → TakenCounted r n → (2 ≤ t) × (t ≤ n)
+taken-found e h = (rw e at h) .bounds
+
+-- what `read_duration` promises
+pub taken-promised : {r : Taken} (l : List ℕ) → r ≡ takenAnswer (durationOf l) → (r ≡ takenAnswer (durationOf l)) × TakenCounted r (length l)
+taken-promised l e = (e, rw e (taken-counted _ (duration-sized l)))
+
+-- the duration of which an answer says the lexemes taken
+pub record TakenRead (w : Parsed Duration) (t : ℕ) (b : Bool) : Type 0 where
+  pub duration : Duration
+  pub reading : w ≡ is duration t
+  pub sub-daily : isSubDaily duration ≡ b
+
+abbrev TakenSays : Taken → Parsed Duration → Type 0
+TakenSays (Is t b) w = TakenRead w t b
+TakenSays Nothing w = w ≡ nothing
+TakenSays Overflow w = w ≡ overflow
+
+taken-answer-says : (w : Parsed Duration) → TakenSays (takenAnswer w) w
+taken-answer-says (is d t) = record { duration = d; reading = refl; sub-daily = refl }
+taken-answer-says nothing = refl
+taken-answer-says overflow = refl
+
+-- what a caller learns of the reading w from the answer that it took apart
+module _ {r : Taken} (w : Parsed Duration) (answer : r ≡ takenAnswer w) where
+  taken-says : TakenSays r w
+  taken-says = rw answer (taken-answer-says w)
+
+  pub taken-read : {t : ℕ} {b : Bool} → r ≡ Is t b → TakenRead w t b
+  taken-read e = rw e at taken-says
+
+  pub taken-none : r ≡ Nothing → w ≡ nothing
+  taken-none e = rw e at taken-says
+
+  pub taken-overflow : r ≡ Overflow → w ≡ overflow
+  taken-overflow e = rw e at taken-says
+
 -- what an answer of t lexemes with the row qs says: the duration that was read, and that its parts stand in qs behind those of ps
 pub record DurationRead (ps qs : Parts) (w : Parsed Duration) (t : ℕ) (b : Bool) : Type 0 where
   pub duration : Duration
@@ -186,7 +246,7 @@ module _ {r : DurationFound} (ps : Parts) (w : Parsed Duration) (answer : r ≡ 
   pub duration-overflow : r .taken ≡ Overflow → (w ≡ overflow) × (r .parts ≡ ps)
   duration-overflow e = rw e at says
 
--- what `read_duration` promises
+-- what `read_parts` promises
 pub duration-promised : {r : DurationFound} (ps : Parts) (l : List ℕ) → r ≡ durationAnswer ps (durationOf l)
     → (r ≡ durationAnswer ps (durationOf l)) × Counted r (ps .n) (length l)
 duration-promised ps l e = (e, rw e (counted ps _ (duration-sized l)))

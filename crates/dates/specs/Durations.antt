@@ -89,6 +89,28 @@ abbrev pub size : Duration → ℕ
 size (part p) = 1
 size (concat p d) = suc (size d)
 
+-- the code's answer without the parts: the lexemes taken, and whether the duration is sub-daily
+abbrev pub takenAnswer : Parsed Duration → Taken
+takenAnswer (is d t) = Is t (isSubDaily d)
+takenAnswer nothing = Nothing
+takenAnswer overflow = Overflow
+
+-- a part of t lexemes, and what was read behind its "and": `behind-is` says that it is what `durationStep` has there
+abbrev pub takenBehind : ℕ → Bool → Taken → Taken
+takenBehind t own (Is u b) = Is (t + 1 + u) (own || b)
+takenBehind t own Nothing = Is t own
+takenBehind t own Overflow = Overflow
+
+-- the bounds of `TakenCounted`
+abbrev pub TakenBounds : Taken → ℕ → Type 0
+TakenBounds (Is t b) n = (2 ≤ t) × (t ≤ n)
+TakenBounds Nothing n = 0 ≤ n
+TakenBounds Overflow n = 0 ≤ n
+
+-- at least two and at most n lexemes
+pub record TakenCounted (r : Taken) (n : ℕ) : Type 0 where
+  pub bounds : TakenBounds r n
+
 -- the code's answer: the lexemes taken, whether the duration is sub-daily, and its parts behind those that were there
 abbrev pub durationAnswer : Parts → Parsed Duration → DurationFound
 durationAnswer ps (is d t) = record { taken = Is t (isSubDaily d); parts = into d ps }

@@ -14,7 +14,8 @@ ghost use Prim.Native.Nat.{_+_, _*_, _≤_, _<_};
 ghost use lib.ListN.{length};
 ghost use Rattle.dates.specs.Parsed.{Took, stopped, parsedNumber};
 ghost use Rattle.dates.specs.Durations.{isSubDailyUnit, isSubDailyPart, specificOf, articleOf, concreteOf, durationOf};
-ghost use Rattle.dates.specs.Durations.{parsedPart, pushed, onePart, joinedOf, durationAnswer, Counted};
+ghost use Rattle.dates.specs.Durations.{parsedPart, takenAnswer, takenBehind, TakenCounted};
+ghost use Rattle.dates.specs.Durations.{pushed, onePart, joinedOf, durationAnswer, Counted};
 
 // One part of a duration: `Duration::Article`, `Duration::Specific`.
 pub enum Part {
@@ -201,8 +202,59 @@ fn joined(parts: Parts, part: Part, t: usize, next: DurationFound) -> DurationFo
     }
 }
 
-// Duration::parse: the parts go behind those of `parts`, where 64 lexemes leave room for them.
-pub fn read_duration(l: &[u64], parts: Parts) -> DurationFound
+// Where no part is found: nothing, or the overflow.
+fn taken_stopped(c: PartFound) -> Taken
+    ensures { λ r. ⌜ r ≡ takenAnswer (stopped (parsedPart c)) ⌝ }
+{
+    let PartFound::Overflow = c else {
+        return Taken::Nothing;
+    };
+    Taken::Overflow
+}
+
+// A part of t lexemes, "and", and what was read behind it; with nothing behind it the "and" is not taken.
+fn taken_behind(t: usize, own: bool, next: Taken) -> Taken
+    requires { ⌜ (t ≤ 64) × TakenCounted next 64 ⌝ }
+    ensures { λ r. ⌜ r ≡ takenBehind t «own» next ⌝ }
+{
+    match next {
+        Taken::Is {
+            taken: u,
+            sub_daily,
+        } => Taken::Is {
+            taken: t + 1 + u,
+            sub_daily: either(own, sub_daily),
+        },
+        Taken::Nothing => Taken::Is {
+            taken: t,
+            sub_daily: own,
+        },
+        Taken::Overflow => Taken::Overflow,
+    }
+}
+
+// Duration::parse, without its parts.
+pub fn read_duration(l: &[u64]) -> Taken
+    requires { ⌜ length (now l) ≤ 64 ⌝ }
+    ensures { λ r. ⌜ r ≡ takenAnswer (durationOf (now (l .entry))) ⌝ }
+    ensures { λ r. ⌜ TakenCounted r (length (now (l .entry))) ⌝ }
+{
+    let c = read_concrete(l);
+    let PartFound::Is(part, t) = c else {
+        return taken_stopped(c);
+    };
+    let own = is_sub_daily(part);
+    if is_at(l, t, AND) {
+        return taken_behind(t, own, read_duration(rest(l, t + 1)));
+    }
+    Taken::Is {
+        taken: t,
+        sub_daily: own,
+    }
+}
+
+// Duration::parse, with its parts behind those of `parts`, where 64 lexemes leave room for them.
+pub fn read_parts(l: &[u64], parts: Parts) -> DurationFound
     requires { ⌜ 3 * parts .n + length (now l) ≤ 64 ⌝ }
     ensures { λ r. ⌜ r ≡ durationAnswer parts (durationOf (now (l .entry))) ⌝ }
     ensures { λ r. ⌜ Counted r (parts .n) (length (now (l .entry))) ⌝ }
@@ -212,7 +264,7 @@ pub fn read_duration(l: &[u64], parts: Parts) -> DurationFound
         return duration_stopped(c, parts);
     };
     if is_at(l, t, AND) {
-        let next = read_duration(rest(l, t + 1), push(parts, part));
+        let next = read_parts(rest(l, t + 1), push(parts, part));
         return joined(parts, part, t, next);
     }
     single(parts, part, t)

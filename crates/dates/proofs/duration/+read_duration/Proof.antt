@@ -1,4 +1,4 @@
-use mathlib.Core.Path.{refl, ap}
+use mathlib.Core.Path.{refl}
 use Prim.Native.Nat.{ℕ, _≤_, _<_}
 use native.Mathlib.Omega.{arith}
 use lib.ListN.{length}
@@ -7,18 +7,16 @@ use borrow.Author.Needs.{needs}
 use borrow.Fn.Kinds.{In}
 use borrow.Fn.PlainCycle.{Measures, is, falls, and}
 use Rattle.numbers.proofs.Places.{there}
-use Rattle.dates.specs.declared.duration.Parts.{Parts}
 use Rattle.dates.specs.Durations.{parsedPart, durationStep, durationOf}
 use Rattle.dates.proofs.Laws.{unread}
-use Rattle.dates.proofs.Durations.{part-arm, part-found, duration-is, counted-wider, joined-is, duration-promised}
+use Rattle.dates.proofs.Durations.{part-arm, part-found, duration-is, taken-wider, behind-is, taken-promised}
 use Rattle.dates.proofs.duration.read_duration.Reads as read-duration
 use Rattle.dates.proofs.duration.read_duration.Kinds as read-duration-kinds
 use Rattle.dates.proofs.duration.+read_duration.Lts-read_duration as lts
-use Rattle.dates.proofs.duration.duration_stopped.Reads as duration-stopped-reads
-use Rattle.dates.proofs.duration.joined.Reads as joined-reads
-use Rattle.dates.proofs.duration.push.Reads as push-reads
+use Rattle.dates.proofs.duration.is_sub_daily.Reads as is-sub-daily-reads
 use Rattle.dates.proofs.duration.read_concrete.Reads as read-concrete-reads
-use Rattle.dates.proofs.duration.single.Reads as single-reads
+use Rattle.dates.proofs.duration.taken_behind.Reads as taken-behind-reads
+use Rattle.dates.proofs.duration.taken_stopped.Reads as taken-stopped-reads
 use Rattle.numbers.proofs.slices.is_at.Reads as is-at-reads
 use Rattle.numbers.proofs.slices.rest.Reads as rest-reads
 use Rattle.dates.proofs.duration.+read_duration.{statement}
@@ -37,20 +35,18 @@ module _ (t : ℕ) where
   claims = (
     read-concrete-reads.Asked,
     read-concrete-reads.Learnt,
-    duration-stopped-reads.Asked,
-    duration-stopped-reads.Learnt,
+    taken-stopped-reads.Asked,
+    taken-stopped-reads.Learnt,
+    is-sub-daily-reads.Asked,
+    is-sub-daily-reads.Learnt,
     is-at-reads.Asked,
     is-at-reads.Learnt,
     rest-reads.Asked,
     rest-reads.Learnt,
-    push-reads.Asked,
-    push-reads.Learnt,
     and 1 read-duration-kinds.ps (falls 1 read-duration-kinds.ps _<_ μ t) read-duration.Pre,
     read-duration.Post,
-    joined-reads.Asked,
-    joined-reads.Learnt,
-    single-reads.Asked,
-    single-reads.Learnt,
+    taken-behind-reads.Asked,
+    taken-behind-reads.Learnt,
   )
 
   -- the lexemes of the part that was read
@@ -64,8 +60,8 @@ module _ (t : ℕ) where
   enum-known-c : lts.Need-enum-known-c claims pre read-duration.Post
   enum-known-c c = search needs
 
-  duration-stopped-requires : lts.Need-duration-stopped-requires claims pre read-duration.Post
-  duration-stopped-requires c κs = search needs
+  taken-stopped-requires : lts.Need-taken-stopped-requires claims pre read-duration.Post
+  taken-stopped-requires c κs = search needs
 
   returns : lts.Need-returns claims pre read-duration.Post
   unfolding durationStep
@@ -73,80 +69,76 @@ module _ (t : ℕ) where
       let read-concrete = c .before .before .read-concrete in
       let args = c .before .before .before .before .args in
       let arm = part-arm (read-concrete .result) (c .before .match .keys2) in
-      duration-promised (args .parts) (now (args .l)) (rw (
+      taken-promised (now (args .l)) (rw (
         duration-is (now (args .l)),
         ← (read-concrete .ensures .0),
         ← (unread (parsedPart (read-concrete .result)) _ arm refl),
-      ) (c .duration-stopped .ensures))
+      ) (c .taken-stopped .ensures))
+
+  is-sub-daily-requires : lts.Need-is-sub-daily-requires claims pre read-duration.Post
+  is-sub-daily-requires c κs = search needs
 
   is-at-requires : lts.Need-is-at-requires claims pre read-duration.Post
   is-at-requires c κs = search needs
 
   add-rest : lts.Need-add-rest claims pre read-duration.Post
-  add-rest c = let b = part-took (c .before .before) in omega arith
+  add-rest c = let b = part-took (c .before .before .before) in omega arith
 
   rest-requires : lts.Need-rest-requires claims pre read-duration.Post
   rest-requires c κs =
-      let b = part-took (c .before .before) in
+      let b = part-took (c .before .before .before) in
       let room = there (c .before .is-at .ensures .1) (c .if1 .taken) in
       omega arith
-
-  push-requires : lts.Need-push-requires claims pre read-duration.Post
-  push-requires c κs = let b = part-took (c .before .before .before) in omega arith
 
   read-duration-requires : lts.Need-read-duration-requires claims pre read-duration.Post
   read-duration-requires c κs =
       let b = part-took (c .before .before .before .before) in
-      let n = ap (λ (x : Parts). x .n) (c .push .ensures) in
       (omega arith, omega arith)
 
-  joined-requires : lts.Need-joined-requires claims pre read-duration.Post
-  joined-requires c κs =
+  taken-behind-requires : lts.Need-taken-behind-requires claims pre read-duration.Post
+  taken-behind-requires c κs =
       let b = part-took (c .before .before .before .before .before) in
-      let n = ap (λ (x : Parts). x .n) (c .before .push .ensures) in
-      (omega arith, omega arith, counted-wider (rw n at (c .read-duration .ensures .1)) (omega arith))
+      (omega arith, taken-wider (c .read-duration .ensures .1) (omega arith))
 
   returns-2 : lts.Need-returns-2 claims pre read-duration.Post
   unfolding durationStep
   returns-2 c =
       let read-concrete = c .before .before .before .before .before .before .before .before .before .read-concrete in
       let part = c .before .before .before .before .before .before .before .c in
-      let is-at = c .before .before .before .before .before .is-at in
-      let if1 = c .before .before .before .before .if1 in
-      let rest = c .before .before .before .rest in
-      let push = c .before .before .push in
+      let is-sub-daily = c .before .before .before .before .before .is-sub-daily in
+      let is-at = c .before .before .before .before .is-at in
+      let if1 = c .before .before .before .if1 in
+      let rest = c .before .before .rest in
       let read-duration = c .before .read-duration in
       let args = c .before .before .before .before .before .before .before .before .before .before .before .args in
-      duration-promised (args .parts) (now (args .l)) (rw (
+      taken-promised (now (args .l)) (rw (
         duration-is (now (args .l)),
         ← (read-concrete .ensures .0),
         part .given .1,
         ← (is-at .ensures .0),
         if1 .taken,
         ← (rest .ensures .0),
-        ← (joined-is (args .parts) _ _ (durationOf (now (rest .result)))),
-        ← (push .ensures),
+        ← (behind-is _ _ (durationOf (now (rest .result)))),
+        ← (is-sub-daily .ensures),
         ← (read-duration .ensures .0),
-      ) (c .joined .ensures))
-
-  single-requires : lts.Need-single-requires claims pre read-duration.Post
-  single-requires c κs = let b = part-took (c .before .before) in omega arith
+      ) (c .taken-behind .ensures))
 
   returns-3 : lts.Need-returns-3 claims pre read-duration.Post
   unfolding durationStep
   returns-3 c =
       let read-concrete = c .before .before .before .before .before .before .read-concrete in
       let part = c .before .before .before .before .c in
-      let is-at = c .before .before .is-at in
-      let if1 = c .before .if1 in
+      let is-sub-daily = c .before .before .is-sub-daily in
+      let is-at = c .before .is-at in
       let args = c .before .before .before .before .before .before .before .before .args in
-      duration-promised (args .parts) (now (args .l)) (rw (
+      taken-promised (now (args .l)) (rw (
         duration-is (now (args .l)),
         ← (read-concrete .ensures .0),
         part .given .1,
         ← (is-at .ensures .0),
-        if1 .left,
-      ) (c .single .ensures))
+        c .if1 .left,
+        is-sub-daily .ensures,
+      ))
 
 pub +read-duration-spec : {M : Type 1} → statement M
 +read-duration-spec =
@@ -155,14 +147,13 @@ pub +read-duration-spec : {M : Type 1} → statement M
     lts.spec (claims t) (pre t) read-duration.Post
     (read-concrete-requires t)
     (enum-known-c t)
-    (duration-stopped-requires t)
+    (taken-stopped-requires t)
     (returns t)
+    (is-sub-daily-requires t)
     (is-at-requires t)
     (add-rest t)
     (rest-requires t)
-    (push-requires t)
     (read-duration-requires t)
-    (joined-requires t)
+    (taken-behind-requires t)
     (returns-2 t)
-    (single-requires t)
     (returns-3 t))
