@@ -21,11 +21,9 @@ use Rattle.expressions.specs.Tree.{relativeWeekday, weekdayRelative, wee
 use Rattle.expressions.specs.DateExprs.{Tail, relative, ago, inside, stray, inTailOf, durationTailOf, tailOf, withDate, withWeekday}
 use Rattle.expressions.specs.DateExprs.{withDurationOf, relativeExprOf, weekdayExprOf, undatedOf, dateExprOf}
 use Rattle.expressions.specs.Shapes.{sizeExpr, intoExpr}
-use Rattle.expressions.specs.ExprAnswers.{tailAnswer, TailBounds, TailCounted, exprAnswer, ExprCounted}
+use Rattle.expressions.specs.ExprAnswers.{tailAnswer, TailBounds, TailCounted}
 use Rattle.expressions.specs.declared.expr.Tail.{Tail as TailTaken}
 use Rattle.expressions.specs.declared.expr.Tail.the-variants.{Relative, Ago, Inside, Stray, Nothing as NoTail, Overflow as TailOverflow}
-use Rattle.expressions.specs.declared.expr.TailFound.{TailFound}
-use Rattle.expressions.specs.declared.expr.ExprFound.{ExprFound}
 
 abbrev Bounds : {A : Type 0} → (A → ℕ) → Parsed A → ℕ → ℕ → Type 0
 Bounds parts (is v t) k n = (k ≤ t) × (t ≤ n) × (3 * parts v ≤ t)
@@ -119,30 +117,30 @@ tail-few l =
     (duration-tail-few l)
 
 -- the bounds of the code's answer for a tail
-tail-counted : (ps : Parts) (p : Parsed Tail) {n : ℕ} → Few sizeTail p 0 n → TailCounted (tailAnswer ps p) (ps .n) n
-tail-counted ps (is (relative s u) t) h = let b = h .bounds in record { bounds = (refl, omega arith) }
-tail-counted ps (is (ago d) t) h = let b = h .bounds in let k = into-n d ps in record { bounds = (omega arith, omega arith) }
-tail-counted ps (is (inside d) t) h = let b = h .bounds in let k = into-n d ps in record { bounds = (omega arith, omega arith) }
-tail-counted ps (is stray t) h = let b = h .bounds in record { bounds = (refl, omega arith) }
-tail-counted ps nothing h = record { bounds = refl }
-tail-counted ps overflow h = record { bounds = refl }
+tail-counted : (p : Parsed Tail) {n : ℕ} → Few sizeTail p 0 n → TailCounted (tailAnswer p) n
+tail-counted (is (relative s u) t) h = let b = h .bounds in record { bounds = omega arith }
+tail-counted (is (ago d) t) h = let b = h .bounds in record { bounds = omega arith }
+tail-counted (is (inside d) t) h = let b = h .bounds in record { bounds = omega arith }
+tail-counted (is stray t) h = let b = h .bounds in record { bounds = omega arith }
+tail-counted nothing h = record { bounds = omega arith }
+tail-counted overflow h = record { bounds = omega arith }
 
-tail-wider′ : (w : TailTaken) (m k n n′ : ℕ) → n ≤ n′ → TailBounds w m k n → TailBounds w m k n′
-tail-wider′ (Relative s u t) m k n n′ e h = (h .0, omega arith)
-tail-wider′ (Ago t) m k n n′ e h = (h .0, omega arith)
-tail-wider′ (Inside t) m k n n′ e h = (h .0, omega arith)
-tail-wider′ (Stray t) m k n n′ e h = (h .0, omega arith)
-tail-wider′ NoTail m k n n′ e h = h
-tail-wider′ TailOverflow m k n n′ e h = h
+tail-wider′ : (w : TailTaken) (n n′ : ℕ) → n ≤ n′ → TailBounds w n → TailBounds w n′
+tail-wider′ (Relative s u t) n n′ e h = omega arith
+tail-wider′ (Ago t) n n′ e h = omega arith
+tail-wider′ (Inside t) n n′ e h = omega arith
+tail-wider′ (Stray t) n n′ e h = omega arith
+tail-wider′ NoTail n n′ e h = omega arith
+tail-wider′ TailOverflow n n′ e h = omega arith
 
 -- the same within more lexemes
-pub tail-wider : {r : TailFound} {m n n′ : ℕ} → TailCounted r m n → n ≤ n′ → TailCounted r m n′
-tail-wider {r} {m} {n} {n′} h e = record { bounds = tail-wider′ (r .tail) m (r .parts .n) n n′ e (h .bounds) }
+pub tail-wider : {r : TailTaken} {n n′ : ℕ} → TailCounted r n → n ≤ n′ → TailCounted r n′
+tail-wider {r} {n} {n′} h e = record { bounds = tail-wider′ r n n′ e (h .bounds) }
 
 -- what a reader of a tail promises
-pub tail-promised : {r : TailFound} (ps : Parts) {p : Parsed Tail} {n : ℕ} →
-    r ≡ tailAnswer ps p → Few sizeTail p 0 n → (r ≡ tailAnswer ps p) × TailCounted r (ps .n) n
-tail-promised ps {p} e h = (e, rw e (tail-counted ps p h))
+pub tail-promised : {r : TailTaken} {p : Parsed Tail} {n : ℕ} →
+    r ≡ tailAnswer p → Few sizeTail p 0 n → (r ≡ tailAnswer p) × TailCounted r n
+tail-promised {p = p} e h = (e, rw e (tail-counted p h))
 
 with-date-few : (d : Date) (t : ℕ) (x : Tail) (u n : ℕ) → 1 ≤ t → t + u ≤ n → 3 * sizeTail x ≤ u → Few sizeExpr (withDate d t x u) 1 n
 with-date-few d t (relative s k) u n a b c = record { bounds = omega arith }
@@ -176,7 +174,7 @@ with-duration-few l dur t a b =
     (λ h. let some = there (at-most l t lexeme.From) h in after-few l dur t (omega arith) b)
     (λ h. nothing-few))))
 
-pub relative-few : (l : List ℕ) → Few sizeExpr (relativeExprOf l) 1 (length l)
+relative-few : (l : List ℕ) → Few sizeExpr (relativeExprOf l) 1 (length l)
 unfolding relativeExprOf
 relative-few l =
     then-few (relativeSpecifierOf l) _ (specifier-took l)
@@ -185,7 +183,7 @@ relative-few l =
     (λ w u c d. record { bounds = omega arith })
     (then-few (unitOf (drop t l)) _ (unit-took (drop t l)) (λ k u c d. record { bounds = omega arith })))
 
-pub weekday-few : (l : List ℕ) → Few sizeExpr (weekdayExprOf l) 1 (length l)
+weekday-few : (l : List ℕ) → Few sizeExpr (weekdayExprOf l) 1 (length l)
 unfolding weekdayExprOf
 weekday-few l =
     if-let-few (weekdayOf l) _ _ (weekday-took l)
@@ -195,7 +193,7 @@ weekday-few l =
     (record { bounds = omega arith }))
     (relative-few l)
 
-pub undated-few : (l : List ℕ) → Few sizeExpr (undatedOf l) 1 (length l)
+undated-few : (l : List ℕ) → Few sizeExpr (undatedOf l) 1 (length l)
 unfolding undatedOf
 undated-few l =
     if-let-duration (durationOf l) _ _ (duration-sized l)
@@ -227,14 +225,3 @@ into-expr-n (before dur d) ps = into-n dur ps
 into-expr-n (after dur d) ps = into-n dur ps
 into-expr-n (weekday w) ps = omega arith
 into-expr-n empty ps = omega arith
-
--- the bounds of the code's answer for a date expression
-expr-counted : (ps : Parts) (p : Parsed DateExpr) {n : ℕ} → Few sizeExpr p 1 n → ExprCounted (exprAnswer ps p) (ps .n) n
-expr-counted ps (is x t) h = let b = h .bounds in let k = into-expr-n x ps in record { bounds = (omega arith, omega arith, omega arith) }
-expr-counted ps nothing h = record { bounds = refl }
-expr-counted ps overflow h = record { bounds = refl }
-
--- what a reader of a date expression promises
-pub expr-promised : {r : ExprFound} (ps : Parts) {p : Parsed DateExpr} {n : ℕ} →
-    r ≡ exprAnswer ps p → Few sizeExpr p 1 n → (r ≡ exprAnswer ps p) × ExprCounted r (ps .n) n
-expr-promised ps {p} e h = (e, rw e (expr-counted ps p h))

@@ -1,5 +1,5 @@
--- The answers of the code's readers of date expressions: a tree's shape and count, and its parts behind those that were there.
-use Prim.Native.Nat.{ℕ, _+_, _*_, _≤_}
+-- The answers of the code's readers of date expressions: a tree's shape, its count, and the place of its duration among the lexemes.
+use Prim.Native.Nat.{ℕ, _+_, _≤_}
 use mathlib.Core.Path.{_≡_}
 use mathlib.Core.Bool.{Bool, cond}
 use mathlib.Core.List.{List}
@@ -7,102 +7,131 @@ use lib.ListN.{drop}
 use Rattle.lexer.specs.Lexemes as lexeme
 use Rattle.numbers.specs.Slices.{isAt}
 use Rattle.dates.specs.Parsed.{Parsed, is, nothing, overflow}
-use Rattle.dates.specs.Durations.{into}
+use Rattle.dates.specs.Units.{weekdayOf}
+use Rattle.dates.specs.Durations.{durationOf, takenAnswer}
 use Rattle.dates.specs.Dates.{dateOf}
 use Rattle.dates.specs.declared.date.Date.{Date}
 use Rattle.dates.specs.declared.date.Date.the-variants.{Empty}
-use Rattle.dates.specs.declared.duration.Parts.{Parts}
+use Rattle.dates.specs.declared.duration.Taken.{Taken}
+use Rattle.dates.specs.declared.duration.Taken.the-variants as k
 use Rattle.expressions.specs.Tree.{DateExpr}
-use Rattle.expressions.specs.DateExprs.{Tail, relative, ago, inside, stray}
-use Rattle.expressions.specs.Shapes.{shape, intoExpr}
+use Rattle.expressions.specs.DateExprs.{Tail, relative, ago, inside, stray, tailOf, relativeExprOf}
+use Rattle.expressions.specs.Shapes.{shape, OwnStands}
 use Rattle.expressions.specs.declared.expr.Expr.{Expr}
 use Rattle.expressions.specs.declared.expr.Expr.the-variants as e
 use Rattle.expressions.specs.declared.expr.Tail.{Tail as TailTaken}
 use Rattle.expressions.specs.declared.expr.Tail.the-variants.{Relative, Ago, Inside, Stray, Nothing as NoTail, Overflow as TailOverflow}
-use Rattle.expressions.specs.declared.expr.TailFound.{TailFound}
 use Rattle.expressions.specs.declared.expr.ExprTaken.{ExprTaken}
 use Rattle.expressions.specs.declared.expr.ExprTaken.the-variants.{Is, Nothing, Overflow}
-use Rattle.expressions.specs.declared.expr.ExprFound.{ExprFound}
 
--- the code's answer for a tail
-abbrev pub tailAnswer : Parts → Parsed Tail → TailFound
-tailAnswer ps (is (relative s u) t) = record { tail = Relative s u t; parts = ps }
-tailAnswer ps (is (ago d) t) = record { tail = Ago t; parts = into d ps }
-tailAnswer ps (is (inside d) t) = record { tail = Inside t; parts = into d ps }
-tailAnswer ps (is stray t) = record { tail = Stray t; parts = ps }
-tailAnswer ps nothing = record { tail = NoTail; parts = ps }
-tailAnswer ps overflow = record { tail = TailOverflow; parts = ps }
+-- the code's answer for a tail: the duration of `Ago` is its first lexemes, that of `Inside` stands behind one
+abbrev pub tailAnswer : Parsed Tail → TailTaken
+tailAnswer (is (relative s u) t) = Relative s u t
+tailAnswer (is (ago d) t) = Ago t
+tailAnswer (is (inside d) t) = Inside t
+tailAnswer (is stray t) = Stray t
+tailAnswer nothing = NoTail
+tailAnswer overflow = TailOverflow
 
--- the code's answer for a date expression
-abbrev pub exprAnswer : Parts → Parsed DateExpr → ExprFound
-exprAnswer ps (is x t) = record { expr = Is (shape x) t; parts = intoExpr x ps }
-exprAnswer ps nothing = record { expr = Nothing; parts = ps }
-exprAnswer ps overflow = record { expr = Overflow; parts = ps }
+-- the code's answer for a date expression that has no duration
+abbrev pub bareAnswer : Parsed DateExpr → ExprTaken
+bareAnswer (is x t) = Is (shape x) t 0
+bareAnswer nothing = Nothing
+bareAnswer overflow = Overflow
 
-abbrev found : Expr → ℕ → Parts → ExprFound
-found x t ps = record { expr = Is x t; parts = ps }
+-- a date of t lexemes with the tail that was read behind it
+abbrev pub dateTailed : Date → ℕ → TailTaken → ExprTaken
+dateTailed d t (Relative s u k) = Is (e.DateRelative d s u) (t + k) 0
+dateTailed d t (Ago k) = Is (e.DateExpressionBefore d) (t + k) t
+dateTailed d t (Inside k) = Is (e.DateExpressionAfter d) (t + k) (t + 1)
+dateTailed d t (Stray k) = Is (e.Date d) t 0
+dateTailed d t NoTail = Is (e.Date d) t 0
+dateTailed d t TailOverflow = Overflow
 
-abbrev dateTailTaken : Date → ℕ → TailTaken → Parts → Parts → ExprFound
-dateTailTaken d t (Relative s u k) with ps = found (e.DateRelative d s u) (t + k) with
-dateTailTaken d t (Ago k) with ps = found (e.DateExpressionBefore d) (t + k) with
-dateTailTaken d t (Inside k) with ps = found (e.DateExpressionAfter d) (t + k) with
-dateTailTaken d t (Stray k) with ps = found (e.Date d) t ps
-dateTailTaken d t NoTail with ps = found (e.Date d) t ps
-dateTailTaken d t TailOverflow with ps = record { expr = Overflow; parts = ps }
-
--- a date of t lexemes with the tail that was read behind it: `date-tailed` says that it is what `dateExprOf` has there
-abbrev pub dateTailed : Date → ℕ → TailFound → Parts → ExprFound
-dateTailed d t r ps = dateTailTaken d t (r .tail) (r .parts) ps
-
-abbrev weekdayTailTaken : ℕ → ℕ → TailTaken → Parts → Parts → ExprFound
-weekdayTailTaken w t (Relative s u k) with ps = found (e.WeekdayRelative w s u) (t + k) with
-weekdayTailTaken w t (Ago k) with ps = found (e.WeekdayExpressionBefore w) (t + k) with
-weekdayTailTaken w t (Inside k) with ps = found (e.WeekdayExpressionBefore w) (t + k) with
-weekdayTailTaken w t (Stray k) with ps = found (e.Weekday w) (t + k) ps
-weekdayTailTaken w t NoTail with ps = found (e.Weekday w) t ps
-weekdayTailTaken w t TailOverflow with ps = record { expr = Overflow; parts = ps }
-
--- a weekday of t lexemes with the tail that was read behind it: `weekday-tailed` says that it is what `weekdayExprOf` has there
-abbrev pub weekdayTailed : ℕ → ℕ → TailFound → Parts → ExprFound
-weekdayTailed w t r ps = weekdayTailTaken w t (r .tail) (r .parts) ps
+-- a weekday of t lexemes with the tail that was read behind it
+abbrev pub weekdayTailed : ℕ → ℕ → TailTaken → ExprTaken
+weekdayTailed w t (Relative s u k) = Is (e.WeekdayRelative w s u) (t + k) 0
+weekdayTailed w t (Ago k) = Is (e.WeekdayExpressionBefore w) (t + k) t
+weekdayTailed w t (Inside k) = Is (e.WeekdayExpressionBefore w) (t + k) (t + 1)
+weekdayTailed w t (Stray k) = Is (e.Weekday w) (t + k) 0
+weekdayTailed w t NoTail = Is (e.Weekday w) t 0
+weekdayTailed w t TailOverflow = Overflow
 
 -- the date behind a duration and its connection of t lexemes, once it is read
-abbrev pub afterTaken : Parsed Date → ℕ → Parts → Parts → ExprFound
-afterTaken (is d u) t with ps = found (e.After d) (t + u) with
-afterTaken nothing t with ps = record { expr = Nothing; parts = ps }
-afterTaken overflow t with ps = record { expr = Overflow; parts = ps }
+abbrev pub afterTaken : Parsed Date → ℕ → ExprTaken
+afterTaken (is d u) t = Is (e.After d) (t + u) 0
+afterTaken nothing t = Nothing
+afterTaken overflow t = Overflow
 
 -- the same, from the lexemes
-abbrev pub afterAnswer : List ℕ → ℕ → Parts → Parts → ExprFound
-afterAnswer l t with ps = afterTaken (dateOf (drop t l)) t with ps
+abbrev pub afterAnswer : List ℕ → ℕ → ExprTaken
+afterAnswer l t = afterTaken (dateOf (drop t l)) t
 
--- what stands behind a duration of t lexemes: `duration-behind` says that it is what `withDurationOf` gives
-abbrev pub withDurationAnswer : List ℕ → ℕ → Bool → Parts → Parts → ExprFound
-withDurationAnswer l t subDaily with ps =
-    cond subDaily (record { expr = Nothing; parts = ps })
-    (cond (isAt l t lexeme.Ago) (found (e.Before Empty) (t + 1) with)
-    (cond (isAt l t lexeme.After) (afterAnswer l (t + 1) with ps)
-    (cond (isAt l t lexeme.From) (afterAnswer l (t + 1) with ps)
-    (record { expr = Nothing; parts = ps }))))
+-- what stands behind a duration of t lexemes
+abbrev pub withDurationAnswer : List ℕ → ℕ → Bool → ExprTaken
+withDurationAnswer l t subDaily =
+    cond subDaily Nothing
+    (cond (isAt l t lexeme.Ago) (Is (e.Before Empty) (t + 1) 0)
+    (cond (isAt l t lexeme.After) (afterAnswer l (t + 1))
+    (cond (isAt l t lexeme.From) (afterAnswer l (t + 1))
+    Nothing)))
 
--- what a tail says of the parts: k of them behind m, and of its lexemes, at most n
-abbrev pub TailBounds : TailTaken → ℕ → ℕ → ℕ → Type 0
-TailBounds (Relative s u t) m k n = (k ≡ m) × (t ≤ n)
-TailBounds (Ago t) m k n = (3 * k ≤ 3 * m + t) × (t ≤ n)
-TailBounds (Inside t) m k n = (3 * k ≤ 3 * m + t) × (t ≤ n)
-TailBounds (Stray t) m k n = (k ≡ m) × (t ≤ n)
-TailBounds NoTail m k n = k ≡ m
-TailBounds TailOverflow m k n = k ≡ m
+-- from the weekday on, once it is read
+abbrev pub weekdayTaken : Parsed ℕ → List ℕ → ExprTaken
+weekdayTaken (is w t) l = weekdayTailed w t (tailAnswer (tailOf (drop t l)))
+weekdayTaken nothing l = bareAnswer (relativeExprOf l)
+weekdayTaken overflow l = Overflow
 
--- behind m parts: at most n lexemes, and three for each part
-pub record TailCounted (r : TailFound) (m n : ℕ) : Type 0 where
-  pub bounds : TailBounds (r .tail) m (r .parts .n) n
+-- from the weekday on
+abbrev pub weekdayAnswer : List ℕ → ExprTaken
+weekdayAnswer l = weekdayTaken (weekdayOf l) l
 
-abbrev ExprBounds : ExprTaken → ℕ → ℕ → ℕ → Type 0
-ExprBounds (Is x t) m k n = (3 * k ≤ 3 * m + t) × (1 ≤ t) × (t ≤ n)
-ExprBounds Nothing m k n = k ≡ m
-ExprBounds Overflow m k n = k ≡ m
+-- from the duration on, once it is read
+abbrev pub undatedTaken : Taken → List ℕ → ExprTaken
+undatedTaken (k.Is t b) l = withDurationAnswer l t b
+undatedTaken k.Nothing l = weekdayAnswer l
+undatedTaken k.Overflow l = Overflow
 
--- behind m parts: at least one and at most n lexemes, and three for each part
-pub record ExprCounted (r : ExprFound) (m n : ℕ) : Type 0 where
-  pub bounds : ExprBounds (r .expr) m (r .parts .n) n
+-- from the duration on
+abbrev pub undatedAnswer : List ℕ → ExprTaken
+undatedAnswer l = undatedTaken (takenAnswer (durationOf l)) l
+
+-- a date expression, once its date is read
+abbrev pub exprTaken : Parsed Date → List ℕ → ExprTaken
+exprTaken (is d t) l = dateTailed d t (tailAnswer (tailOf (drop t l)))
+exprTaken nothing l = undatedAnswer l
+exprTaken overflow l = Overflow
+
+-- the code's answer for a date expression: `expr-placed` says that it is what `dateExprOf` gives, and where its duration stands
+unfoldable pub exprAnswer : List ℕ → ExprTaken
+exprAnswer l = exprTaken (dateOf l) l
+
+-- the date expression that was read of l: its shape s and count n, and its duration from the place p on
+pub record ExprRead (l : List ℕ) (w : Parsed DateExpr) (s : Expr) (n p : ℕ) : Type 0 where
+  pub expr : DateExpr
+  pub reading : w ≡ is expr n
+  pub shaped : s ≡ shape expr
+  pub within : p ≤ n
+  pub own : OwnStands expr (drop p l)
+
+abbrev pub ExprSays : List ℕ → Parsed DateExpr → ExprTaken → Type 0
+ExprSays l w (Is s n p) = ExprRead l w s n p
+ExprSays l w Nothing = w ≡ nothing
+ExprSays l w Overflow = w ≡ overflow
+
+-- what the code's answer says of the date expression at the front of l
+pub record ExprPlaced (l : List ℕ) (w : Parsed DateExpr) (r : ExprTaken) : Type 0 where
+  pub says : ExprSays l w r
+
+-- the bounds of a tail
+abbrev pub TailBounds : TailTaken → ℕ → Type 0
+TailBounds (Relative s u t) n = t ≤ n
+TailBounds (Ago t) n = t ≤ n
+TailBounds (Inside t) n = t ≤ n
+TailBounds (Stray t) n = t ≤ n
+TailBounds NoTail n = 0 ≤ n
+TailBounds TailOverflow n = 0 ≤ n
+
+-- at most n lexemes
+pub record TailCounted (r : TailTaken) (n : ℕ) : Type 0 where
+  pub bounds : TailBounds r n

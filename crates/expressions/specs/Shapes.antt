@@ -1,6 +1,10 @@
 -- A date expression without its duration, its parts, and the way back.
 use Prim.Native.Nat.{ℕ}
-use Rattle.dates.specs.Durations.{Duration, into, size}
+use mathlib.Core.Bool.{Bool, true, false}
+use mathlib.Core.Path.{_≡_}
+use mathlib.Core.List.{List}
+use Rattle.dates.specs.Parsed.{is}
+use Rattle.dates.specs.Durations.{Duration, durationOf, into, size}
 use Rattle.dates.specs.declared.duration.Parts.{Parts}
 use Rattle.expressions.specs.Tree.{DateExpr, date, dateRelative, dateExpressionAfter, dateExpressionBefore, unitRelative}
 use Rattle.expressions.specs.Tree.{relativeWeekday, weekdayRelative, weekdayExpressionBefore, before, after, weekday, empty}
@@ -21,6 +25,21 @@ shape (before dur d) = Before d
 shape (after dur d) = After d
 shape (weekday w) = Weekday w
 shape empty = Empty
+
+-- whether a duration belongs to it
+abbrev pub hasDuration : Expr → Bool
+hasDuration (Dated d) = false
+hasDuration (DateRelative d s u) = false
+hasDuration (DateExpressionAfter d) = true
+hasDuration (DateExpressionBefore d) = true
+hasDuration (UnitRelative s u) = false
+hasDuration (RelativeWeekday s w) = false
+hasDuration (WeekdayRelative w s u) = false
+hasDuration (WeekdayExpressionBefore w) = true
+hasDuration (Before d) = true
+hasDuration (After d) = true
+hasDuration (Weekday w) = false
+hasDuration Empty = false
 
 -- the parts of its duration, where it has one, behind those of a row
 abbrev pub intoExpr : DateExpr → Parts → Parts
@@ -66,3 +85,23 @@ sizeExpr (before dur d) = size dur
 sizeExpr (after dur d) = size dur
 sizeExpr (weekday w) = 0
 sizeExpr empty = 0
+
+-- a duration stands at the front of lexemes
+pub record Stands (dur : Duration) (l : List ℕ) : Type 0 where
+  pub taken : ℕ
+  pub reading : durationOf l ≡ is dur taken
+
+-- the duration of a date expression, where it has one, stands at the front of lexemes
+abbrev pub OwnStands : DateExpr → List ℕ → Type 0
+OwnStands (date d) l = Unit
+OwnStands (dateRelative d s u) l = Unit
+OwnStands (dateExpressionAfter d dur) l = Stands dur l
+OwnStands (dateExpressionBefore d dur) l = Stands dur l
+OwnStands (unitRelative s u) l = Unit
+OwnStands (relativeWeekday s w) l = Unit
+OwnStands (weekdayRelative w s u) l = Unit
+OwnStands (weekdayExpressionBefore w dur) l = Stands dur l
+OwnStands (before dur d) l = Stands dur l
+OwnStands (after dur d) l = Stands dur l
+OwnStands (weekday w) l = Unit
+OwnStands empty l = Unit

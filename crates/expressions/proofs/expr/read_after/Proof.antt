@@ -15,8 +15,8 @@ read-date-requires c κs = search needs
 enum-known-d : tie.Need-enum-known-d
 enum-known-d c = search needs
 
-add-t11 : tie.Need-add-t11
-add-t11 c =
+add-t9 : tie.Need-add-t9
+add-t9 c =
     let rest = c .before .before .before .before .rest in
     let read-date = c .before .before .before .read-date in
     let d = c .before .d in
@@ -56,7 +56,7 @@ read-after-spec =
     rest-requires
     read-date-requires
     enum-known-d
-    add-t11
+    add-t9
     enum-told
     enum-told-2
     returns

@@ -24,4 +24,5 @@ returns-2 : tie.Need-returns-2
 returns-2 c = rw (← (c .before .before .rest .ensures .0), ← (c .before .read-tail .ensures .0)) (c .with-date .ensures)
 
 pub read-date-tail-spec : {M : Type 1} → statement M
-read-date-tail-spec = tie.close (tie.spec returns rest-requires read-tail-requires with-date-requires returns-2)
+read-date-tail-spec =
+    tie.close (tie.spec returns rest-requires read-tail-requires with-date-requires returns-2)

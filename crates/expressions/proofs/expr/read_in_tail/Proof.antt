@@ -3,7 +3,7 @@ use native.Mathlib.Omega.{arith}
 use denote.Ref.{now}
 use Rattle.numbers.proofs.Places.{there}
 use Rattle.dates.specs.Durations.{durationOf}
-use Rattle.dates.proofs.Durations.{duration-read, duration-none, duration-overflow}
+use Rattle.dates.proofs.Durations.{taken-read, taken-none, taken-overflow}
 use Rattle.expressions.specs.DateExprs.{inTailOf}
 use Rattle.expressions.proofs.Few.{in-tail-few, tail-promised}
 use borrow.Author.Needs.{needs}
@@ -28,20 +28,20 @@ enum-known-taken c = search needs
 returns : tie.Need-returns
 unfolding inTailOf
 returns c =
-    let args = c .before .before .before .before .before .before .before .before .before .before .args in
-    let is-at = c .before .before .before .before .before .before .before .before .is-at in
-    let if1 = c .before .before .before .before .before .before .before .if1 in
-    let rest = c .before .before .before .before .before .before .rest in
-    let read-duration = c .before .before .before .before .before .read-duration in
+    let args = c .before .before .before .before .before .before .before .before .before .args in
+    let is-at = c .before .before .before .before .before .before .before .is-at in
+    let if1 = c .before .before .before .before .before .before .if1 in
+    let rest = c .before .before .before .before .before .rest in
+    let read-duration = c .before .before .before .before .read-duration in
     let taken = c .before .before .taken in
-    let read = duration-read (args .parts) (durationOf (now (rest .result))) (read-duration .ensures .0) (taken .given .1) in
-    tail-promised (args .parts)
+    let read = taken-read (durationOf (now (rest .result))) (read-duration .ensures .0) (taken .given .1) in
+    tail-promised
     (rw (← (is-at .ensures .0), if1 .taken, ← (rest .ensures .0), read .reading, read .sub-daily ∙ c .if2 .taken))
     (in-tail-few (now (args .l)))
 
-add-t12 : tie.Need-add-t12
-add-t12 c =
-    let read-duration = c .before .before .before .before .before .read-duration in
+add-t8 : tie.Need-add-t8
+add-t8 c =
+    let read-duration = c .before .before .before .before .read-duration in
     let taken = c .before .before .taken in
     let b = rw (taken .given .1) at (read-duration .ensures .1 .bounds) in
     omega arith
@@ -49,15 +49,15 @@ add-t12 c =
 returns-2 : tie.Need-returns-2
 unfolding inTailOf
 returns-2 c =
-    let args = c .before .before .before .before .before .before .before .before .before .before .args in
-    let is-at = c .before .before .before .before .before .before .before .before .is-at in
-    let if1 = c .before .before .before .before .before .before .before .if1 in
-    let rest = c .before .before .before .before .before .before .rest in
-    let read-duration = c .before .before .before .before .before .read-duration in
+    let args = c .before .before .before .before .before .before .before .before .before .args in
+    let is-at = c .before .before .before .before .before .before .before .is-at in
+    let if1 = c .before .before .before .before .before .before .if1 in
+    let rest = c .before .before .before .before .before .rest in
+    let read-duration = c .before .before .before .before .read-duration in
     let taken = c .before .before .taken in
-    let read = duration-read (args .parts) (durationOf (now (rest .result))) (read-duration .ensures .0) (taken .given .1) in
-    tail-promised (args .parts)
-    (rw (← (is-at .ensures .0), if1 .taken, ← (rest .ensures .0), read .reading, read .sub-daily ∙ c .if2 .left, ← (read .parts)))
+    let read = taken-read (durationOf (now (rest .result))) (read-duration .ensures .0) (taken .given .1) in
+    tail-promised
+    (rw (← (is-at .ensures .0), if1 .taken, ← (rest .ensures .0), read .reading, read .sub-daily ∙ c .if2 .left))
     (in-tail-few (now (args .l)))
 
 enum-told : tie.Need-enum-told
@@ -66,14 +66,14 @@ enum-told c = search needs
 returns-3 : tie.Need-returns-3
 unfolding inTailOf
 returns-3 c =
-    let args = c .before .before .before .before .before .before .before .before .args in
-    let is-at = c .before .before .before .before .before .before .is-at in
-    let if1 = c .before .before .before .before .before .if1 in
-    let rest = c .before .before .before .before .rest in
-    let read-duration = c .before .before .before .read-duration in
-    let none = duration-none (args .parts) (durationOf (now (rest .result))) (read-duration .ensures .0) (c .enum-told .given .1) in
-    tail-promised (args .parts)
-    (rw (← (is-at .ensures .0), if1 .taken, ← (rest .ensures .0), none .0))
+    let args = c .before .before .before .before .before .before .before .args in
+    let is-at = c .before .before .before .before .before .is-at in
+    let if1 = c .before .before .before .before .if1 in
+    let rest = c .before .before .before .rest in
+    let read-duration = c .before .before .read-duration in
+    let none = taken-none (durationOf (now (rest .result))) (read-duration .ensures .0) (c .enum-told .given .1) in
+    tail-promised
+    (rw (← (is-at .ensures .0), if1 .taken, ← (rest .ensures .0), none))
     (in-tail-few (now (args .l)))
 
 enum-told-2 : tie.Need-enum-told-2
@@ -82,14 +82,14 @@ enum-told-2 c = search needs
 returns-4 : tie.Need-returns-4
 unfolding inTailOf
 returns-4 c =
-    let args = c .before .before .before .before .before .before .before .before .args in
-    let is-at = c .before .before .before .before .before .before .is-at in
-    let if1 = c .before .before .before .before .before .if1 in
-    let rest = c .before .before .before .before .rest in
-    let read-duration = c .before .before .before .read-duration in
-    let over = duration-overflow (args .parts) (durationOf (now (rest .result))) (read-duration .ensures .0) (c .enum-told2 .given .1) in
-    tail-promised (args .parts)
-    (rw (← (is-at .ensures .0), if1 .taken, ← (rest .ensures .0), over .0))
+    let args = c .before .before .before .before .before .before .before .args in
+    let is-at = c .before .before .before .before .before .is-at in
+    let if1 = c .before .before .before .before .if1 in
+    let rest = c .before .before .before .rest in
+    let read-duration = c .before .before .read-duration in
+    let over = taken-overflow (durationOf (now (rest .result))) (read-duration .ensures .0) (c .enum-told2 .given .1) in
+    tail-promised
+    (rw (← (is-at .ensures .0), if1 .taken, ← (rest .ensures .0), over))
     (in-tail-few (now (args .l)))
 
 returns-5 : tie.Need-returns-5
@@ -97,7 +97,7 @@ unfolding inTailOf
 returns-5 c =
     let args = c .before .before .before .args in
     let is-at = c .before .is-at in
-    tail-promised (args .parts)
+    tail-promised
     (rw (← (is-at .ensures .0), c .if1 .left))
     (in-tail-few (now (args .l)))
 
@@ -110,7 +110,7 @@ read-in-tail-spec =
     read-duration-requires
     enum-known-taken
     returns
-    add-t12
+    add-t8
     returns-2
     enum-told
     returns-3

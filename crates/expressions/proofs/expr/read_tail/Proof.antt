@@ -27,7 +27,7 @@ returns c =
     let args = c .before .before .before .before .before .args in
     let read-specifier = c .before .before .before .read-specifier in
     let enum-told = c .before .enum-told in
-    tail-promised (args .parts)
+    tail-promised
     (rw (← (read-specifier .ensures .0), enum-told .given .1) (c .read-duration-tail .ensures .0))
     (tail-few (now (args .l)))
 
@@ -55,7 +55,7 @@ returns-2 c =
     let spec = c .before .before .before .before .before .spec in
     let rest = c .before .before .before .rest in
     let read-unit = c .before .before .read-unit in
-    tail-promised (args .parts)
+    tail-promised
     (rw (← (read-specifier .ensures .0), spec .given .1, ← (rest .ensures .0), ← (read-unit .ensures .0), c .enum-told2 .given .1))
     (tail-few (now (args .l)))
 
@@ -68,7 +68,7 @@ returns-3 c =
     let rest = c .before .before .before .before .rest in
     let read-unit = c .before .before .before .read-unit in
     let unit = c .before .unit in
-    tail-promised (args .parts)
+    tail-promised
     (rw (← (read-specifier .ensures .0), spec .given .1, ← (rest .ensures .0), ← (read-unit .ensures .0), unit .given .1))
     (tail-few (now (args .l)))
 

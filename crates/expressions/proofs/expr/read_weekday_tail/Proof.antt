@@ -24,4 +24,5 @@ returns-2 : tie.Need-returns-2
 returns-2 c = rw (← (c .before .before .rest .ensures .0), ← (c .before .read-tail .ensures .0)) (c .with-weekday .ensures)
 
 pub read-weekday-tail-spec : {M : Type 1} → statement M
-read-weekday-tail-spec = tie.close (tie.spec returns rest-requires read-tail-requires with-weekday-requires returns-2)
+read-weekday-tail-spec =
+    tie.close (tie.spec returns rest-requires read-tail-requires with-weekday-requires returns-2)

@@ -5,14 +5,13 @@ use Rattle.expressions.proofs.expr.with_duration.Statement.{statement}
 use Rattle.expressions.proofs.expr.with_duration.Tie as tie
 
 returns : tie.Need-returns
-returns c =
-    rw (c .if1 .taken)
+returns c = search needs
 
 is-at-requires : tie.Need-is-at-requires
 is-at-requires c κs = search needs
 
-add-t11 : tie.Need-add-t11
-add-t11 c = search needs
+add-t8 : tie.Need-add-t8
+add-t8 c = search needs
 
 returns-2 : tie.Need-returns-2
 returns-2 c =
@@ -81,7 +80,7 @@ with-duration-spec =
     (tie.spec
     returns
     is-at-requires
-    add-t11
+    add-t8
     returns-2
     is-at-requires-2
     add-read-after

@@ -3,43 +3,46 @@ use borrow.Author.Needs.{needs}
 use Rattle.expressions.proofs.expr.with_weekday.Statement.{statement}
 use Rattle.expressions.proofs.expr.with_weekday.Tie as tie
 
-enum-known-k : tie.Need-enum-known-k
-enum-known-k c = search needs
+enum-known-tail : tie.Need-enum-known-tail
+enum-known-tail c = search needs
 
-add-t15 : tie.Need-add-t15
-add-t15 c =
-    let entry = c .before .before .before .before in
-    let k = c .before .k in
+add-t12 : tie.Need-add-t12
+add-t12 c =
+    let entry = c .before .before .before in
+    let k = c .before .tail in
     let b = rw (k .given .1) at (entry .pre .1 .bounds) in
     omega arith
 
-enum-known-k-2 : tie.Need-enum-known-k-2
-enum-known-k-2 c = search needs
+enum-known-tail-2 : tie.Need-enum-known-tail-2
+enum-known-tail-2 c = search needs
 
-add-t18 : tie.Need-add-t18
-add-t18 c =
-    let entry = c .before .before .before .before in
-    let k2 = c .before .k2 in
+add-t14 : tie.Need-add-t14
+add-t14 c =
+    let entry = c .before .before .before in
+    let k2 = c .before .tail2 in
     let b = rw (k2 .given .1) at (entry .pre .1 .bounds) in
     omega arith
 
-enum-known-k-3 : tie.Need-enum-known-k-3
-enum-known-k-3 c = search needs
+enum-known-tail-3 : tie.Need-enum-known-tail-3
+enum-known-tail-3 c = search needs
 
-add-t21 : tie.Need-add-t21
-add-t21 c =
-    let entry = c .before .before .before .before in
-    let k3 = c .before .k3 in
+add-t16 : tie.Need-add-t16
+add-t16 c =
+    let entry = c .before .before .before in
+    let k3 = c .before .tail3 in
     let b = rw (k3 .given .1) at (entry .pre .1 .bounds) in
     omega arith
 
-enum-known-k-4 : tie.Need-enum-known-k-4
-enum-known-k-4 c = search needs
+add-t17 : tie.Need-add-t17
+add-t17 c = search needs
 
-add-t24 : tie.Need-add-t24
-add-t24 c =
-    let entry = c .before .before .before .before in
-    let k4 = c .before .k4 in
+enum-known-tail-4 : tie.Need-enum-known-tail-4
+enum-known-tail-4 c = search needs
+
+add-t19 : tie.Need-add-t19
+add-t19 c =
+    let entry = c .before .before .before in
+    let k4 = c .before .tail4 in
     let b = rw (k4 .given .1) at (entry .pre .1 .bounds) in
     omega arith
 
@@ -51,22 +54,22 @@ enum-told-2 c = search needs
 
 returns : tie.Need-returns
 returns c =
-    let k = c .before .k in
+    let k = c .before .tail in
     rw (k .given .1)
 
 returns-2 : tie.Need-returns-2
 returns-2 c =
-    let k2 = c .before .k2 in
+    let k2 = c .before .tail2 in
     rw (k2 .given .1)
 
 returns-3 : tie.Need-returns-3
 returns-3 c =
-    let k3 = c .before .k3 in
+    let k3 = c .before .tail3 in
     rw (k3 .given .1)
 
 returns-4 : tie.Need-returns-4
 returns-4 c =
-    let k4 = c .before .k4 in
+    let k4 = c .before .tail4 in
     rw (k4 .given .1)
 
 returns-5 : tie.Need-returns-5
@@ -74,21 +77,21 @@ returns-5 c =
     rw (c .enum-told .given .1)
 
 returns-6 : tie.Need-returns-6
-returns-6 c =
-    rw (c .enum-told2 .given .1)
+returns-6 c = search needs
 
 pub with-weekday-spec : {M : Type 1} → statement M
 with-weekday-spec =
     tie.close
     (tie.spec
-    enum-known-k
-    add-t15
-    enum-known-k-2
-    add-t18
-    enum-known-k-3
-    add-t21
-    enum-known-k-4
-    add-t24
+    enum-known-tail
+    add-t12
+    enum-known-tail-2
+    add-t14
+    enum-known-tail-3
+    add-t16
+    add-t17
+    enum-known-tail-4
+    add-t19
     enum-told
     enum-told-2
     returns
