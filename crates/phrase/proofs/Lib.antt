@@ -1,6 +1,6 @@
 pub mod Answers
 pub mod Few
 pub mod Turns
+pub mod Outlined
 pub mod Decoded
-pub mod Said
 pub mod Phrases

@@ -1,6 +1,7 @@
 pub mod Tree
 pub mod DateTimes
 pub mod Flat
+pub mod Outlines
 pub mod TurnAnswers
 pub mod Refusals
 pub mod Read

@@ -1,9 +1,5 @@
-// The reader of a whole phrase's lexemes: durations, outermost first, around one base.
+// The reader of a whole phrase's lexemes: links, outermost first, around one base. Their durations are passed here, and read at the end.
 use super::reading::Base;
-use super::reading::Reading;
-use super::reading::with_base;
-use super::reading::with_link;
-use dates::duration::Parts;
 use dates::duration::Taken;
 use dates::duration::read_duration;
 use dates::time::Time;
@@ -25,26 +21,22 @@ use numbers::slices::rest;
 use numbers::slices::take_if;
 ghost use mathlib.Core.Path.{_≡_};
 ghost use mathlib.Core.Bool.{_||_};
-ghost use Prim.Native.Nat.{_+_, _≤_, _<_, max};
+ghost use Prim.Native.Nat.{_+_, _≤_, max};
 ghost use lib.ListN.{length};
 ghost use Rattle.lexer.specs.Lexemes.{Comma};
 ghost use Rattle.numbers.specs.Slices.{isAt, oneIf};
-ghost use Rattle.phrase.specs.DateTimes.{withTimeOf, timedTurnOf, undatedTurnOf, turnOf, dateTimeOf};
-ghost use Rattle.phrase.specs.TurnAnswers.{turnAnswer, readingAnswer, exprTurn, durationTurn, linkedAnswer, Room, TurnCounted};
-ghost use Rattle.phrase.specs.TurnAnswers.{ReadingCounted};
+ghost use Rattle.phrase.specs.DateTimes.{turnOf, dateTimeOf};
+ghost use Rattle.phrase.specs.TurnAnswers.{exprTurn, durationTurn, timeTurn, timedTurn, undatedTurn, turnAnswer, TurnPlaced};
+ghost use Rattle.phrase.specs.Outlines.{noOutline, linkedOutline, OutlineCounted, OutlinePlaced};
 
-// One turn: a whole reading, or a link behind which a datetime is read again, with the lexemes taken.
+// One turn, with the lexemes taken: a whole reading, with its base, its time and the place of the base's own duration;
+// or a link, behind which a datetime is read again. The duration of `Ago` and `Link` stands in front.
 pub enum Turn {
-    Whole(usize),
+    Whole(Base, Time, usize, usize),
+    Ago(usize),
     Link(usize),
     Nothing,
     Overflow,
-}
-
-// A turn, and the reading with what it read.
-pub struct TurnFound {
-    pub turn: Turn,
-    pub reading: Reading,
 }
 
 // The lexemes that a reading takes.
@@ -54,10 +46,13 @@ pub enum Count {
     Overflow,
 }
 
-// The lexemes taken, and the reading.
-pub struct ReadingFound {
+// What is read of a whole phrase: m links in front of a base, and the place of the base's own duration.
+pub struct Outline {
     pub taken: Count,
-    pub reading: Reading,
+    pub base: Base,
+    pub time: Time,
+    pub own: usize,
+    pub m: u8,
 }
 
 // 1 for a comma or an x at t, which is taken then, and else 0.
@@ -71,204 +66,156 @@ fn take_comma_or(l: &[u64], t: usize, x: u64) -> usize
     take_if(l, t, x)
 }
 
-// [, | at] [<time>] behind a date expression of t lexemes, whose parts are the last of `parts`
-fn with_expr(l: &[u64], expr: Expr, t: usize, parts: Parts, r: Reading) -> TurnFound
+// [, | at] [<time>] behind a date expression of t lexemes, whose duration stands at `own`
+fn with_expr(l: &[u64], expr: Expr, t: usize, own: usize) -> Turn
     requires { ⌜ (t ≤ length (now l)) × (length (now l) ≤ 64) ⌝ }
-    ensures { λ x. ⌜ x ≡ exprTurn (now (l .entry)) expr t parts r ⌝ }
+    ensures { λ x. ⌜ x ≡ exprTurn (now (l .entry)) expr t own ⌝ }
 {
     let s = t + take_comma_or(l, t, AT);
     match read_time(rest(l, s)) {
-        TimeFound::Is(time, u) => TurnFound {
-            turn: Turn::Whole(s + u),
-            reading: with_base(r, Base::DateTime(expr), time, parts),
-        },
-        TimeFound::Nothing => TurnFound {
-            turn: Turn::Whole(s),
-            reading: with_base(r, Base::DateTime(expr), Time::Empty, parts),
-        },
-        TimeFound::Overflow => TurnFound {
-            turn: Turn::Overflow,
-            reading: r,
-        },
+        TimeFound::Is(time, u) => Turn::Whole(Base::DateTime(expr), time, own, s + u),
+        TimeFound::Nothing => Turn::Whole(Base::DateTime(expr), Time::Empty, own, s),
+        TimeFound::Overflow => Turn::Overflow,
     }
 }
 
-// after | from | before | ago behind a duration of t lexemes, whose parts are the last of `parts`
-fn with_duration(l: &[u64], t: usize, parts: Parts, r: Reading) -> TurnFound
-    requires { ⌜ (t ≤ length (now l)) × (length (now l) ≤ 64) × (r .m < 21) ⌝ }
-    ensures { λ x. ⌜ x ≡ durationTurn (now (l .entry)) t parts r ⌝ }
+// after | from | before | ago behind a duration of t lexemes
+fn with_duration(l: &[u64], t: usize) -> Turn
+    requires { ⌜ (t ≤ length (now l)) × (length (now l) ≤ 64) ⌝ }
+    ensures { λ x. ⌜ x ≡ durationTurn (now (l .entry)) t ⌝ }
 {
     if is_at(l, t, AFTER) {
-        return TurnFound {
-            turn: Turn::Link(t + 1),
-            reading: with_link(r, false, parts),
-        };
+        return Turn::Link(t + 1);
     }
     if is_at(l, t, FROM) {
-        return TurnFound {
-            turn: Turn::Link(t + 1),
-            reading: with_link(r, false, parts),
-        };
+        return Turn::Link(t + 1);
     }
     if is_at(l, t, BEFORE) {
-        return TurnFound {
-            turn: Turn::Link(t + 1),
-            reading: with_link(r, true, parts),
-        };
+        return Turn::Link(t + 1);
     }
     if is_at(l, t, AGO) {
-        let back = with_link(r, true, parts);
-        return TurnFound {
-            turn: Turn::Whole(t + 1),
-            reading: with_base(back, Base::Now, Time::Empty, parts),
-        };
+        return Turn::Ago(t + 1);
     }
-    TurnFound {
-        turn: Turn::Nothing,
-        reading: r,
-    }
+    Turn::Nothing
 }
 
 // [, | on] [<date_expr>] behind a time of t lexemes
-fn with_time(l: &[u64], time: Time, t: usize, r: Reading) -> TurnFound
-    requires { ⌜ (t ≤ length (now l)) × (1 ≤ t) × Room r (length (now l)) ⌝ }
-    ensures { λ x. ⌜ x ≡ turnAnswer r (withTimeOf time t (now (l .entry))) ⌝ }
-    ensures { λ x. ⌜ TurnCounted x (length (now (l .entry))) ⌝ }
+fn with_time(l: &[u64], time: Time, t: usize) -> Turn
+    requires { ⌜ (t ≤ length (now l)) × (length (now l) ≤ 64) ⌝ }
+    ensures { λ x. ⌜ x ≡ timeTurn (now (l .entry)) time t ⌝ }
 {
     let s = t + take_comma_or(l, t, ON);
-    let parts = r.parts;
-    let e = read_expr(rest(l, s), parts);
-    let with = e.parts;
-    let taken = e.expr;
-    match taken {
-        ExprTaken::Is(expr, u) => TurnFound {
-            turn: Turn::Whole(s + u),
-            reading: with_base(r, Base::TimeDate(expr), time, with),
-        },
-        ExprTaken::Nothing => TurnFound {
-            turn: Turn::Whole(s),
-            reading: with_base(r, Base::TimeDate(Expr::Empty), time, parts),
-        },
-        ExprTaken::Overflow => TurnFound {
-            turn: Turn::Overflow,
-            reading: r,
-        },
+    let e = read_expr(rest(l, s));
+    match e {
+        ExprTaken::Is(expr, u, own) => Turn::Whole(Base::TimeDate(expr), time, s + own, s + u),
+        ExprTaken::Nothing => Turn::Whole(Base::TimeDate(Expr::Empty), time, s, s),
+        ExprTaken::Overflow => Turn::Overflow,
     }
 }
 
 // <time> [, | on] [<date_expr>]
-fn read_timed(l: &[u64], r: Reading) -> TurnFound
-    requires { ⌜ Room r (length (now l)) ⌝ }
-    ensures { λ x. ⌜ x ≡ turnAnswer r (timedTurnOf (now (l .entry))) ⌝ }
-    ensures { λ x. ⌜ TurnCounted x (length (now (l .entry))) ⌝ }
+fn read_timed(l: &[u64]) -> Turn
+    requires { ⌜ length (now l) ≤ 64 ⌝ }
+    ensures { λ x. ⌜ x ≡ timedTurn (now (l .entry)) ⌝ }
 {
     match read_time(l) {
-        TimeFound::Is(time, t) => with_time(l, time, t, r),
-        TimeFound::Nothing => TurnFound {
-            turn: Turn::Nothing,
-            reading: r,
-        },
-        TimeFound::Overflow => TurnFound {
-            turn: Turn::Overflow,
-            reading: r,
-        },
+        TimeFound::Is(time, t) => with_time(l, time, t),
+        TimeFound::Nothing => Turn::Nothing,
+        TimeFound::Overflow => Turn::Overflow,
     }
 }
 
 // A duration and its connection, or a bare time.
-fn read_undated(l: &[u64], r: Reading) -> TurnFound
-    requires { ⌜ Room r (length (now l)) ⌝ }
-    ensures { λ x. ⌜ x ≡ turnAnswer r (undatedTurnOf (now (l .entry))) ⌝ }
-    ensures { λ x. ⌜ TurnCounted x (length (now (l .entry))) ⌝ }
+fn read_undated(l: &[u64]) -> Turn
+    requires { ⌜ length (now l) ≤ 64 ⌝ }
+    ensures { λ x. ⌜ x ≡ undatedTurn (now (l .entry)) ⌝ }
 {
-    let parts = r.parts;
-    let d = read_duration(l, parts);
-    let with = d.parts;
-    let taken = d.taken;
+    let taken = read_duration(l);
     match taken {
         Taken::Is {
             taken: t,
             sub_daily: _,
-        } => with_duration(l, t, with, r),
-        Taken::Nothing => read_timed(l, r),
-        Taken::Overflow => TurnFound {
-            turn: Turn::Overflow,
-            reading: r,
-        },
+        } => with_duration(l, t),
+        Taken::Nothing => read_timed(l),
+        Taken::Overflow => Turn::Overflow,
     }
 }
 
 // One turn of DateTime::parse: now, a dated phrase, a duration, or a bare time last.
-fn read_turn(l: &[u64], r: Reading) -> TurnFound
-    requires { ⌜ Room r (length (now l)) ⌝ }
-    ensures { λ x. ⌜ x ≡ turnAnswer r (turnOf (now (l .entry))) ⌝ }
-    ensures { λ x. ⌜ TurnCounted x (length (now (l .entry))) ⌝ }
+fn read_turn(l: &[u64]) -> Turn
+    requires { ⌜ length (now l) ≤ 64 ⌝ }
+    ensures { λ x. ⌜ x ≡ turnAnswer (now (l .entry)) ⌝ }
+    ensures { λ x. ⌜ TurnPlaced (now (l .entry)) (turnOf (now (l .entry))) x ⌝ }
 {
-    let parts = r.parts;
     if is_at(l, 0, NOW) {
-        return TurnFound {
-            turn: Turn::Whole(1),
-            reading: with_base(r, Base::Now, Time::Empty, parts),
-        };
+        return Turn::Whole(Base::Now, Time::Empty, 0, 1);
     }
-    let e = read_expr(l, parts);
-    let with = e.parts;
-    let taken = e.expr;
-    match taken {
-        ExprTaken::Is(expr, t) => with_expr(l, expr, t, with, r),
-        ExprTaken::Nothing => read_undated(l, r),
-        ExprTaken::Overflow => TurnFound {
-            turn: Turn::Overflow,
-            reading: r,
-        },
+    let e = read_expr(l);
+    match e {
+        ExprTaken::Is(expr, t, own) => with_expr(l, expr, t, own),
+        ExprTaken::Nothing => read_undated(l),
+        ExprTaken::Overflow => Turn::Overflow,
     }
 }
 
-// What was read behind a link of t lexemes: with nothing there the reading stays as it was.
-fn behind_link(t: usize, x: ReadingFound, r: Reading) -> ReadingFound
-    requires { ⌜ (t ≤ 64) × ReadingCounted x 64 ⌝ }
-    ensures { λ y. ⌜ y ≡ linkedAnswer t x r ⌝ }
+// Where nothing is read, or a sum is too large.
+fn ended(taken: Count) -> Outline
+    ensures { λ x. ⌜ x ≡ noOutline taken ⌝ }
 {
-    let inner = x.reading;
+    Outline {
+        taken,
+        base: Base::Now,
+        time: Time::Empty,
+        own: 0,
+        m: 0,
+    }
+}
+
+// What was read behind a link of t lexemes, with the link.
+fn behind_link(t: usize, x: Outline) -> Outline
+    requires { ⌜ (t ≤ 64) × OutlineCounted x 64 ⌝ }
+    ensures { λ y. ⌜ y ≡ linkedOutline t x ⌝ }
+{
+    let base = x.base;
+    let time = x.time;
     let taken = x.taken;
     match taken {
-        Count::Is(u) => ReadingFound {
+        Count::Is(u) => Outline {
             taken: Count::Is(t + u),
-            reading: inner,
+            base,
+            time,
+            own: t + x.own,
+            m: x.m + 1,
         },
-        Count::Nothing => ReadingFound {
-            taken: Count::Nothing,
-            reading: r,
-        },
-        Count::Overflow => ReadingFound {
-            taken: Count::Overflow,
-            reading: r,
-        },
+        Count::Nothing => ended(Count::Nothing),
+        Count::Overflow => ended(Count::Overflow),
     }
 }
 
-// DateTime::parse: what is read goes inside the links of `r`, and behind a link a datetime is read again.
-pub fn read_date_time(l: &[u64], r: Reading) -> ReadingFound
-    requires { ⌜ Room r (length (now l)) ⌝ }
-    ensures { λ x. ⌜ x ≡ readingAnswer r (dateTimeOf (now (l .entry))) ⌝ }
-    ensures { λ x. ⌜ ReadingCounted x (length (now (l .entry))) ⌝ }
+// DateTime::parse: behind a link a datetime is read again.
+pub fn read_date_time(l: &[u64]) -> Outline
+    requires { ⌜ length (now l) ≤ 64 ⌝ }
+    ensures { λ x. ⌜ OutlinePlaced (now (l .entry)) (dateTimeOf (now (l .entry))) x ⌝ }
+    ensures { λ x. ⌜ OutlineCounted x (length (now (l .entry))) ⌝ }
 {
-    let x = read_turn(l, r);
-    let inner = x.reading;
-    let turn = x.turn;
+    let turn = read_turn(l);
     match turn {
-        Turn::Whole(t) => ReadingFound {
+        Turn::Whole(base, time, own, t) => Outline {
             taken: Count::Is(t),
-            reading: inner,
+            base,
+            time,
+            own,
+            m: 0,
         },
-        Turn::Link(t) => behind_link(t, read_date_time(rest(l, t), inner), r),
-        Turn::Nothing => ReadingFound {
-            taken: Count::Nothing,
-            reading: r,
+        Turn::Ago(t) => Outline {
+            taken: Count::Is(t),
+            base: Base::Now,
+            time: Time::Empty,
+            own: t,
+            m: 1,
         },
-        Turn::Overflow => ReadingFound {
-            taken: Count::Overflow,
-            reading: r,
-        },
+        Turn::Link(t) => behind_link(t, read_date_time(rest(l, t))),
+        Turn::Nothing => ended(Count::Nothing),
+        Turn::Overflow => ended(Count::Overflow),
     }
 }

@@ -1,6 +1,7 @@
 // A phrase of bytes read whole, or refused.
 use super::date_time::Count;
 use super::date_time::read_date_time;
+use super::gather::gather;
 use super::reading::Reading;
 use super::reading::empty;
 use super::refusal::LEXEMES_LEFT;
@@ -48,15 +49,17 @@ pub fn read(phrase: &[u8]) -> PhraseRead
     }
     let n = line.count;
     let codes = line.codes;
-    let x = read_date_time(&codes[..n], none);
-    let taken = x.taken;
+    let o = read_date_time(&codes[..n]);
+    let taken = o.taken;
     match taken {
         Count::Is(t) => {
             if t < n {
                 let starts = line.starts;
                 return refuse(LEXEMES_LEFT, starts[t] as usize, phrase.len(), none);
             }
-            let reading = x.reading;
+            let base = o.base;
+            let time = o.time;
+            let reading = gather(o.m, base, time, &codes[..n], o.own, none);
             PhraseRead {
                 number: 0,
                 place: 0,

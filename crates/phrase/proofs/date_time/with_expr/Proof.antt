@@ -23,57 +23,23 @@ enum-known-time c = search needs
 
 add-t13 : tie.Need-add-t13
 add-t13 c =
-    let time = c .before .time in
-    let read-time = c .before .before .before .read-time in
-    let b = found (ap parsedTime (time .given .1)) (read-time .ensures .1) in
+    let b = found (ap parsedTime (c .before .time .given .1)) (c .before .before .before .read-time .ensures .1) in
     omega arith
-
-with-base-requires : tie.Need-with-base-requires
-with-base-requires c κs = search needs
 
 enum-told : tie.Need-enum-told
 enum-told c = search needs
-
-with-base-requires-2 : tie.Need-with-base-requires-2
-with-base-requires-2 c κs = search needs
 
 enum-told-2 : tie.Need-enum-told-2
 enum-told-2 c = search needs
 
 returns : tie.Need-returns
-returns c =
-    let time = c .before .before .time in
-    let read-time = c .before .before .before .before .read-time in
-    let rest = c .before .before .before .before .before .rest in
-    let take-comma-or = c .before .before .before .before .before .before .take-comma-or in
-    rw (
-      ← (take-comma-or .ensures .0),
-      ← (rest .ensures .0),
-      ← (read-time .ensures .0),
-      time .given .1,
-      c .with-base .ensures,
-    )
+returns c = rw (← (c .before .before .before .before .before .take-comma-or .ensures .0), ← (c .before .before .before .before .rest .ensures .0), ← (c .before .before .before .read-time .ensures .0), c .before .time .given .1)
 
 returns-2 : tie.Need-returns-2
-returns-2 c =
-    let enum-told = c .before .enum-told in
-    let read-time = c .before .before .before .read-time in
-    let rest = c .before .before .before .before .rest in
-    let take-comma-or = c .before .before .before .before .before .take-comma-or in
-    rw (
-      ← (take-comma-or .ensures .0),
-      ← (rest .ensures .0),
-      ← (read-time .ensures .0),
-      enum-told .given .1,
-      c .with-base2 .ensures,
-    )
+returns-2 c = rw (← (c .before .before .before .before .take-comma-or .ensures .0), ← (c .before .before .before .rest .ensures .0), ← (c .before .before .read-time .ensures .0), c .enum-told .given .1)
 
 returns-3 : tie.Need-returns-3
-returns-3 c =
-    let read-time = c .before .before .read-time in
-    let rest = c .before .before .before .rest in
-    let take-comma-or = c .before .before .before .before .take-comma-or in
-    rw (← (take-comma-or .ensures .0), ← (rest .ensures .0), ← (read-time .ensures .0), c .enum-told2 .given .1)
+returns-3 c = rw (← (c .before .before .before .before .take-comma-or .ensures .0), ← (c .before .before .before .rest .ensures .0), ← (c .before .before .read-time .ensures .0), c .enum-told2 .given .1)
 
 pub with-expr-spec : {M : Type 1} → statement M
 with-expr-spec =
@@ -85,9 +51,7 @@ with-expr-spec =
     read-time-requires
     enum-known-time
     add-t13
-    with-base-requires
     enum-told
-    with-base-requires-2
     enum-told-2
     returns
     returns-2

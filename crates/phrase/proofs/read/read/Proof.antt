@@ -1,6 +1,6 @@
 use Prim.Native.Nat.{ℕ}
 use native.Mathlib.Omega.{arith}
-use mathlib.Core.Path.{_≡_, ap, sym, _∙_}
+use mathlib.Core.Path.{_≡_, sym, _∙_}
 use mathlib.Core.List.{List}
 use borrow.Author.Tests.{lt-ltb, le-ltb}
 use denote.Ref.{now}
@@ -13,9 +13,7 @@ use Rattle.phrase.specs.Tree.{DateTime}
 use Rattle.phrase.specs.DateTimes.{dateTimeOf}
 use Rattle.phrase.specs.Flat.{blank}
 use Rattle.phrase.specs.Read.{readCodes, readOf}
-use Rattle.phrase.specs.TurnAnswers.{readingAnswer}
-use Rattle.phrase.specs.declared.reading.Reading.{Reading}
-use Rattle.phrase.proofs.Said.{tree-read, tree-none, tree-overflow}
+use Rattle.phrase.proofs.Outlined.{tree-read, tree-none, tree-overflow}
 use Rattle.phrase.proofs.Phrases.{read-whole, read-refused, refusal-answered}
 use borrow.Author.Needs.{needs}
 use Rattle.phrase.proofs.read.read.Statement.{statement}
@@ -50,10 +48,6 @@ whole d = read-whole (bytes d) (d .before .before .before .before .before .lex .
 none-is : (d : tie.After-read-date-time) → d .before .before .before .before .before .before .empty .result ≡ blank
 none-is d = d .before .before .before .before .before .before .empty .ensures
 
--- the code's answer, inside it
-answer : (d : tie.After-read-date-time) → d .read-date-time .result ≡ readingAnswer blank (parsed d)
-answer d = d .read-date-time .ensures .0 ∙ ap (λ (r : Reading). readingAnswer r (parsed d)) (none-is d)
-
 empty-requires : tie.Need-empty-requires
 empty-requires c κs = search needs
 
@@ -80,7 +74,7 @@ slice-aggregate-read-date-time c = sym (counted c)
 read-date-time-requires : tie.Need-read-date-time-requires
 read-date-time-requires c κs =
     let n = counted c in
-    rw (c .before .before .before .before .before .empty .ensures) (record { parts = omega arith; links = omega arith })
+    omega arith
 
 enum-known-taken : tie.Need-enum-known-taken
 enum-known-taken c = search needs
@@ -98,10 +92,23 @@ returns-2 : tie.Need-returns-2
 returns-2 c =
     let d = c .before .before .before .before .before .before in
     let taken = c .before .before .before .before .taken in
-    let said = tree-read blank (parsed d) (answer d) (taken .given .1) in
+    let said = tree-read (d .read-date-time .ensures .0) (taken .given .1) in
     refusal-answered (c .refuse2 .ensures) (none-is d) (
     rw (said .reading, lt-ltb (taken .given .0 .0) (line d .count) (c .before .before .if2 .taken)) at (whole d)
     )
+
+array-share-prefix-codes-2 : tie.Need-array-share-prefix-codes-2
+array-share-prefix-codes-2 c = search needs
+
+slice-aggregate-gather : tie.Need-slice-aggregate-gather
+slice-aggregate-gather c = sym (counted (c .before .before .before .before .before .before))
+
+gather-requires : tie.Need-gather-requires
+gather-requires c κs =
+    let d = c .before .before .before .before .before in
+    let n = counted (d .before) in
+    let b = rw (c .before .before .before .taken .given .1) at (d .read-date-time .ensures .1 .bounds) in
+    (omega arith, rw (none-is d) (record { parts = omega arith; links = omega arith }))
 
 enum-told : tie.Need-enum-told
 enum-told c = search needs
@@ -117,22 +124,23 @@ refuse-requires-4 c κs = search needs
 
 returns-3 : tie.Need-returns-3
 returns-3 c =
-    let d = c .before .before .before .before .before in
-    let taken = c .before .before .before .taken in
-    let said = tree-read blank (parsed d) (answer d) (taken .given .1) in
-    let same = rw (said .reading, le-ltb (taken .given .0 .0) (line d .count) (c .before .if2 .left)) at (whole d) in
-    rw (← (same), ← (said .flattened))
+    let d = c .before .before .before .before .before .before in
+    let taken = c .before .before .before .before .taken in
+    let said = tree-read (d .read-date-time .ensures .0) (taken .given .1) in
+    let same = rw (said .reading, le-ltb (taken .given .0 .0) (line d .count) (c .before .before .if2 .left)) at (whole d) in
+    let reading = (rw (none-is d) at (c .gather .ensures)) ∙ said .gathers blank in
+    rw (← (same), ← (reading))
 
 returns-4 : tie.Need-returns-4
 returns-4 c =
     let d = c .before .before .before in
-    let none = tree-none blank (parsed d) (answer d) (c .before .enum-told .given .1) in
+    let none = tree-none (d .read-date-time .ensures .0) (c .before .enum-told .given .1) in
     refusal-answered (c .refuse3 .ensures) (none-is d) (rw none at (whole d))
 
 returns-5 : tie.Need-returns-5
 returns-5 c =
     let d = c .before .before .before in
-    let overflow = tree-overflow blank (parsed d) (answer d) (c .before .enum-told2 .given .1) in
+    let overflow = tree-overflow (d .read-date-time .ensures .0) (c .before .enum-told2 .given .1) in
     refusal-answered (c .refuse4 .ensures) (none-is d) (rw overflow at (whole d))
 
 pub read-spec : {M : Type 1} → statement M
@@ -151,6 +159,9 @@ read-spec =
     array-read-refuse
     refuse-requires-2
     returns-2
+    array-share-prefix-codes-2
+    slice-aggregate-gather
+    gather-requires
     enum-told
     refuse-requires-3
     enum-told-2

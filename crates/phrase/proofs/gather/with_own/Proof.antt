@@ -1,0 +1,32 @@
+use borrow.Author.Needs.{needs}
+use Rattle.phrase.proofs.gather.with_own.Statement.{statement}
+use Rattle.phrase.proofs.gather.with_own.Tie as tie
+
+has-own-requires : tie.Need-has-own-requires
+has-own-requires c κs = search needs
+
+read-parts-requires : tie.Need-read-parts-requires
+read-parts-requires c κs = search needs
+
+with-base-requires : tie.Need-with-base-requires
+with-base-requires c κs = search needs
+
+returns : tie.Need-returns
+returns c = rw (← (c .before .before .before .before .has-own .ensures), c .before .before .before .if1 .taken, ← (c .before .before .read-parts .ensures .0)) (c .with-base .ensures)
+
+with-base-requires-2 : tie.Need-with-base-requires-2
+with-base-requires-2 c κs = search needs
+
+returns-2 : tie.Need-returns-2
+returns-2 c = rw (← (c .before .before .has-own .ensures), c .before .if1 .left) (c .with-base2 .ensures)
+
+pub with-own-spec : {M : Type 1} → statement M
+with-own-spec =
+    tie.close
+    (tie.spec
+    has-own-requires
+    read-parts-requires
+    with-base-requires
+    returns
+    with-base-requires-2
+    returns-2)
