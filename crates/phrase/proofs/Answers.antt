@@ -179,7 +179,7 @@ undated-turn l = go (durationOf l) refl
     go overflow f = record { says = refl }
 
 -- the code's answer for a turn is what `turnOf` gives, and its durations stand where it says
-turn-placed : (l : List ℕ) → TurnPlaced l (turnOf l) (turnAnswer l)
+pub turn-placed : (l : List ℕ) → TurnPlaced l (turnOf l) (turnAnswer l)
 unfolding turnOf turnAnswer
 turn-placed l = go (isAt l 0 lexeme.Now) _ (expr-placed l)
   where

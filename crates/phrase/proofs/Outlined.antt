@@ -1,5 +1,5 @@
 -- The outlines that are read: what is gathered from them is the flat reading of the tree, and their bounds.
-use Prim.Native.Nat.{ℕ, zero, suc, _+_, _-_, _≤_}
+use Prim.Native.Nat.{ℕ, zero, suc, _+_, _-_, _≤_, _<_}
 use native.Mathlib.Omega.{arith}
 use native.Mathlib.Numerals.{add-one}
 use mathlib.Core.Path.{_≡_, refl, subst, _∙_}
@@ -7,6 +7,7 @@ use mathlib.Core.Bool.{Bool, true, false}
 use mathlib.Core.List.{List}
 use lib.ListN.{length, drop, length-drop}
 use borrow.Author.Tests.{lt-ltb}
+use Rattle.numbers.proofs.Again.{again-is}
 use Rattle.dates.specs.Parsed.{Parsed, is, nothing, overflow}
 use Rattle.dates.specs.Durations.{Duration, into, durationOf, durationAnswer}
 use Rattle.dates.specs.declared.time.Time.{Time}
@@ -14,7 +15,7 @@ use Rattle.dates.specs.declared.time.Time.the-variants.{Empty}
 use Rattle.phrase.specs.Tree.{DateTime, around, now}
 use Rattle.phrase.specs.DateTimes.{turnOf, dateTimeStep, dateTimeOf}
 use Rattle.phrase.specs.Flat.{flatFrom, linkedParts}
-use Rattle.phrase.specs.TurnAnswers.{LinkFront, TurnPlaced}
+use Rattle.phrase.specs.TurnAnswers.{turnAnswer, outlineTaken, outlineStep, outlineOf, LinkFront, TurnPlaced}
 use Rattle.phrase.specs.Outlines.{linkOn, gathered, noOutline, linkedTaken, linkedOutline, OutlineTaken, OutlineRead, OutlinePlaced, OutlineBounds, OutlineCounted}
 use Rattle.phrase.specs.declared.reading.Base.{Base}
 use Rattle.phrase.specs.declared.reading.Base.the-variants.{Now}
@@ -24,6 +25,7 @@ use Rattle.phrase.specs.declared.date_time.Turn.the-variants.{Whole, Ago
 use Rattle.phrase.specs.declared.date_time.Count.{Count}
 use Rattle.phrase.specs.declared.date_time.Count.the-variants.{Is, Nothing, Overflow}
 use Rattle.phrase.specs.declared.date_time.Outline.{Outline}
+use Rattle.phrase.proofs.Answers.{turn-placed}
 use Rattle.phrase.proofs.Few.{turn-few}
 use Rattle.phrase.proofs.Turns.{date-time-is}
 
@@ -123,6 +125,25 @@ module _ (l : List ℕ) where
   -- the lexemes of a link
   pub link-bounds : {x : TurnTaken} {n : ℕ} → x ≡ Link n → TurnPlaced l (turnOf l) x → (1 ≤ n) × (n ≤ length l)
   link-bounds e h = let few = (rw ((rw e at h) .says .reading) at (turn-few l)) .bounds in omega arith
+
+step-agree : (D E : List ℕ → Outline) (l : List ℕ) → ((m : List ℕ) → length m < length l → D m ≡ E m) → outlineStep D l ≡ outlineStep E l
+unfolding outlineStep
+step-agree D E l agree = go (turnAnswer l) refl
+  where
+    go : (x : TurnTaken) → turnAnswer l ≡ x → outlineTaken x D l ≡ outlineTaken x E l
+    go (Whole b time p n) e = refl
+    go (Ago n) e = refl
+    go (Link n) e =
+        let b = link-bounds l e (turn-placed l) in
+        let left = length-drop n l in
+        rw (agree (drop n l) (omega arith))
+    go NoTurn e = refl
+    go TurnOverflow e = refl
+
+-- `read_date_time` calls itself
+pub outline-is : (l : List ℕ) → outlineOf l ≡ outlineStep outlineOf l
+unfolding outlineOf
+outline-is l = again-is (noOutline Nothing) outlineStep step-agree l
 
 wider : (c : Count) (x : Outline) (n m : ℕ) → n ≤ m → OutlineBounds c x n → OutlineBounds c x m
 wider (Is u) x n m h b = omega arith

@@ -1,10 +1,11 @@
--- The answers of the code's readers of one turn: the base, its time, where its own duration stands, and the lexemes taken.
+-- The answers of the code's readers: the base, its time, where its own duration stands, the lexemes taken, and of a whole tree the links.
 use Prim.Native.Nat.{ℕ, _+_, _≤_}
 use mathlib.Core.Path.{_≡_}
 use mathlib.Core.Bool.{Bool, true, false, cond, _||_}
 use mathlib.Core.List.{List}
 use lib.ListN.{drop}
 use Rattle.lexer.specs.Lexemes as lexeme
+use Rattle.numbers.specs.Again.{again}
 use Rattle.numbers.specs.Slices.{isAt, oneIf}
 use Rattle.dates.specs.Parsed.{Parsed, is, nothing, overflow}
 use Rattle.dates.specs.Durations.{Duration, durationOf, takenAnswer}
@@ -21,10 +22,12 @@ use Rattle.expressions.specs.declared.expr.ExprTaken.the-variants as e
 use Rattle.phrase.specs.Tree.{DateTime, durationBefore, now}
 use Rattle.phrase.specs.DateTimes.{Turn, whole, link}
 use Rattle.phrase.specs.Flat.{flatFrom}
-use Rattle.phrase.specs.Outlines.{isBack, withOwn}
+use Rattle.phrase.specs.Outlines.{isBack, withOwn, noOutline, linkedOutline}
 use Rattle.phrase.specs.declared.reading.Base.{Base}
 use Rattle.phrase.specs.declared.reading.Base.the-variants.{Now, DateTime as Dated, TimeDate as Timed}
 use Rattle.phrase.specs.declared.reading.Reading.{Reading}
+use Rattle.phrase.specs.declared.date_time.Count.the-variants.{Is, Nothing, Overflow}
+use Rattle.phrase.specs.declared.date_time.Outline.{Outline}
 use Rattle.phrase.specs.declared.date_time.Turn.{Turn as TurnTaken}
 use Rattle.phrase.specs.declared.date_time.Turn.the-variants.{Whole, Ago, Link, Nothing as NoTurn, Overflow as TurnOverflow}
 
@@ -125,3 +128,18 @@ TurnSays l w TurnOverflow = w ≡ overflow
 -- what the code's answer says of the turn at the front of l
 pub record TurnPlaced (l : List ℕ) (w : Parsed Turn) (r : TurnTaken) : Type 0 where
   pub says : TurnSays l w r
+
+abbrev pub outlineTaken : TurnTaken → (List ℕ → Outline) → List ℕ → Outline
+outlineTaken (Whole b time p n) D l = record { taken = Is n; base = b; time = time; own = p; m = 0 }
+outlineTaken (Ago n) D l = record { taken = Is n; base = Now; time = Empty; own = n; m = 1 }
+outlineTaken (Link n) D l = linkedOutline n (D (drop n l))
+outlineTaken NoTurn D l = noOutline Nothing
+outlineTaken TurnOverflow D l = noOutline Overflow
+
+-- the code's answer for a whole tree, with D for the one that is read again behind a link
+unfoldable pub outlineStep : (List ℕ → Outline) → List ℕ → Outline
+outlineStep D l = outlineTaken (turnAnswer l) D l
+
+-- the code's answer for a whole tree (`outline-is`: outlineOf l ≡ outlineStep outlineOf l)
+unfoldable pub outlineOf : List ℕ → Outline
+outlineOf l = again (noOutline Nothing) outlineStep l

@@ -26,7 +26,7 @@ ghost use lib.ListN.{length};
 ghost use Rattle.lexer.specs.Lexemes.{Comma};
 ghost use Rattle.numbers.specs.Slices.{isAt, oneIf};
 ghost use Rattle.phrase.specs.DateTimes.{turnOf, dateTimeOf};
-ghost use Rattle.phrase.specs.TurnAnswers.{exprTurn, durationTurn, timeTurn, timedTurn, undatedTurn, turnAnswer, TurnPlaced};
+ghost use Rattle.phrase.specs.TurnAnswers.{exprTurn, durationTurn, timeTurn, timedTurn, undatedTurn, turnAnswer, outlineOf, TurnPlaced};
 ghost use Rattle.phrase.specs.Outlines.{noOutline, linkedOutline, OutlineCounted, OutlinePlaced};
 
 // One turn, with the lexemes taken: a whole reading, with its base, its time and the place of the base's own duration;
@@ -195,6 +195,7 @@ fn behind_link(t: usize, x: Outline) -> Outline
 // DateTime::parse: behind a link a datetime is read again.
 pub fn read_date_time(l: &[u64]) -> Outline
     requires { ⌜ length (now l) ≤ 64 ⌝ }
+    ensures { λ x. ⌜ x ≡ outlineOf (now (l .entry)) ⌝ }
     ensures { λ x. ⌜ OutlinePlaced (now (l .entry)) (dateTimeOf (now (l .entry))) x ⌝ }
     ensures { λ x. ⌜ OutlineCounted x (length (now (l .entry))) ⌝ }
 {

@@ -1,9 +1,10 @@
-use mathlib.Core.Path.{refl}
 use native.Mathlib.Omega.{arith}
 use lib.ListN.{length}
 use denote.Ref.{now}
 use borrow.Author.Needs.{needs}
-use Rattle.phrase.proofs.Outlined.{whole-outlined, ago-outlined, link-outlined, none-outlined, overflow-outlined, link-bounds, outline-wider}
+use Rattle.phrase.proofs.Outlined.{whole-outlined, ago-outlined, link-outlined, none-outlined, overflow-outlined, link-bounds}
+use Rattle.phrase.proofs.Outlined.{outline-is, outline-wider}
+use Rattle.phrase.specs.TurnAnswers.{outlineStep}
 use Prim.Native.Nat.{ℕ, _<_}
 use borrow.Fn.Kinds.{In}
 use borrow.Fn.PlainCycle.{Measures, is, falls, and}
@@ -65,7 +66,7 @@ module _ (t : ℕ) where
   behind-link-requires : lts.Need-behind-link-requires claims pre read-date-time.Post
   behind-link-requires c κs =
       let b = link-bounds (now (c .before .before .before .before .before .before .before .args .l)) (c .before .before .before .turn3 .given .1) (c .before .before .before .before .before .read-turn .ensures .1) in
-      (omega arith, outline-wider (omega arith) (c .read-date-time .ensures .1))
+      (omega arith, outline-wider (omega arith) (c .read-date-time .ensures .1 .1))
 
   enum-told : lts.Need-enum-told claims pre read-date-time.Post
   enum-told c = search needs
@@ -80,22 +81,49 @@ module _ (t : ℕ) where
   ended-requires-2 c κs = search needs
 
   returns : lts.Need-returns claims pre read-date-time.Post
-  returns c = whole-outlined (now (c .before .before .before .before .before .args .l)) (rw (c .before .turn .given .1) at (c .before .before .before .read-turn .ensures .1))
+  unfolding outlineStep
+  returns c =
+      let l = now (c .before .before .before .before .before .args .l) in
+      let read-turn = c .before .before .before .read-turn in
+      let said = c .before .turn .given .1 in
+      (rw (outline-is l, ← (read-turn .ensures .0), said), whole-outlined l (rw said at (read-turn .ensures .1)))
 
   returns-2 : lts.Need-returns-2 claims pre read-date-time.Post
-  returns-2 c = ago-outlined (now (c .before .before .before .before .before .args .l)) (rw (c .before .turn2 .given .1) at (c .before .before .before .read-turn .ensures .1))
+  unfolding outlineStep
+  returns-2 c =
+      let l = now (c .before .before .before .before .before .args .l) in
+      let read-turn = c .before .before .before .read-turn in
+      let said = c .before .turn2 .given .1 in
+      (rw (outline-is l, ← (read-turn .ensures .0), said), ago-outlined l (rw said at (read-turn .ensures .1)))
 
   returns-3 : lts.Need-returns-3 claims pre read-date-time.Post
+  unfolding outlineStep
   returns-3 c =
-      let turn = rw (c .before .before .before .before .turn3 .given .1) at (c .before .before .before .before .before .before .read-turn .ensures .1) in
-      let behind = rw (c .before .before .rest .ensures .0) at (c .before .read-date-time .ensures) in
-      rw (c .behind-link .ensures) (link-outlined (now (c .before .before .before .before .before .before .before .before .args .l)) (c .before .read-date-time .result) turn behind)
+      let l = now (c .before .before .before .before .before .before .before .before .args .l) in
+      let read-turn = c .before .before .before .before .before .before .read-turn in
+      let said = c .before .before .before .before .turn3 .given .1 in
+      let rest = c .before .before .rest in
+      let read-date-time = c .before .read-date-time in
+      let behind = rw (rest .ensures .0) at (read-date-time .ensures .1) in (
+        rw (outline-is l, ← (read-turn .ensures .0), said, ← (rest .ensures .0), ← (read-date-time .ensures .0)) (c .behind-link .ensures),
+        rw (c .behind-link .ensures) (link-outlined l (read-date-time .result) (rw said at (read-turn .ensures .1)) behind),
+      )
 
   returns-4 : lts.Need-returns-4 claims pre read-date-time.Post
-  returns-4 c = rw (c .ended .ensures) (none-outlined (now (c .before .before .before .before .before .args .l)) (rw (c .before .enum-told .given .1) at (c .before .before .before .read-turn .ensures .1)))
+  unfolding outlineStep
+  returns-4 c =
+      let l = now (c .before .before .before .before .before .args .l) in
+      let read-turn = c .before .before .before .read-turn in
+      let said = c .before .enum-told .given .1 in
+      (rw (outline-is l, ← (read-turn .ensures .0), said) (c .ended .ensures), rw (c .ended .ensures) (none-outlined l (rw said at (read-turn .ensures .1))))
 
   returns-5 : lts.Need-returns-5 claims pre read-date-time.Post
-  returns-5 c = rw (c .ended2 .ensures) (overflow-outlined (now (c .before .before .before .before .before .args .l)) (rw (c .before .enum-told2 .given .1) at (c .before .before .before .read-turn .ensures .1)))
+  unfolding outlineStep
+  returns-5 c =
+      let l = now (c .before .before .before .before .before .args .l) in
+      let read-turn = c .before .before .before .read-turn in
+      let said = c .before .enum-told2 .given .1 in
+      (rw (outline-is l, ← (read-turn .ensures .0), said) (c .ended2 .ensures), rw (c .ended2 .ensures) (overflow-outlined l (rw said at (read-turn .ensures .1))))
 
 pub +read-date-time-spec : {M : Type 1} → statement M
 +read-date-time-spec =

@@ -92,7 +92,7 @@ returns-2 : tie.Need-returns-2
 returns-2 c =
     let d = c .before .before .before .before .before .before in
     let taken = c .before .before .before .before .taken in
-    let said = tree-read (d .read-date-time .ensures .0) (taken .given .1) in
+    let said = tree-read (d .read-date-time .ensures .1 .0) (taken .given .1) in
     refusal-answered (c .refuse2 .ensures) (none-is d) (
     rw (said .reading, lt-ltb (taken .given .0 .0) (line d .count) (c .before .before .if2 .taken)) at (whole d)
     )
@@ -107,7 +107,7 @@ gather-requires : tie.Need-gather-requires
 gather-requires c κs =
     let d = c .before .before .before .before .before in
     let n = counted (d .before) in
-    let b = rw (c .before .before .before .taken .given .1) at (d .read-date-time .ensures .1 .bounds) in
+    let b = rw (c .before .before .before .taken .given .1) at (d .read-date-time .ensures .1 .1 .bounds) in
     (omega arith, rw (none-is d) (record { parts = omega arith; links = omega arith }))
 
 enum-told : tie.Need-enum-told
@@ -126,7 +126,7 @@ returns-3 : tie.Need-returns-3
 returns-3 c =
     let d = c .before .before .before .before .before .before in
     let taken = c .before .before .before .before .taken in
-    let said = tree-read (d .read-date-time .ensures .0) (taken .given .1) in
+    let said = tree-read (d .read-date-time .ensures .1 .0) (taken .given .1) in
     let same = rw (said .reading, le-ltb (taken .given .0 .0) (line d .count) (c .before .before .if2 .left)) at (whole d) in
     let reading = (rw (none-is d) at (c .gather .ensures)) ∙ said .gathers blank in
     rw (← (same), ← (reading))
@@ -134,13 +134,13 @@ returns-3 c =
 returns-4 : tie.Need-returns-4
 returns-4 c =
     let d = c .before .before .before in
-    let none = tree-none (d .read-date-time .ensures .0) (c .before .enum-told .given .1) in
+    let none = tree-none (d .read-date-time .ensures .1 .0) (c .before .enum-told .given .1) in
     refusal-answered (c .refuse3 .ensures) (none-is d) (rw none at (whole d))
 
 returns-5 : tie.Need-returns-5
 returns-5 c =
     let d = c .before .before .before in
-    let overflow = tree-overflow (d .read-date-time .ensures .0) (c .before .enum-told2 .given .1) in
+    let overflow = tree-overflow (d .read-date-time .ensures .1 .0) (c .before .enum-told2 .given .1) in
     refusal-answered (c .refuse4 .ensures) (none-is d) (rw overflow at (whole d))
 
 pub read-spec : {M : Type 1} → statement M
