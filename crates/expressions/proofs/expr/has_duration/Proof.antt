@@ -5,7 +5,8 @@ use types.Run.{OneOf, miss}
 use denote.Enum.Declared.{tagOf}
 use Rattle.expressions.proofs.expr.Expr.{the-type}
 use Rattle.expressions.specs.declared.expr.Expr.{Expr}
-use Rattle.expressions.specs.declared.expr.Expr.the-variants.{Date, DateRelative, DateExpressionAfter, DateExpressionBefore, UnitRelative, RelativeWeekday, WeekdayRelative, WeekdayExpressionBefore, Before, After, Weekday, Empty}
+use Rattle.expressions.specs.declared.expr.Expr.the-variants.{Date, DateRelative, DateExpressionAfter, DateExpressionBefore, UnitRelative}
+use Rattle.expressions.specs.declared.expr.Expr.the-variants.{RelativeWeekday, WeekdayRelative, WeekdayExpressionBefore, Before, After, Weekday, Empty}
 use Rattle.expressions.specs.Shapes.{hasDuration}
 use Rattle.expressions.proofs.expr.has_duration.Statement.{statement}
 use Rattle.expressions.proofs.expr.has_duration.Tie as tie

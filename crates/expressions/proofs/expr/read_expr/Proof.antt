@@ -33,15 +33,29 @@ enum-told-2 c = search needs
 
 returns : tie.Need-returns
 unfolding exprAnswer
-returns c = expr-promised (now (c .before .before .before .before .before .before .args .l)) (rw (← (c .before .before .before .before .read-date .ensures .0), c .before .before .d .given .1) (c .read-date-tail .ensures))
+returns c =
+    let args = c .before .before .before .before .before .before .args in
+    let read-date = c .before .before .before .before .read-date in
+    let d = c .before .before .d in
+    let read-date-tail = c .read-date-tail in
+    expr-promised (now (args .l)) (rw (← (read-date .ensures .0), d .given .1) (read-date-tail .ensures))
 
 returns-2 : tie.Need-returns-2
 unfolding exprAnswer
-returns-2 c = expr-promised (now (c .before .before .before .before .before .args .l)) (rw (← (c .before .before .before .read-date .ensures .0), c .before .enum-told .given .1) (c .read-undated .ensures))
+returns-2 c =
+    let args = c .before .before .before .before .before .args in
+    let read-date = c .before .before .before .read-date in
+    let enum-told = c .before .enum-told in
+    let read-undated = c .read-undated in
+    expr-promised (now (args .l)) (rw (← (read-date .ensures .0), enum-told .given .1) (read-undated .ensures))
 
 returns-3 : tie.Need-returns-3
 unfolding exprAnswer
-returns-3 c = expr-promised (now (c .before .before .before .before .args .l)) (rw (← (c .before .before .read-date .ensures .0), c .enum-told2 .given .1))
+returns-3 c =
+    let args = c .before .before .before .before .args in
+    let read-date = c .before .before .read-date in
+    let enum-told2 = c .enum-told2 in
+    expr-promised (now (args .l)) (rw (← (read-date .ensures .0), enum-told2 .given .1))
 
 pub read-expr-spec : {M : Type 1} → statement M
 read-expr-spec =

@@ -55,17 +55,23 @@ module _ (t : ℕ) where
 
   rest-requires : lts.Need-rest-requires claims pre read-date-time.Post
   rest-requires c κs =
-      let b = link-bounds (now (c .before .before .before .before .before .args .l)) (c .before .turn3 .given .1) (c .before .before .before .read-turn .ensures .1) in
+      let args = c .before .before .before .before .before .args in
+      let read-turn = c .before .before .before .read-turn in
+      let b = link-bounds (now (args .l)) (c .before .turn3 .given .1) (read-turn .ensures .1) in
       omega arith
 
   read-date-time-requires : lts.Need-read-date-time-requires claims pre read-date-time.Post
   read-date-time-requires c κs =
-      let b = link-bounds (now (c .before .before .before .before .before .before .args .l)) (c .before .before .turn3 .given .1) (c .before .before .before .before .read-turn .ensures .1) in
+      let args = c .before .before .before .before .before .before .args in
+      let read-turn = c .before .before .before .before .read-turn in
+      let b = link-bounds (now (args .l)) (c .before .before .turn3 .given .1) (read-turn .ensures .1) in
       (omega arith, omega arith)
 
   behind-link-requires : lts.Need-behind-link-requires claims pre read-date-time.Post
   behind-link-requires c κs =
-      let b = link-bounds (now (c .before .before .before .before .before .before .before .args .l)) (c .before .before .before .turn3 .given .1) (c .before .before .before .before .before .read-turn .ensures .1) in
+      let args = c .before .before .before .before .before .before .before .args in
+      let read-turn = c .before .before .before .before .before .read-turn in
+      let b = link-bounds (now (args .l)) (c .before .before .before .turn3 .given .1) (read-turn .ensures .1) in
       (omega arith, outline-wider (omega arith) (c .read-date-time .ensures .1 .1))
 
   enum-told : lts.Need-enum-told claims pre read-date-time.Post

@@ -35,15 +35,35 @@ enum-told-2 c = search needs
 
 returns-2 : tie.Need-returns-2
 unfolding turnAnswer
-returns-2 c = turn-promised (now (c .before .before .before .before .before .before .before .before .args .l)) (rw (← (c .before .before .before .before .before .before .is-at .ensures .0), c .before .before .before .before .before .if1 .left, ← (c .before .before .before .before .read-expr .ensures .0), c .before .before .e .given .1) (c .with-expr .ensures))
+returns-2 c =
+    let args = c .before .before .before .before .before .before .before .before .args in
+    let is-at = c .before .before .before .before .before .before .is-at in
+    let if1 = c .before .before .before .before .before .if1 in
+    let read-expr = c .before .before .before .before .read-expr in
+    let e = c .before .before .e in
+    let with-expr = c .with-expr in
+    turn-promised (now (args .l)) (rw (← (is-at .ensures .0), if1 .left, ← (read-expr .ensures .0), e .given .1) (with-expr .ensures))
 
 returns-3 : tie.Need-returns-3
 unfolding turnAnswer
-returns-3 c = turn-promised (now (c .before .before .before .before .before .before .before .args .l)) (rw (← (c .before .before .before .before .before .is-at .ensures .0), c .before .before .before .before .if1 .left, ← (c .before .before .before .read-expr .ensures .0), c .before .enum-told .given .1) (c .read-undated .ensures))
+returns-3 c =
+    let args = c .before .before .before .before .before .before .before .args in
+    let is-at = c .before .before .before .before .before .is-at in
+    let if1 = c .before .before .before .before .if1 in
+    let read-expr = c .before .before .before .read-expr in
+    let enum-told = c .before .enum-told in
+    let read-undated = c .read-undated in
+    turn-promised (now (args .l)) (rw (← (is-at .ensures .0), if1 .left, ← (read-expr .ensures .0), enum-told .given .1) (read-undated .ensures))
 
 returns-4 : tie.Need-returns-4
 unfolding turnAnswer
-returns-4 c = turn-promised (now (c .before .before .before .before .before .before .args .l)) (rw (← (c .before .before .before .before .is-at .ensures .0), c .before .before .before .if1 .left, ← (c .before .before .read-expr .ensures .0), c .enum-told2 .given .1))
+returns-4 c =
+    let args = c .before .before .before .before .before .before .args in
+    let is-at = c .before .before .before .before .is-at in
+    let if1 = c .before .before .before .if1 in
+    let read-expr = c .before .before .read-expr in
+    let enum-told2 = c .enum-told2 in
+    turn-promised (now (args .l)) (rw (← (is-at .ensures .0), if1 .left, ← (read-expr .ensures .0), enum-told2 .given .1))
 
 pub read-turn-spec : {M : Type 1} → statement M
 read-turn-spec =

@@ -27,7 +27,14 @@ add-t8 : tie.Need-add-t8
 add-t8 c = search needs
 
 returns-3 : tie.Need-returns-3
-returns-3 c = rw (← (c .before .before .before .before .before .is-at .ensures .0), c .before .before .before .before .if1 .left, ← (c .before .before .before .is-at2 .ensures .0), c .before .before .if2 .left, ← (c .before .is-at3 .ensures .0), c .if3 .taken)
+returns-3 c =
+    let is-at = c .before .before .before .before .before .is-at in
+    let if1 = c .before .before .before .before .if1 in
+    let is-at2 = c .before .before .before .is-at2 in
+    let if2 = c .before .before .if2 in
+    let is-at3 = c .before .is-at3 in
+    let if3 = c .if3 in
+    rw (← (is-at .ensures .0), if1 .left, ← (is-at2 .ensures .0), if2 .left, ← (is-at3 .ensures .0), if3 .taken)
 
 is-at-requires-4 : tie.Need-is-at-requires-4
 is-at-requires-4 c κs = search needs
@@ -36,10 +43,28 @@ add-t10 : tie.Need-add-t10
 add-t10 c = search needs
 
 returns-4 : tie.Need-returns-4
-returns-4 c = rw (← (c .before .before .before .before .before .before .before .is-at .ensures .0), c .before .before .before .before .before .before .if1 .left, ← (c .before .before .before .before .before .is-at2 .ensures .0), c .before .before .before .before .if2 .left, ← (c .before .before .before .is-at3 .ensures .0), c .before .before .if3 .left, ← (c .before .is-at4 .ensures .0), c .if4 .taken)
+returns-4 c =
+    let is-at = c .before .before .before .before .before .before .before .is-at in
+    let if1 = c .before .before .before .before .before .before .if1 in
+    let is-at2 = c .before .before .before .before .before .is-at2 in
+    let if2 = c .before .before .before .before .if2 in
+    let is-at3 = c .before .before .before .is-at3 in
+    let if3 = c .before .before .if3 in
+    let is-at4 = c .before .is-at4 in
+    let if4 = c .if4 in
+    rw (← (is-at .ensures .0), if1 .left, ← (is-at2 .ensures .0), if2 .left, ← (is-at3 .ensures .0), if3 .left, ← (is-at4 .ensures .0), if4 .taken)
 
 returns-5 : tie.Need-returns-5
-returns-5 c = rw (← (c .before .before .before .before .before .before .before .is-at .ensures .0), c .before .before .before .before .before .before .if1 .left, ← (c .before .before .before .before .before .is-at2 .ensures .0), c .before .before .before .before .if2 .left, ← (c .before .before .before .is-at3 .ensures .0), c .before .before .if3 .left, ← (c .before .is-at4 .ensures .0), c .if4 .left)
+returns-5 c =
+    let is-at = c .before .before .before .before .before .before .before .is-at in
+    let if1 = c .before .before .before .before .before .before .if1 in
+    let is-at2 = c .before .before .before .before .before .is-at2 in
+    let if2 = c .before .before .before .before .if2 in
+    let is-at3 = c .before .before .before .is-at3 in
+    let if3 = c .before .before .if3 in
+    let is-at4 = c .before .is-at4 in
+    let if4 = c .if4 in
+    rw (← (is-at .ensures .0), if1 .left, ← (is-at2 .ensures .0), if2 .left, ← (is-at3 .ensures .0), if3 .left, ← (is-at4 .ensures .0), if4 .left)
 
 pub with-duration-spec : {M : Type 1} → statement M
 with-duration-spec =

@@ -36,13 +36,28 @@ enum-told-2 : tie.Need-enum-told-2
 enum-told-2 c = search needs
 
 returns : tie.Need-returns
-returns c = rw (← (c .before .before .before .before .before .take-comma-or .ensures .0), ← (c .before .before .before .before .rest .ensures .0), ← (c .before .before .before .read-expr .ensures .0), c .before .e .given .1)
+returns c =
+    let take-comma-or = c .before .before .before .before .before .take-comma-or in
+    let rest = c .before .before .before .before .rest in
+    let read-expr = c .before .before .before .read-expr in
+    let e = c .before .e in
+    rw (← (take-comma-or .ensures .0), ← (rest .ensures .0), ← (read-expr .ensures .0), e .given .1)
 
 returns-2 : tie.Need-returns-2
-returns-2 c = rw (← (c .before .before .before .before .take-comma-or .ensures .0), ← (c .before .before .before .rest .ensures .0), ← (c .before .before .read-expr .ensures .0), c .enum-told .given .1)
+returns-2 c =
+    let take-comma-or = c .before .before .before .before .take-comma-or in
+    let rest = c .before .before .before .rest in
+    let read-expr = c .before .before .read-expr in
+    let enum-told = c .enum-told in
+    rw (← (take-comma-or .ensures .0), ← (rest .ensures .0), ← (read-expr .ensures .0), enum-told .given .1)
 
 returns-3 : tie.Need-returns-3
-returns-3 c = rw (← (c .before .before .before .before .take-comma-or .ensures .0), ← (c .before .before .before .rest .ensures .0), ← (c .before .before .read-expr .ensures .0), c .enum-told2 .given .1)
+returns-3 c =
+    let take-comma-or = c .before .before .before .before .take-comma-or in
+    let rest = c .before .before .before .rest in
+    let read-expr = c .before .before .read-expr in
+    let enum-told2 = c .enum-told2 in
+    rw (← (take-comma-or .ensures .0), ← (rest .ensures .0), ← (read-expr .ensures .0), enum-told2 .given .1)
 
 pub with-time-spec : {M : Type 1} → statement M
 with-time-spec =

@@ -101,7 +101,8 @@ module _ (t : ℕ) where
   returns-2 : lts.Need-returns-2 claims pre gather.Post
   returns-2 c =
       let args = c .before .before .before .before .before .before .before .before .before .before .before .before .before .args in
-      let link = gathered-link (args .m) (args .base) (args .time) (now (args .l)) (args .own) (args .r) (c .before .before .before .before .before .before .before .before .before .before .before .if1 .left) in
+      let if1 = c .before .before .before .before .before .before .before .before .before .before .before .if1 in
+      let link = gathered-link (args .m) (args .base) (args .time) (now (args .l)) (args .own) (args .r) (if1 .left) in
       rw (
         link,
         ← (c .before .before .before .before .before .before .before .before .before .read-parts .ensures .0),
@@ -121,19 +122,22 @@ module _ (t : ℕ) where
   returns-3 : lts.Need-returns-3 claims pre gather.Post
   returns-3 c =
       let args = c .before .before .before .before .before .before .before .before .before .args in
-      let link = gathered-link (args .m) (args .base) (args .time) (now (args .l)) (args .own) (args .r) (c .before .before .before .before .before .before .before .if1 .left) in
+      let if1 = c .before .before .before .before .before .before .before .if1 in
+      let link = gathered-link (args .m) (args .base) (args .time) (now (args .l)) (args .own) (args .r) (if1 .left) in
       rw (link, ← (c .before .before .before .before .before .read-parts .ensures .0), c .before .before .taken .given .1, le-ltb _ _ (c .if2 .left))
 
   returns-4 : lts.Need-returns-4 claims pre gather.Post
   returns-4 c =
       let args = c .before .before .before .before .before .before .before .args in
-      let link = gathered-link (args .m) (args .base) (args .time) (now (args .l)) (args .own) (args .r) (c .before .before .before .before .before .if1 .left) in
+      let if1 = c .before .before .before .before .before .if1 in
+      let link = gathered-link (args .m) (args .base) (args .time) (now (args .l)) (args .own) (args .r) (if1 .left) in
       rw (link, ← (c .before .before .before .read-parts .ensures .0), c .enum-told .given .1)
 
   returns-5 : lts.Need-returns-5 claims pre gather.Post
   returns-5 c =
       let args = c .before .before .before .before .before .before .before .args in
-      let link = gathered-link (args .m) (args .base) (args .time) (now (args .l)) (args .own) (args .r) (c .before .before .before .before .before .if1 .left) in
+      let if1 = c .before .before .before .before .before .if1 in
+      let link = gathered-link (args .m) (args .base) (args .time) (now (args .l)) (args .own) (args .r) (if1 .left) in
       rw (link, ← (c .before .before .before .read-parts .ensures .0), c .enum-told2 .given .1)
 
 pub +gather-spec : {M : Type 1} → statement M

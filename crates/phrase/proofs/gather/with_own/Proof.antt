@@ -12,7 +12,12 @@ with-base-requires : tie.Need-with-base-requires
 with-base-requires c κs = search needs
 
 returns : tie.Need-returns
-returns c = rw (← (c .before .before .before .before .has-own .ensures), c .before .before .before .if1 .taken, ← (c .before .before .read-parts .ensures .0)) (c .with-base .ensures)
+returns c =
+    let has-own = c .before .before .before .before .has-own in
+    let if1 = c .before .before .before .if1 in
+    let read-parts = c .before .before .read-parts in
+    let with-base = c .with-base in
+    rw (← (has-own .ensures), if1 .taken, ← (read-parts .ensures .0)) (with-base .ensures)
 
 with-base-requires-2 : tie.Need-with-base-requires-2
 with-base-requires-2 c κs = search needs
