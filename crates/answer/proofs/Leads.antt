@@ -139,7 +139,7 @@ module _ {M : Moment → Type 0} {sub : Bool} (kept : Kept M sub) where
 
   part-leads : (back : Bool) (p : Part) (t : Moment) → (isSubDailyPart p ≡ true → sub ≡ true) → M t → Leads M (partStep back p t)
   part-leads back (Article u) t s h = unit-leads back 1 u t s h
-  part-leads back (Specific k u) t s h = unit-leads back k u t s h
+  part-leads back (Specific u k) t s h = unit-leads back k u t s h
 
   -- a duration
   duration-leads :

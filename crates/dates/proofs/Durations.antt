@@ -1,10 +1,13 @@
 -- Laws of durations: the turns of `durationOf` are enough, how many lexemes and parts it has, and what the code's answer says of it.
-use mathlib.Core.Path.{_≡_, refl, _∙_}
-use mathlib.Core.Bool.{Bool, true, false}
+use mathlib.Core.Path.{_≡_, refl, sym, _∙_}
+use mathlib.Core.Bool.{Bool, true, false, cond, _||_}
 use mathlib.Core.List.{List}
 use Prim.Native.Nat.{ℕ, _+_, _*_, _≤_, _<_}
 use native.Mathlib.Omega.{arith}
+use lib.Dec.{ltb}
 use lib.ListN.{length, drop, length-drop}
+use lib.Seq.{getD-drop, drop-drop}
+use borrow.Author.Tests.{ltb-true, ltb-false, lt-ltb, le-ltb}
 use types.Run.{OneOf}
 use denote.Enum.Declared.{tagOf}
 use Rattle.lexer.specs.Lexemes as lexeme
@@ -19,10 +22,10 @@ use Rattle.dates.specs.declared.duration.PartFound.the-variants.{Is as I
 use Rattle.dates.specs.declared.duration.Parts.{Parts}
 use Rattle.dates.specs.declared.duration.Taken.{Taken}
 use Rattle.dates.specs.declared.duration.Taken.the-variants.{Is, Nothing, Overflow}
-use Rattle.dates.specs.declared.duration.DurationFound.{DurationFound}
-use Rattle.dates.specs.Durations.{Duration, part, concat, isSubDaily, isSubDailyPart, takenAnswer, takenBehind, TakenBounds, TakenCounted}
+use Rattle.dates.specs.declared.duration.Rowed.{Rowed}
+use Rattle.dates.specs.Durations.{Duration, part, concat, isSubDaily, isSubDailyPart, takenAnswer, TakenCounted}
 use Rattle.dates.specs.Durations.{specificOf, articleOf, concreteOf, parsedPart}
-use Rattle.dates.specs.Durations.{durationStep, durationOf, pushed, into, size, durationAnswer, joinedOf, CountedTaken, Counted}
+use Rattle.dates.specs.Durations.{durationStep, durationOf, pushed, into, size, rowed}
 use Rattle.dates.proofs.duration.PartFound.{the-type as part-type}
 use Rattle.dates.proofs.Laws.{Arm, nothing-took, pick-took, or-took, then-took}
 use Rattle.dates.proofs.Bounds.{num-took, unit-took, tested-article}
@@ -75,14 +78,6 @@ pub duration-is : (l : List ℕ) → durationOf l ≡ durationStep durationOf l
 unfolding durationOf
 duration-is l = again-is nothing durationStep step-agree l
 
--- what the code joins is what `durationStep` has behind an "and"
-pub joined-is : (ps : Parts) (p : Part) (t : ℕ) (w : Parsed Duration)
-    → joinedOf ps p t (durationAnswer (pushed ps p) w)
-    ≡ durationAnswer ps (ifLet w (λ dur2 u. is (concat p dur2) (t + 1 + u)) (is (part p) t))
-joined-is ps p t (is d u) = refl
-joined-is ps p t nothing = refl
-joined-is ps p t overflow = refl
-
 abbrev Sizes : Parsed Duration → ℕ → Type 0
 Sizes (is d t) n = (2 ≤ t) × (t ≤ n) × (3 * size d ≤ t + 1)
 Sizes nothing n = Unit
@@ -133,49 +128,10 @@ pub into-n : (d : Duration) (ps : Parts) → into d ps .n ≡ ps .n + size d
 into-n (part p) ps = refl
 into-n (concat p d) ps = into-n d (pushed ps p) ∙ omega arith
 
-size-pos : (d : Duration) → 0 < size d
-size-pos (part p) = omega arith
-size-pos (concat p d) = omega arith
-
--- the bounds of the code's answer
-pub counted : (ps : Parts) (w : Parsed Duration) {n : ℕ} → Sized w n → Counted (durationAnswer ps w) (ps .n) n
-counted ps (is d t) h =
-    let s = h .sizes in
-    let k = into-n d ps in
-    let p = size-pos d in
-    record { bounds = (omega arith, omega arith, omega arith, omega arith) }
-counted ps nothing h = record { bounds = refl }
-counted ps overflow h = record { bounds = refl }
-
-counted′ : (w : Taken) (m k n n′ : ℕ) → CountedTaken w m k n → n ≤ n′ → CountedTaken w m k n′
-counted′ (Is t b) m k n n′ h e = (h .0, omega arith, h .2, h .3)
-counted′ Nothing m k n n′ h e = h
-counted′ Overflow m k n n′ h e = h
-
--- the same within more lexemes
-pub counted-wider : {r : DurationFound} {m n n′ : ℕ} → Counted r m n → n ≤ n′ → Counted r m n′
-counted-wider {r} {m} {n} {n′} h e = record { bounds = counted′ (r .taken) m (r .parts .n) n n′ (h .bounds) e }
-
--- what the code puts in front is what `durationStep` has behind an "and"
-pub behind-is : (p : Part) (t : ℕ) (w : Parsed Duration)
-    → takenBehind t (isSubDailyPart p) (takenAnswer w) ≡ takenAnswer (ifLet w (λ dur2 u. is (concat p dur2) (t + 1 + u)) (is (part p) t))
-behind-is p t (is d u) = refl
-behind-is p t nothing = refl
-behind-is p t overflow = refl
-
 taken-counted : (w : Parsed Duration) {n : ℕ} → Sized w n → TakenCounted (takenAnswer w) n
 taken-counted (is d t) h = let s = h .sizes in record { bounds = (omega arith, omega arith) }
 taken-counted nothing h = record { bounds = omega arith }
 taken-counted overflow h = record { bounds = omega arith }
-
-taken′ : (w : Taken) (n n′ : ℕ) → TakenBounds w n → n ≤ n′ → TakenBounds w n′
-taken′ (Is t b) n n′ h e = (h .0, omega arith)
-taken′ Nothing n n′ h e = omega arith
-taken′ Overflow n n′ h e = omega arith
-
--- the same within more lexemes
-pub taken-wider : {r : Taken} {n n′ : ℕ} → TakenCounted r n → n ≤ n′ → TakenCounted r n′
-taken-wider {r} {n} {n′} h e = record { bounds = taken′ r n n′ (h .bounds) e }
 
 -- the lexemes of a duration, once the answer is known
 pub taken-found : {r : Taken} {t n : ℕ} {b : Bool} → r ≡ Is t b → TakenCounted r n → (2 ≤ t) × (t ≤ n)
@@ -215,38 +171,106 @@ module _ {r : Taken} (w : Parsed Duration) (answer : r ≡ takenAnswer w) where
   pub taken-overflow : r ≡ Overflow → w ≡ overflow
   taken-overflow e = rw e at taken-says
 
--- what an answer of t lexemes with the row qs says: the duration that was read, and that its parts stand in qs behind those of ps
-pub record DurationRead (ps qs : Parts) (w : Parsed Duration) (t : ℕ) (b : Bool) : Type 0 where
-  pub duration : Duration
-  pub reading : w ≡ is duration t
-  pub parts : qs ≡ into duration ps
-  pub sub-daily : isSubDaily duration ≡ b
+-- what a test finds behind the place a
+at-drop : (l : List ℕ) (a t x : ℕ) → isAt (drop a l) t x ≡ isAt l (a + t) x
+unfolding isAt
+at-drop l a t x = rw (getD-drop, go (ltb t (length (drop a l))) refl)
+  where
+    go : (b : Bool) → ltb t (length (drop a l)) ≡ b → ltb t (length (drop a l)) ≡ ltb (a + t) (length l)
+    go true e = let h = ltb-true t _ e in let left = length-drop a l in e ∙ sym (lt-ltb (a + t) (length l) (omega arith))
+    go false e = let h = ltb-false t _ e in let left = length-drop a l in e ∙ sym (le-ltb (a + t) (length l) (omega arith))
 
-abbrev Says : Taken → Parts → Parts → Parsed Duration → Type 0
-Says (Is t b) ps qs w = DurationRead ps qs w t b
-Says Nothing ps qs w = (w ≡ nothing) × (qs ≡ ps)
-Says Overflow ps qs w = (w ≡ overflow) × (qs ≡ ps)
+-- what a loop keeps of the parts that it passes, and what it answers where they end
+pub record Passing (A R : Type 0) : Type 0 where
+  pub add : A → Part → A
+  pub all : Duration → A → A
+  pub one : (p : Part) (a : A) → all (part p) a ≡ add a p
+  pub more : (p : Part) (d : Duration) (a : A) → all (concat p d) a ≡ all d (add a p)
+  pub ends : A → ℕ → R
+  pub over : R
 
-answer-says : (ps : Parts) (w : Parsed Duration) → let r = durationAnswer ps w in Says (r .taken) ps (r .parts) w
-answer-says ps (is d t) = record { duration = d; reading = refl; parts = refl; sub-daily = refl }
-answer-says ps nothing = (refl, refl)
-answer-says ps overflow = (refl, refl)
+module _ {A R : Type 0} (k : Passing A R) where
+  -- the answer, once the duration at the place at is read; `none` where there is none
+  abbrev pub onward : Parsed Duration → ℕ → A → R → R
+  onward (is d u) at a none = k .ends (k .all d a) (at + u)
+  onward nothing at a none = none
+  onward overflow at a none = k .over
 
--- what a caller learns of the reading w from the answer that it took apart
-module _ {r : DurationFound} (ps : Parts) (w : Parsed Duration) (answer : r ≡ durationAnswer ps w) where
-  says : Says (r .taken) ps (r .parts) w
-  says = rw answer (answer-says ps w)
+  -- the answer behind a part that ends at e
+  abbrev pub joined : List ℕ → ℕ → A → R
+  joined l e a = cond (isAt l e lexeme.And) (onward (durationOf (drop (e + 1) l)) (e + 1) a (k .ends a e)) (k .ends a e)
 
-  pub duration-read : {t : ℕ} {b : Bool} → r .taken ≡ Is t b → DurationRead ps (r .parts) w t b
-  duration-read e = rw e at says
+  -- a part is passed
+  pub part-passed : (l : List ℕ) (at : ℕ) (a : A) (none : R) {p : Part} {t : ℕ} → concreteOf (drop at l) ≡ is p t →
+      onward (durationOf (drop at l)) at a none ≡ joined l (at + t) (k .add a p)
+  unfolding durationStep
+  part-passed l at a none {p} {t} e =
+      let same : at + (t + 1) ≡ at + t + 1 = omega arith in
+      rw (duration-is (drop at l), e, at-drop l at t lexeme.And, drop-drop (t + 1) at l, same)
+      (go (isAt l (at + t) lexeme.And) (durationOf (drop (at + t + 1) l)))
+    where
+      go : (b : Bool) (w : Parsed Duration) →
+          onward (pick b (ifLet w (λ dur2 u. is (concat p dur2) (t + 1 + u)) (is (part p) t)) (is (part p) t)) at a none
+          ≡ cond b (onward w (at + t + 1) (k .add a p) (k .ends (k .add a p) (at + t))) (k .ends (k .add a p) (at + t))
+      go true (is d u) = let same : at + (t + 1 + u) ≡ at + t + 1 + u = omega arith in rw (k .more p d a, same)
+      go true nothing = rw (k .one p a)
+      go true overflow = refl
+      go false w = rw (k .one p a)
 
-  pub duration-none : r .taken ≡ Nothing → (w ≡ nothing) × (r .parts ≡ ps)
-  duration-none e = rw e at says
+-- what the code's answer says of the part at the place at
+pub part-at : (l : List ℕ) (at : ℕ) {m : List ℕ} {r w : PartFound} →
+    m ≡ drop at l → parsedPart r ≡ concreteOf m → r ≡ w → concreteOf (drop at l) ≡ parsedPart w
+part-at l at same answer e = rw (← same, ← answer, e)
 
-  pub duration-overflow : r .taken ≡ Overflow → (w ≡ overflow) × (r .parts ≡ ps)
-  duration-overflow e = rw e at says
+-- with no part there is no duration
+pub no-part : (m : List ℕ) → concreteOf m ≡ nothing → durationOf m ≡ nothing
+unfolding durationStep
+no-part m e = rw (duration-is m, e)
 
--- what `read_parts` promises
-pub duration-promised : {r : DurationFound} (ps : Parts) (l : List ℕ) → r ≡ durationAnswer ps (durationOf l)
-    → (r ≡ durationAnswer ps (durationOf l)) × Counted r (ps .n) (length l)
-duration-promised ps l e = (e, rw e (counted ps _ (duration-sized l)))
+pub over-part : (m : List ℕ) → concreteOf m ≡ overflow → durationOf m ≡ overflow
+unfolding durationStep
+over-part m e = rw (duration-is m, e)
+
+pub or-assoc : (a b c : Bool) → a || (b || c) ≡ (a || b) || c
+or-assoc true b c = refl
+or-assoc false b c = refl
+
+-- `read_duration` keeps whether there were hours or minutes
+abbrev pub subDailyKept : Passing Bool Taken
+subDailyKept =
+    record {
+      add = λ b p. b || isSubDailyPart p;
+      all = λ d b. b || isSubDaily d;
+      one = λ p b. refl;
+      more = λ p d b. or-assoc b (isSubDailyPart p) (isSubDaily d);
+      ends = λ b e. Is e b;
+      over = Overflow;
+    }
+
+-- `with_parts` keeps the row
+abbrev pub rowKept : Parts → Passing Parts Rowed
+rowKept ps =
+    record {
+      add = pushed;
+      all = into;
+      one = λ p qs. refl;
+      more = λ p d qs. refl;
+      ends = λ qs e. record { parts = qs; end = e };
+      over = record { parts = ps; end = 0 };
+    }
+
+-- from the front on
+taken-onward : (w : Parsed Duration) → takenAnswer w ≡ onward subDailyKept w 0 false Nothing
+taken-onward (is d t) = let e : 0 + t ≡ t = omega arith in rw e
+taken-onward nothing = refl
+taken-onward overflow = refl
+
+pub first-passed : (l : List ℕ) {p : Part} {t : ℕ} → concreteOf l ≡ is p t → takenAnswer (durationOf l) ≡ joined subDailyKept l t (isSubDailyPart p)
+first-passed l {t = t} e =
+    let same : 0 + t ≡ t = omega arith in
+    taken-onward (durationOf l) ∙ (rw same at (part-passed subDailyKept l 0 false Nothing e))
+
+pub rowed-onward : (ps : Parts) (w : Parsed Duration) → rowed ps w ≡ onward (rowKept ps) w 0 ps (record { parts = ps; end = 0 })
+rowed-onward ps (is d t) = let e : 0 + t ≡ t = omega arith in rw e
+rowed-onward ps nothing = refl
+rowed-onward ps overflow = refl

@@ -103,11 +103,11 @@ cases =
     ∷ time (HourMinPM 13 30) (refused 11)
     -- durations: a year is not twelve months, and parts act first to last
     ∷ row (durationStep false (part (Article Year))) B (refused 13)
-    ∷ row (durationStep false (part (Specific 12 Month))) B (moment (withDate 2025 2 28 B))
-    ∷ row (durationStep false (part (Specific 4294967295 Year))) A (refused 12)
+    ∷ row (durationStep false (part (Specific Month 12))) B (moment (withDate 2025 2 28 B))
+    ∷ row (durationStep false (part (Specific Year 4294967295))) A (refused 12)
     ∷ row (durationStep false (concat (Article Month) (part (Article Day)))) B (moment (withDate 2024 3 30 B))
     ∷ row (durationStep false (concat (Article Day) (part (Article Month)))) B (moment (withDate 2024 4 1 B))
-    ∷ row (durationStep true (concat (Specific 2024 Year) (part (Article Day)))) B (refused 12)
+    ∷ row (durationStep true (concat (Specific Year 2024) (part (Article Day)))) B (refused 12)
     ∷ []
 
 -- each rule answers as listed

@@ -118,7 +118,7 @@ trees =
     ∷ row (evaluate (dateTime (date (MonthDay 1 32)) (HourMin 25 0))) A (refused 10)
     ∷ row (evaluate (timeDate (HourMin 25 0) (date (MonthDay 1 31)))) A (refused 11)
     -- then outer durations: 11 where the way would leave the calendar too, and an hour from a stated time
-    ∷ row (evaluate (durationAfter (part (Specific 4294967295 Day)) (dateTime (date Today) (HourMin 25 0)))) A (refused 11)
+    ∷ row (evaluate (durationAfter (part (Specific Day 4294967295)) (dateTime (date Today) (HourMin 25 0)))) A (refused 11)
     ∷ row (evaluate (durationAfter (part (Article Hour)) (timeDate (HourMin 23 30) empty))) B (moment (withTime 0 30 0 (withDate 2024 3 1 B)))
     -- innermost first: the day and then the month
     ∷ row (evaluate (durationBefore (part (Article Month)) (durationAfter (part (Article Day)) now))) B (moment (withDate 2024 2 1 B))

@@ -50,7 +50,7 @@ unitStep back k Year t = yearsStep back k t
 -- `Duration::num`: an article is one
 abbrev pub partStep : Bool → Part → Moment → Outcome
 partStep back (Article u) t = unitStep back 1 u t
-partStep back (Specific k u) t = unitStep back k u t
+partStep back (Specific u k) t = unitStep back k u t
 
 -- "The parts of a joined duration act first to last." "Each step's own result is tested."
 abbrev pub durationStep : Bool → Duration → Moment → Outcome

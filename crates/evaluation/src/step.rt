@@ -91,7 +91,7 @@ fn part_step(back: bool, part: Part, t: Moment) -> Reached
 {
     match part {
         Part::Article(u) => unit_step(back, 1, u, t),
-        Part::Specific(k, u) => unit_step(back, k, u, t),
+        Part::Specific(u, k) => unit_step(back, k, u, t),
     }
 }
 

@@ -33,7 +33,7 @@ Num n = lexeme.NUM + n
 
 -- n of a unit
 abbrev of : ℕ → Unit → Duration
-of n u = part (Specific n u)
+of n u = part (Specific u n)
 
 abbrev row : List ℕ → Parsed DateExpr → Case
 row l r = record { lexemes = l; reading = r }

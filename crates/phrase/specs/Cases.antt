@@ -48,13 +48,13 @@ cases =
     row "now" (tree now 1)
     ∷ row "next friday at 3 pm" (tree (dateTime (relativeWeekday Next 4) (HourMinPM 3 0)) 5)
     ∷ row "tomorrow, 5:00" (tree (dateTime (date Tomorrow) (HourMin 5 0)) 5)
-    ∷ row "5 days after tomorrow at noon" (tree (dateTime (after (part (Specific 5 Day)) Tomorrow) (HourMin 12 0)) 6)
+    ∷ row "5 days after tomorrow at noon" (tree (dateTime (after (part (Specific Day 5)) Tomorrow) (HourMin 12 0)) 6)
     ∷ row "an hour from now" (tree (durationAfter (part (Article Hour)) now) 4)
     ∷ row "an hour after today" (tree (durationAfter (part (Article Hour)) (dateTime (date Today) NoTime)) 4)
     ∷ row
     "an hour before 5 days ago"
-    (tree (durationBefore (part (Article Hour)) (dateTime (before (part (Specific 5 Day)) NoDate) NoTime)) 6)
-    ∷ row "two hours ago" (tree (durationBefore (part (Specific 2 Hour)) now) 3)
+    (tree (durationBefore (part (Article Hour)) (dateTime (before (part (Specific Day 5)) NoDate) NoTime)) 6)
+    ∷ row "two hours ago" (tree (durationBefore (part (Specific Hour 2)) now) 3)
     ∷ row "5 pm on friday" (tree (timeDate (HourMinPM 5 0) (weekday 4)) 4)
     ∷ row "5" (tree (timeDate (HourMin 5 0) empty) 1)
     -- a comma, "at" or "on" is taken with nothing behind it

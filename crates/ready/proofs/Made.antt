@@ -83,7 +83,7 @@ length-plain back k Year = record { no-start = refl; no-time = refl }
 
 part-plain : (back : Bool) (p : Part) → Plain (stepOfPart back p)
 part-plain back (Article u) = length-plain back 1 u
-part-plain back (Specific k u) = length-plain back k u
+part-plain back (Specific u k) = length-plain back k u
 
 -- a duration more, for a form that plain steps keep
 module _ {F : List Step → Type 0} (keeps : (ss : List Step) (s : Step) → Plain s → F ss → F (addStep ss s)) where

@@ -41,7 +41,7 @@ length-acts back k Year n t = refl
 
 part-acts : (back : Bool) (p : Part) (n t : Moment) → actOf (stepOfPart back p) n t ≡ partStep back p t
 part-acts back (Article u) n t = length-acts back 1 u n t
-part-acts back (Specific k u) n t = length-acts back k u n t
+part-acts back (Specific u k) n t = length-acts back k u n t
 
 -- one step more is one step from where the list leads
 then-step :

@@ -34,7 +34,7 @@ lengthStep back k Year = Years back k
 -- `Duration::num`: an article is one
 abbrev pub stepOfPart : Bool → Part → Step
 stepOfPart back (Article u) = lengthStep back 1 u
-stepOfPart back (Specific k u) = lengthStep back k u
+stepOfPart back (Specific u k) = lengthStep back k u
 
 -- how steps are gathered
 pub record Gathering (A : Type 0) : Type 0 where

@@ -60,7 +60,7 @@ fn part_step(back: bool, part: Part) -> Step
 {
     match part {
         Part::Article(u) => length_step(back, 1, u),
-        Part::Specific(k, u) => length_step(back, k, u),
+        Part::Specific(u, k) => length_step(back, k, u),
     }
 }
 

@@ -4,7 +4,7 @@ use Rattle.settled.proofs.Values.{date-one, number-one, specifier-one, 
 use Rattle.dates.proofs.date.read_date.Reads as read-date'
 use Rattle.dates.proofs.duration.is_sub_daily_unit.Reads as is-sub-daily-unit'
 use Rattle.dates.proofs.duration.read_duration.Reads as read-duration'
-use Rattle.dates.proofs.duration.read_parts.Reads as read-parts'
+use Rattle.dates.proofs.duration.with_parts.Reads as with-parts'
 use Rattle.dates.proofs.time.read_time.Reads as read-time'
 use Rattle.dates.proofs.units.is_article.Reads as is-article'
 use Rattle.dates.proofs.units.read_unit.Reads as read-unit'
@@ -21,8 +21,8 @@ is-sub-daily-unit = same is-sub-daily-unit'.Post _ _ (λ κs a z e p. p)
 pub read-duration : Settled read-duration'.Post
 read-duration = same read-duration'.Post _ _ (λ κs a z e p. p .0)
 
-pub read-parts : Settled read-parts'.Post
-read-parts = same read-parts'.Post _ _ (λ κs a z e p. p .0)
+pub with-parts : Settled with-parts'.Post
+with-parts = same with-parts'.Post _ _ (λ κs a z e p. p)
 
 pub read-time : Settled read-time'.Post
 read-time = through read-time'.Post _ (λ κs. time-one) (same read-time'.Post _ _ (λ κs a z e p. p .0))

@@ -87,7 +87,7 @@ fn write_part(p: Part) {
             text(b"Article(");
             write_unit(u);
         }
-        Part::Specific(n, u) => {
+        Part::Specific(u, n) => {
             number(b"Specific(", n as u64);
             text(b",");
             write_unit(u);
