@@ -9,7 +9,7 @@ use Rattle.lexer.specs.Words.{bytesOf}
 use Rattle.lexer.specs.Keywords.{keywords}
 use Rattle.lexer.specs.Classes.{classOf, markOf}
 use Rattle.lexer.specs.Refusals.{TooLong, Meaningless, TooLarge, TooMany}
-use Rattle.lexer.specs.Lex.{numberOf, wordAt, numberAt, tokenAt, Item, item, Lexed, refused, whole, lexed, lineOf}
+use Rattle.lexer.specs.Lex.{numberOf, wordAt, numberAt, tokenAt, Item, item, Lexed, refused, whole, lexed, codesOf, front}
 
 -- a phrase and what is read of it
 record Example : Type 0 where
@@ -44,7 +44,7 @@ examples-hold : map (λ (x : Example). lexed keywords (x .phrase)) examples ≡ 
 unfolding lexed tokenAt wordAt numberAt numberOf classOf markOf keywords
 examples-hold = refl
 
--- 64 lexemes are taken
-most-lexemes : lineOf (lexed keywords (replicate 64 (code ","))) .codes ≡ replicate 64 Comma
-unfolding lexed tokenAt wordAt numberAt numberOf classOf markOf keywords
+-- 64 lexemes are taken in front of the 65th
+most-lexemes : codesOf (front keywords (replicate 65 (code ","))) ≡ replicate 64 Comma
+unfolding front tokenAt wordAt numberAt numberOf classOf markOf keywords
 most-lexemes = refl

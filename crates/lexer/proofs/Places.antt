@@ -7,22 +7,21 @@ use native.Mathlib.Nat.{not-suc-le-zero, le-of-suc-le-suc}
 use native.Mathlib.Omega.{arith}
 use lib.Dec.{eqb, leb, ltb}
 use borrow.Author.Tests.{ltb-true}
-use lib.ListN.{length, getD, length-map}
+use lib.ListN.{length, getD}
 use Rattle.lexer.specs.Words.{Word, meaning, folded}
 use Rattle.lexer.specs.Classes.{Gap, Letter, Digit, Mark, classOf, markOf}
 use Rattle.lexer.specs.Refusals.{TooLong, Meaningless, TooMany}
 use Rattle.lexer.specs.Lex.{runEnd, between, numberOf, ofWord, ofNumber, wordAt, numberAt, tokenOf, tokenFrom, tokenAt}
 use Rattle.lexer.specs.Lex.{Item, item, Lexed, refused, whole, ahead, ifTaken, lexFrom, lexed}
-use Rattle.lexer.specs.Lex.{codesOf, startsOf, lineOf, Placed, placeOf, offendingOf}
+use Rattle.lexer.specs.Lex.{startsOf, endedOf, Placed, placeOf, offendingOf}
 use Rattle.lexer.specs.declared.find.Found.{Found}
 use Rattle.lexer.specs.declared.find.Found.the-variants.{Lexeme, Unknown}
 use Rattle.lexer.specs.declared.lex.Digits.{Digits}
 use Rattle.lexer.specs.declared.lex.Digits.the-variants.{Value, Over}
-use Rattle.lexer.specs.declared.lex.Line.{Line}
+use Rattle.lexer.specs.declared.lex.Ended.{Ended}
 use Rattle.lexer.specs.declared.lex.Token.{Token}
 use Rattle.lexer.specs.declared.lex.Token.the-variants.{Finish, Taken, Refused}
 use Rattle.lexer.proofs.Runs.{run-within}
-use Rattle.lexer.proofs.Lines.{filled-at, filled-length}
 
 -- the bytes from a up to e begin and end within the first n
 record Part (a e n : ℕ) : Type 0 where
@@ -80,6 +79,10 @@ token-within ws s at = go (ltb (runEnd Gap s at) (length s)) refl
         simp e (token-of-within ws s a (ltb-true a (length s) e) (classOf (getD s a 0)))
     go false e = simp e tt
 
+-- a lexeme begins within the phrase
+pub taken-below : (ws : List Word) (s : List ℕ) (at k a e : ℕ) → tokenAt ws s at ≡ Taken k a e → a < length s
+taken-below ws s at k a e h = (rw h at (token-within ws s at)) .start-below
+
 -- each lexeme begins within the first n bytes
 abbrev Below : ℕ → List Item → Type 0
 Below n [] = Unit {0}
@@ -120,37 +123,24 @@ below-at n [] b k h = absurd (not-suc-le-zero h)
 below-at n (i ∷ l) b zero h = b .0
 below-at n (i ∷ l) b (suc k) h = below-at n l (b .1) k (le-of-suc-le-suc h)
 
-line-placed : (n : ℕ) (r : Lexed) → Fits 64 n r → Placed n (lineOf r)
-line-placed n (refused m a e) h =
-    record {
-      count-most = zero-le;
-      codes-length = refl;
-      starts-length = refl;
-      place-end = h .0;
-      end-most = h .1;
-      start-below = λ k l. absurd (not-suc-le-zero l);
-    }
-line-placed n (whole l) h =
-    let codes : length (codesOf l) ≡ length l = length-map l (λ (i : Item). i .code) in
-    let starts : length (startsOf l) ≡ length l = length-map l (λ (i : Item). i .start) in
-    record {
-      count-most = h .0;
-      codes-length = filled-length (codesOf l) (omega arith);
-      starts-length = filled-length (startsOf l) (omega arith);
-      place-end = zero-le;
-      end-most = zero-le;
-      start-below = λ k b. rw (filled-at (startsOf l) k (omega arith)) (below-at n l (h .1) k b);
-    }
+-- each lexeme of a phrase begins within it
+pub start-below : (ws : List Word) (s : List ℕ) (l : List Item) → lexed ws s ≡ whole l
+    → (k : ℕ) → k < length l → getD (startsOf l) k 0 < length s
+start-below ws s l e k h = below-at (length s) l ((rw e at (fits ws s)) .1) k h
 
 -- an answer that is the right one stands where its bounds say
-pub answered : (ws : List Word) (s : List ℕ) {r : Line} → r ≡ lineOf (lexed ws s) → (r ≡ lineOf (lexed ws s)) × Placed (length s) r
-answered ws s e = (e, rw e (line-placed (length s) (lexed ws s) (fits ws s)))
+pub placed : (ws : List Word) (s : List ℕ) {r : Ended} → r ≡ endedOf (lexed ws s) → Placed (length s) r
+placed ws s e = rw e (go (lexed ws s) (fits ws s))
+  where
+    go : (w : Lexed) → Fits 64 (length s) w → Placed (length s) (endedOf w)
+    go (refused m b e) h = record { count-most = zero-le; place-end = h .0; end-most = h .1 }
+    go (whole l) h = record { count-most = h .0; place-end = zero-le; end-most = zero-le }
 
 -- the place and the part of an answer
-pub line-place : (r : Lexed) → lineOf r .place ≡ placeOf r
-line-place (refused n a e) = refl
-line-place (whole l) = refl
+pub ended-place : (r : Lexed) → endedOf r .place ≡ placeOf r
+ended-place (refused n a e) = refl
+ended-place (whole l) = refl
 
-pub line-part : (s : List ℕ) (r : Lexed) → between s (lineOf r .place) (lineOf r .end) ≡ offendingOf s r
-line-part s (refused n a e) = refl
-line-part s (whole l) = refl
+pub ended-part : (s : List ℕ) (r : Lexed) → between s (endedOf r .place) (endedOf r .end) ≡ offendingOf s r
+ended-part s (refused n a e) = refl
+ended-part s (whole l) = refl

@@ -1,11 +1,11 @@
 -- How a phrase is cut into lexemes. Assumes nothing.
-use Prim.Native.Nat.{ℕ, suc, zero, _+_, _-_, _*_, _≤_, _<_}
+use Prim.Native.Nat.{ℕ, suc, zero, _+_, _-_, _*_, _≤_}
 use Prim.Native.Char.{code}
 use mathlib.Core.Path.{_≡_}
 use mathlib.Core.Bool.{cond}
 use mathlib.Core.List.{List, [], _∷_, _++_, map}
 use lib.Dec.{ltb, leb, eqb}
-use lib.ListN.{length, getD, take, drop, replicate}
+use lib.ListN.{length, getD, take, drop}
 use Rattle.lexer.specs.Lexemes.{NUM}
 use Rattle.lexer.specs.Words.{Word, meaning, folded}
 use Rattle.lexer.specs.Classes.{Gap, Letter, Digit, Mark, classOf, markOf}
@@ -16,7 +16,7 @@ use Rattle.lexer.specs.declared.lex.Digits.{Digits}
 use Rattle.lexer.specs.declared.lex.Digits.the-variants.{Value, Over}
 use Rattle.lexer.specs.declared.lex.Token.{Token}
 use Rattle.lexer.specs.declared.lex.Token.the-variants.{Finish, Taken, Refused}
-use Rattle.lexer.specs.declared.lex.Line.{Line}
+use Rattle.lexer.specs.declared.lex.Ended.{Ended}
 
 -- how many bytes at the front are of class k
 abbrev pub run : ℕ → List ℕ → ℕ
@@ -108,6 +108,21 @@ lexFrom ws (suc room) s at = ifTaken (tokenAt ws s at) (λ k a e. ahead (item k 
 unfoldable pub lexed : List Word → List ℕ → Lexed
 lexed ws s = cond (leb (length s) 256) (lexFrom ws 64 s 0) (refused TooLong 0 0)
 
+-- a lexeme is handed on; neither the end nor a refusal has lexemes behind it
+abbrev pub ifLexeme : Token → (ℕ → ℕ → ℕ → List Item) → List Item
+ifLexeme Finish g = []
+ifLexeme (Refused n a e) g = []
+ifLexeme (Taken k a e) g = g k a e
+
+-- the lexemes from a place on, in front of the end or the first refusal, with room for so many
+abbrev pub frontFrom : List Word → ℕ → List ℕ → ℕ → List Item
+frontFrom ws zero s at = []
+frontFrom ws (suc room) s at = ifLexeme (tokenAt ws s at) (λ k a e. item k a ∷ frontFrom ws room s e)
+
+-- a phrase's lexemes in front of its end or its first refusal; a phrase that is too long is not begun
+unfoldable pub front : List Word → List ℕ → List Item
+front ws s = cond (leb (length s) 256) (frontFrom ws 64 s 0) []
+
 -- the lexemes' codes: what readers take
 abbrev pub codesOf : List Item → List ℕ
 codesOf l = map (λ (i : Item). i .code) l
@@ -116,28 +131,16 @@ codesOf l = map (λ (i : Item). i .code) l
 abbrev pub startsOf : List Item → List ℕ
 startsOf l = map (λ (i : Item). i .start) l
 
--- an array of 64 that begins with l, the rest zeros
-abbrev pub filled : List ℕ → List ℕ
-filled l = l ++ replicate (64 - length l) 0
-
--- the code's answer to a phrase that is refused
-abbrev pub refusedLine : ℕ → ℕ → ℕ → Line
-refusedLine n a e = record { number = n; place = a; end = e; count = 0; codes = replicate 64 0; starts = replicate 64 0 }
-
--- the code's answer: a refusal with its number, or number 0 and the lexemes
-abbrev pub lineOf : Lexed → Line
-lineOf (refused n a e) = refusedLine n a e
-lineOf (whole l) =
-    record { number = 0; place = 0; end = 0; count = length l; codes = filled (codesOf l); starts = filled (startsOf l) }
+-- how lexing ends: a refusal with its number, or number 0 and how many lexemes
+abbrev pub endedOf : Lexed → Ended
+endedOf (refused n a e) = record { number = n; place = a; end = e; count = 0 }
+endedOf (whole l) = record { number = 0; place = 0; end = 0; count = length l }
 
 -- where an answer stands in a phrase of n bytes: what callers need of it to cut the phrase and the arrays
-pub record Placed (n : ℕ) (r : Line) : Type 0 where
+pub record Placed (n : ℕ) (r : Ended) : Type 0 where
   pub count-most : r .count ≤ 64
-  pub codes-length : length (r .codes) ≡ 64
-  pub starts-length : length (r .starts) ≡ 64
   pub place-end : r .place ≤ r .end
   pub end-most : r .end ≤ n
-  pub start-below : (k : ℕ) → k < r .count → getD (r .starts) k 0 < n
 
 -- a refusal's place, 0 where nothing is refused
 abbrev pub placeOf : Lexed → ℕ
