@@ -42,7 +42,7 @@ module _ {ks : List ℕ} where
   date-arm DateOverflow k = record { tags = k }
 
 -- a number is none of two others
-neither : (a b c : ℕ) {A : Type 0} → (a ≡ b → ⊥) → (a ≡ c → ⊥) → OneOf (b ∷ c ∷ []) a → A
+pub neither : (a b c : ℕ) {A : Type 0} → (a ≡ b → ⊥) → (a ≡ c → ⊥) → OneOf (b ∷ c ∷ []) a → A
 neither a b c p q k = ⊎-elim (λ e. absurd (p e)) (λ e. absurd (q e)) k
 
 module _ {A : Type 0} where

@@ -1,6 +1,5 @@
-pub mod Answers
-pub mod Few
+pub mod Stands
 pub mod Turns
-pub mod Outlined
 pub mod Decoded
+pub mod Gathering
 pub mod Phrases

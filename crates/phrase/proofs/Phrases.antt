@@ -1,107 +1,158 @@
 -- A phrase read whole: what reading takes of lexing, where the offending part stands, and what a reading stands for.
-use Prim.Native.Nat.{ℕ, _≤_, _<_}
+use Prim.Native.Nat.{ℕ, _≤_}
 use native.Mathlib.Omega.{arith}
-use mathlib.Core.Path.{_≡_, refl, ap, sym, _∙_}
+use mathlib.Core.Path.{_≡_, refl, ap, sym}
 use mathlib.Core.Bool.{Bool, true, false, cond}
-use mathlib.Core.List.{List}
+use mathlib.Core.List.{List, []}
 use lib.Dec.{ltb}
-use lib.ListN.{length, getD, take, length-map}
-use borrow.Author.Tests.{ltb-true, ltb-false}
+use lib.ListN.{length, getD, take, replicate, length-map}
+use lib.Seq.{sets, length-sets, length-take-le}
+use borrow.Author.Tests.{ltb-true, ltb-false, ne-eqb}
 use Rattle.lexer.specs.Keywords.{keywords}
-use Rattle.lexer.specs.Lex.{between}
-use Rattle.lexer.specs.Lex.{Item, Lexed, refused, whole, lexed, codesOf, startsOf, filled, lineOf, Placed}
-use Rattle.lexer.specs.declared.lex.Line.{Line}
+use Rattle.lexer.specs.Lex.{between, Item, Lexed, refused, whole, lexed, front, codesOf, startsOf, endedOf, Placed}
+use Rattle.lexer.specs.declared.lex.Ended.{Ended}
 use Rattle.lexer.proofs.Numbered.{Numbered, numbered}
-use Rattle.lexer.proofs.Lines.{filled-taken, filled-at}
-use Rattle.lexer.proofs.Places.{answered}
+use Rattle.lexer.proofs.Lines.{front-whole, sets-taken, sets-at}
+use Rattle.lexer.proofs.Places.{start-below, placed}
 use Rattle.dates.specs.Parsed.{Parsed, is, nothing, overflow}
-use Rattle.phrase.specs.Tree.{DateTime}
+use Rattle.phrase.specs.Tree.{DateTime, now}
 use Rattle.phrase.specs.DateTimes.{dateTimeOf}
-use Rattle.phrase.specs.Flat.{flat, blank, treeOf}
-use Rattle.phrase.specs.Refusals.{LexemesLeft}
-use Rattle.phrase.specs.Read.{ReadPhrase, refusal, tree, readCodes, readLexed, readOf, refusedWith, phraseAnswer, placeOf, offendingOf}
+use Rattle.phrase.specs.Flat.{flat, blank, treeOf, sizeTree}
+use Rattle.phrase.specs.Outlines.{countOf, treeIn, kept, gathered}
+use Rattle.phrase.specs.Refusals.{NothingRead, SumTooLarge, LexemesLeft}
+use Rattle.phrase.specs.Read.{ReadPhrase, refusal, tree, readCodes, readLexed, readOf, endedRead, judgedOf, phraseAnswer, placeOf, offendingOf}
+use Rattle.phrase.specs.declared.date_time.Count.{Count}
+use Rattle.phrase.specs.declared.date_time.Count.the-variants.{Is, Nothing, Overflow}
+use Rattle.phrase.specs.declared.gather.Gathered.{Gathered}
 use Rattle.phrase.specs.declared.reading.Reading.{Reading}
 use Rattle.phrase.specs.declared.read.PhraseRead.{PhraseRead}
-use Rattle.phrase.proofs.Few.{date-time-few, at-most-21}
+use Rattle.phrase.proofs.Stands.{Each, TreeHolds, date-time-holds}
 use Rattle.phrase.proofs.Decoded.{tree-count, decoded}
 
--- the place of a lexeme from the code's array, which is filled up
-start-filled : (items : List Item) (t : ℕ) → t < length items → getD (filled (startsOf items)) t 0 ≡ getD (startsOf items) t 0
-start-filled items t h = let same = length-map items (λ (i : Item). i .start) in filled-at (startsOf items) t (omega arith)
+-- how reading ended, by the count that the code has of it
+abbrev countEnded : Count → ℕ → List ℕ → ℕ → Ended
+countEnded (Is t) count starts n = endedRead (cond (ltb t count) (refusal LexemesLeft (getD starts t 0) n) (tree now t))
+countEnded Nothing count starts n = endedRead (refusal NothingRead 0 0)
+countEnded Overflow count starts n = endedRead (refusal SumTooLarge 0 0)
 
--- and so what is left behind a reading
-starts-filled : (items : List Item) (n : ℕ) (x : Parsed DateTime) →
-    readCodes x (length items) (filled (startsOf items)) n ≡ readCodes x (length items) (startsOf items) n
-starts-filled items n (is x t) = go (ltb t (length items)) refl
+pub count-ended : (w : Parsed DateTime) {k : Count} (count : ℕ) (starts : List ℕ) (n : ℕ) → k ≡ countOf w →
+    endedRead (readCodes w count starts n) ≡ countEnded k count starts n
+count-ended (is x t) count starts n e = rw e (go (ltb t count))
+  where
+    go : (b : Bool) → endedRead (cond b (refusal LexemesLeft (getD starts t 0) n) (tree x t))
+        ≡ endedRead (cond b (refusal LexemesLeft (getD starts t 0) n) (tree now t))
+    go true = refl
+    go false = refl
+count-ended nothing count starts n e = rw e
+count-ended overflow count starts n e = rw e
+
+-- the code's answer, from how reading ended
+abbrev pub answerOf : Ended → Reading → PhraseRead
+answerOf r x = record { reading = x; number = r .number; place = r .place; end = r .end; taken = r .count }
+
+-- of n lexemes, read as w
+codes-answer : (w : Parsed DateTime) (count n : ℕ) (starts : List ℕ) →
+    answerOf (endedRead (readCodes w count starts n)) (flat (treeIn (kept count w))) ≡ phraseAnswer (readCodes w count starts n)
+codes-answer (is x t) count n starts = go (ltb t count)
+  where
+    go : (b : Bool) → answerOf (endedRead (cond b (refusal LexemesLeft (getD starts t 0) n) (tree x t))) (flat (cond b now x))
+        ≡ phraseAnswer (cond b (refusal LexemesLeft (getD starts t 0) n) (tree x t))
+    go true = refl
+    go false = refl
+codes-answer nothing count n starts = refl
+codes-answer overflow count n starts = refl
+
+-- of no lexemes nothing is kept
+none-kept : (w : Parsed DateTime) → Each (TreeHolds []) w → treeIn (kept 0 w) ≡ now
+none-kept (is x t) h = let one = h .says .one in let most = h .says .most in absurd (omega arith)
+none-kept nothing h = refl
+none-kept overflow h = refl
+
+-- the places of lexemes that are stored in front of an array
+starts-stored : (items : List Item) (a : List ℕ) → length items ≤ length a → (n : ℕ) (w : Parsed DateTime) →
+    readCodes w (length items) (sets a 0 (startsOf items)) n ≡ readCodes w (length items) (startsOf items) n
+starts-stored items a h n (is x t) = go (ltb t (length items)) refl
   where
     go : (b : Bool) → ltb t (length items) ≡ b →
-        cond b (refusal LexemesLeft (getD (filled (startsOf items)) t 0) n) (tree x t)
+        cond b (refusal LexemesLeft (getD (sets a 0 (startsOf items)) t 0) n) (tree x t)
         ≡ cond b (refusal LexemesLeft (getD (startsOf items) t 0) n) (tree x t)
-    go true e = rw (start-filled items t (ltb-true t (length items) e))
+    go true e =
+        let below = ltb-true t (length items) e in
+        let same = length-map items (λ (i : Item). i .start) in
+        rw (sets-at (startsOf items) a (omega arith) t (omega arith))
     go false e = refl
-starts-filled items n nothing = refl
-starts-filled items n overflow = refl
+starts-stored items a h n nothing = refl
+starts-stored items a h n overflow = refl
 
--- the code reads a lexed phrase of n bytes by its count, codes and places
-abbrev readLine : Line → ℕ → ReadPhrase
-readLine line n = readCodes (dateTimeOf (take (line .count) (line .codes))) (line .count) (line .starts) n
+kept-count : (n : ℕ) (w : Parsed DateTime) → countOf (kept n w) ≡ countOf w
+kept-count n (is x t) = refl
+kept-count n nothing = refl
+kept-count n overflow = refl
 
--- the lexemes from the code's arrays are read as the lexemes themselves
-line-read : (items : List Item) (n : ℕ) → readLine (lineOf (whole items)) n ≡ readLexed (whole items) n
-line-read items n =
-    rw (filled-taken (codesOf items) (length items) (length-map items (λ (i : Item). i .code)))
-    (starts-filled items n (dateTimeOf (codesOf items)))
+-- what `lex` answers to a phrase and stores, read
+module _ (s : List ℕ) where
+  abbrev lineRead : Ended → List Item → PhraseRead
+  lineRead line items =
+      let w = dateTimeOf (take (line .count) (sets (replicate 64 0) 0 (codesOf items))) in
+      answerOf (judgedOf line w (sets (replicate 64 0) 0 (startsOf items)) (length s)) (flat (treeIn (kept (line .count) w)))
 
--- a line of number 0 holds all the lexemes, any other a refusal
-line-whole : (w : Lexed) (n : ℕ) → Numbered w → lineOf w .number ≡ 0 → readLine (lineOf w) n ≡ readLexed w n
-line-whole (refused k a e) n h z = absurd (omega arith)
-line-whole (whole items) n h z = line-read items n
-
-line-refused : (w : Lexed) (n : ℕ) → (lineOf w .number ≡ 0 → ⊥) →
-    refusal (lineOf w .number) (lineOf w .place) (lineOf w .end) ≡ readLexed w n
-line-refused (refused k a e) n h = refl
-line-refused (whole items) n h = absurd (h refl)
-
--- what `lex` answers to a phrase, read
-module _ (s : List ℕ) {line : Line} (answer : line ≡ lineOf (lexed keywords s)) where
-  pub read-whole : line .number ≡ 0 → readLine line (length s) ≡ readOf keywords s
+  line-answered : lineRead (endedOf (lexed keywords s)) (front keywords s) ≡ phraseAnswer (readOf keywords s)
   unfolding readOf
-  read-whole z = rw answer (line-whole (lexed keywords s) (length s) (numbered keywords s) (rw answer at z))
+  line-answered = go (lexed keywords s) refl (numbered keywords s) (placed keywords s refl)
+    where
+      go : (w : Lexed) → lexed keywords s ≡ w → Numbered w → Placed (length s) (endedOf (lexed keywords s)) →
+          lineRead (endedOf w) (front keywords s) ≡ phraseAnswer (readLexed w (length s))
+      go (refused k p e) same h most = rw (ne-eqb k 0 (λ z. omega arith), none-kept (dateTimeOf []) (date-time-holds []))
+      go (whole items) same h most =
+          let count = (rw same at most) .count-most in
+          let codes = length-map items (λ (i : Item). i .code) in
+          rw (
+            front-whole keywords s items same,
+            sets-taken (codesOf items) (replicate 64 0) (omega arith) (length items) codes,
+            starts-stored items (replicate 64 0) count (length s) (dateTimeOf (codesOf items)),
+          ) (codes-answer (dateTimeOf (codesOf items)) (length items) (length s) (startsOf items))
 
-  pub read-refused : (line .number ≡ 0 → ⊥) → refusal (line .number) (line .place) (line .end) ≡ readOf keywords s
-  unfolding readOf
-  read-refused h = rw answer (line-refused (lexed keywords s) (length s) (rw answer at h))
+  -- the codes are as many as the lexemes, and there is room for them
+  pub codes-stored : {line : Ended} {codes : List ℕ} → line ≡ endedOf (lexed keywords s) →
+      codes ≡ sets (replicate 64 0) 0 (codesOf (front keywords s)) →
+      (line .count ≤ length codes) × (length (take (line .count) codes) ≡ line .count) × (line .count ≤ 64)
+  codes-stored {line} {codes} e f =
+      let most = placed keywords s e .count-most in
+      let all : length codes ≡ 64 = rw (f, length-sets (replicate 64 0) 0 (codesOf (front keywords s))) in
+      (omega arith, length-take-le (line .count) codes (omega arith), most)
 
--- a refusal with the reading of nothing is the answer to what is so refused
-pub refusal-answered : {r : PhraseRead} {none : Reading} {k a e : ℕ} {w : ReadPhrase} →
-    r ≡ refusedWith k a e none → none ≡ blank → refusal k a e ≡ w → r ≡ phraseAnswer w
-refusal-answered {k = k} {a = a} {e = e} answer empty same = answer ∙ ap (refusedWith k a e) empty ∙ ap phraseAnswer same
+  pub read-answered : {line r : Ended} {codes starts : List ℕ} {x : Gathered} → line ≡ endedOf (lexed keywords s) →
+      codes ≡ sets (replicate 64 0) 0 (codesOf (front keywords s)) → starts ≡ sets (replicate 64 0) 0 (startsOf (front keywords s)) →
+      x ≡ gathered (kept (length (take (line .count) codes)) (dateTimeOf (take (line .count) codes))) →
+      ((w : Parsed DateTime) → x .taken ≡ countOf w → r ≡ judgedOf line w starts (length s)) →
+      answerOf r (x .reading) ≡ phraseAnswer (readOf keywords s)
+  read-answered {line} {r} {codes} e f g gives ends =
+      let w = dateTimeOf (take (line .count) codes) in
+      rw (ends w (rw gives (kept-count (length (take (line .count) codes)) w)), gives, codes-stored e f .1, e, f, g) line-answered
 
 -- the offending part begins and ends within the first n bytes
 abbrev Within : ℕ → ReadPhrase → Type 0
 Within n (refusal k a e) = (a ≤ e) × (e ≤ n)
 Within n (tree x t) = Unit {0}
 
-codes-within : (items : List Item) (n : ℕ) → Placed n (lineOf (whole items)) → (x : Parsed DateTime) →
-    Within n (readCodes x (length items) (startsOf items) n)
-codes-within items n placed (is x t) = go (ltb t (length items)) refl
+codes-within : (s : List ℕ) (items : List Item) → lexed keywords s ≡ whole items → (x : Parsed DateTime) →
+    Within (length s) (readCodes x (length items) (startsOf items) (length s))
+codes-within s items same (is x t) = go (ltb t (length items)) refl
   where
-    go : (b : Bool) → ltb t (length items) ≡ b → Within n (cond b (refusal LexemesLeft (getD (startsOf items) t 0) n) (tree x t))
-    go true e =
-        let below = ltb-true t (length items) e in
-        let start = rw (start-filled items t below) at (placed .start-below t below) in
-        omega arith
+    go : (b : Bool) → ltb t (length items) ≡ b →
+        Within (length s) (cond b (refusal LexemesLeft (getD (startsOf items) t 0) (length s)) (tree x t))
+    go true e = let start = start-below keywords s items same t (ltb-true t (length items) e) in omega arith
     go false e = tt
-codes-within items n placed nothing = omega arith
-codes-within items n placed overflow = omega arith
-
-lexed-within : (w : Lexed) (n : ℕ) → Placed n (lineOf w) → Within n (readLexed w n)
-lexed-within (refused k a e) n p = (p .place-end, p .end-most)
-lexed-within (whole items) n p = codes-within items n p (dateTimeOf (codesOf items))
+codes-within s items same nothing = omega arith
+codes-within s items same overflow = omega arith
 
 read-within : (s : List ℕ) → Within (length s) (readOf keywords s)
 unfolding readOf
-read-within s = lexed-within (lexed keywords s) (length s) (answered keywords s refl .1)
+read-within s = go (lexed keywords s) refl (placed keywords s refl)
+  where
+    go : (w : Lexed) → lexed keywords s ≡ w → Placed (length s) (endedOf (lexed keywords s)) → Within (length s) (readLexed w (length s))
+    go (refused k a e) same p = let q = rw same at p in (q .place-end, q .end-most)
+    go (whole items) same p = codes-within s items same (dateTimeOf (codesOf items))
 
 answer-within : (n : ℕ) (w : ReadPhrase) → Within n w → (phraseAnswer w .place ≤ phraseAnswer w .end) × (phraseAnswer w .end ≤ n)
 answer-within n (refusal k a e) h = h
@@ -151,8 +202,8 @@ module _ (s : List ℕ) (items : List Item) (lexemes : lexed keywords s ≡ whol
       go false h =
           let same = length-map items (λ (i : Item). i .code) in
           let left = ltb-false t (length items) h in
-          let took = (rw e at (date-time-few (codesOf items))) .bounds in
-          let parts = at-most-21 (codesOf items) (omega arith) e in
+          let took = (rw e at (date-time-holds (codesOf items))) .says in
+          let parts : sizeTree x ≤ 21 = omega arith in
           let count = tree-count x blank in
           record {
             items = items;
@@ -165,14 +216,13 @@ module _ (s : List ℕ) (items : List Item) (lexemes : lexed keywords s ≡ whol
   codes-settled nothing e = omega arith
   codes-settled overflow e = omega arith
 
-lexed-settled : (s : List ℕ) (w : Lexed) → lexed keywords s ≡ w → Numbered w → Placed (length s) (lineOf w) →
-    Settled s (readLexed w (length s))
-lexed-settled s (refused k a e) h n p = omega arith
-lexed-settled s (whole items) h n p = codes-settled s items h (p .count-most) (dateTimeOf (codesOf items)) refl
-
 settled : (s : List ℕ) → Settled s (readOf keywords s)
 unfolding readOf
-settled s = lexed-settled s (lexed keywords s) refl (numbered keywords s) (answered keywords s refl .1)
+settled s = go (lexed keywords s) refl (numbered keywords s) (placed keywords s refl)
+  where
+    go : (w : Lexed) → lexed keywords s ≡ w → Numbered w → Placed (length s) (endedOf (lexed keywords s)) → Settled s (readLexed w (length s))
+    go (refused k a e) h n p = omega arith
+    go (whole items) h n p = codes-settled s items h ((rw h at p) .count-most) (dateTimeOf (codesOf items)) refl
 
 -- a phrase is refused by a number of 1 to 7
 pub refusal-numbers : (s : List ℕ) {k a e : ℕ} → readOf keywords s ≡ refusal k a e → (1 ≤ k) × (k ≤ 7)

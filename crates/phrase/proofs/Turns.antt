@@ -1,31 +1,232 @@
--- `dateTimeOf` is what it says it is: behind a link a datetime is read as `dateTimeOf` reads it, since the lexemes left fall at each turn.
-use Prim.Native.Nat.{ℕ, _≤_, _<_}
+-- Turn after turn: `dateTimeOf` is what it says it is, and what one turn of the code says of the outline.
+use Prim.Native.Nat.{ℕ, _+_, _≤_, _<_}
 use native.Mathlib.Omega.{arith}
-use mathlib.Core.Path.{_≡_, refl}
-use mathlib.Core.List.{List}
+use mathlib.Core.Path.{_≡_, refl, ap, _∙_}
+use mathlib.Core.Bool.{Bool, true, false}
+use mathlib.Core.List.{List, [], _∷_}
 use lib.ListN.{length, drop, length-drop}
+use types.Run.{OneOf}
+use denote.Enum.Declared.{tagOf}
+use Rattle.lexer.specs.Lexemes as lexeme
+use Rattle.numbers.specs.Slices.{isAt}
 use Rattle.numbers.proofs.Again.{again-is}
-use Rattle.dates.specs.Parsed.{Parsed, is, nothing, overflow, andThen}
-use Rattle.phrase.specs.Tree.{DateTime}
-use Rattle.phrase.specs.DateTimes.{Turn, whole, link, turnOf, againOf, dateTimeStep, dateTimeOf}
-use Rattle.expressions.proofs.Few.{Few}
-use Rattle.phrase.proofs.Few.{sizeTurn, turn-few}
-
-again-agree : (D E : List ℕ → Parsed DateTime) (l : List ℕ) (x : Turn) (t : ℕ) → 1 ≤ t → t ≤ length l → ((m : List ℕ) → length m < length l → D m ≡ E m) → againOf D l x t ≡ againOf E l x t
-again-agree D E l (whole x) t a b agree = refl
-again-agree D E l (link back dur) t a b agree = rw (agree (drop t l) (let left = length-drop t l in omega arith))
-
-then-agree : (D E : List ℕ → Parsed DateTime) (l : List ℕ) (w : Parsed Turn) → Few sizeTurn w 1 (length l) → ((m : List ℕ) → length m < length l → D m ≡ E m) →
-    andThen w (againOf D l) ≡ andThen w (againOf E l)
-then-agree D E l (is x t) h agree = let b = h .bounds in again-agree D E l x t (omega arith) (omega arith) agree
-then-agree D E l nothing h agree = refl
-then-agree D E l overflow h agree = refl
+use Rattle.dates.specs.Parsed.{Parsed, is, nothing, overflow, ifLet, andThen, stopped}
+use Rattle.dates.specs.Durations.{Duration}
+use Rattle.dates.specs.Times.{timeOf, parsedTime}
+use Rattle.dates.specs.declared.time.Time.{Time}
+use Rattle.dates.specs.declared.time.Time.the-variants.{Empty}
+use Rattle.dates.specs.declared.time.TimeFound.{TimeFound}
+use Rattle.dates.specs.declared.time.TimeFound.the-variants.{Is as IsTime, Nothing as NoTime, Overflow as TimeOverflow}
+use Rattle.dates.proofs.time.TimeFound.{the-type as time-type}
+use borrow.Author.Tests.{eqb-false, lt-ltb, le-ltb}
+use Rattle.dates.proofs.Laws.{Arm, neither, unread, dropped}
+use Rattle.expressions.specs.Tree.{DateExpr, empty}
+use Rattle.expressions.specs.DateExprs.{dateExprOf}
+use Rattle.expressions.specs.Shapes.{shape}
+use Rattle.expressions.specs.ExprAnswers.{ownPlace, exprAnswer}
+use Rattle.expressions.specs.declared.expr.Expr.{Expr}
+use Rattle.expressions.specs.declared.expr.Expr.the-variants.{Empty as NoDate}
+use Rattle.expressions.specs.declared.expr.ExprTaken.{ExprTaken}
+use Rattle.expressions.specs.declared.expr.ExprTaken.the-variants.{Is as IsExpr, Nothing as NoExpr, Overflow as ExprOverflow}
+use Rattle.phrase.specs.Tree.{DateTime, dateTime, timeDate, durationAfter, durationBefore, now, around}
+use Rattle.phrase.specs.DateTimes.{Turn, whole, ago, link, commaOr, timeBehindOf, timedTurnOf, undatedTurnOf, turnOf}
+use Rattle.phrase.specs.DateTimes.{againOf, dateTimeStep, dateTimeOf}
+use Rattle.phrase.specs.Outlines.{linkTaken, outline, countOf, treeIn, outlineAnswer, turnAnswer, kept}
+use Rattle.phrase.specs.declared.reading.Base.the-variants.{Now, DateTime as Dated, TimeDate as Timed}
+use Rattle.phrase.specs.declared.date_time.Count.{Count}
+use Rattle.phrase.specs.declared.date_time.Count.the-variants.{Is, Nothing, Overflow}
+use Rattle.phrase.specs.declared.date_time.Outline.{Outline}
+use Rattle.phrase.specs.declared.date_time.Turn.{Turn as TurnTaken}
+use Rattle.phrase.specs.declared.date_time.Turn.the-variants.{Whole, Ago, Link, Nothing as NoTurn, Overflow as TurnOverflow}
+use Rattle.phrase.proofs.date_time.Count.{the-type as count-type}
+use Rattle.phrase.proofs.Stands.{Each, TurnHolds, Bare, turn-holds, link-taken}
 
 step-agree : (D E : List ℕ → Parsed DateTime) (l : List ℕ) → ((m : List ℕ) → length m < length l → D m ≡ E m) → dateTimeStep D l ≡ dateTimeStep E l
 unfolding dateTimeStep
-step-agree D E l agree = then-agree D E l (turnOf l) (turn-few l) agree
+step-agree D E l agree = go (turnOf l) (turn-holds l)
+  where
+    go : (w : Parsed Turn) → Each (TurnHolds l) w → andThen w (againOf D l) ≡ andThen w (againOf E l)
+    go (is (whole x) t) h = refl
+    go (is (ago dur) t) h = refl
+    go (is (link back dur) t) h =
+        let b = h .says .one in
+        let most = h .says .most in
+        rw (agree (drop t l) (let left = length-drop t l in omega arith))
+    go nothing h = refl
+    go overflow h = refl
 
 -- `DateTime::parse` calls itself
 pub date-time-is : (l : List ℕ) → dateTimeOf l ≡ dateTimeStep dateTimeOf l
 unfolding dateTimeOf
 date-time-is l = again-is nothing dateTimeStep step-agree l
+
+-- the outline of what is read at l, behind m links of at lexemes
+abbrev pub linked : ℕ → ℕ → List ℕ → Parsed DateTime → Outline
+linked m at l (is x u) = outline (Is (at + u)) m l x
+linked m at l nothing = outline Nothing 0 l now
+linked m at l overflow = outline Overflow 0 l now
+
+-- from the front on
+pub unlinked : (l : List ℕ) (w : Parsed DateTime) → outlineAnswer l w ≡ linked 0 0 l w
+unlinked l (is x t) = let e : 0 + t ≡ t = omega arith in rw e
+unlinked l nothing = refl
+unlinked l overflow = refl
+
+-- a base is the same with other links and another count
+whole-outline : (x : DateTime) → Bare x → (l : List ℕ) (k j : Count) (m n : ℕ) →
+    outline k m l x ≡ record { taken = k; base = outline j n l x .base; time = outline j n l x .time; own = outline j n l x .own; m = m }
+whole-outline (dateTime e t) h l k j m n = refl
+whole-outline (timeDate t e) h l k j m n = refl
+whole-outline (durationAfter dur x) h l k j m n = absurd h
+whole-outline (durationBefore dur x) h l k j m n = absurd h
+whole-outline now h l k j m n = refl
+
+pub around-outline : (back : Bool) (dur : Duration) (x : DateTime) (k : Count) (m : ℕ) (l : List ℕ) →
+    outline k m l (around back dur x) ≡ outline k (m + 1) (drop (linkTaken l) l) x
+around-outline true dur x k m l = refl
+around-outline false dur x k m l = refl
+
+-- what the code's answer for a turn says of the outline, within n lexemes
+abbrev Said : ℕ → List ℕ → ℕ → ℕ → Parsed DateTime → TurnTaken → Type 0
+Said n l at m w (Whole b time own t) =
+    (linked m at l w ≡ record { taken = Is (at + t); base = b; time = time; own = own; m = m }) × (1 ≤ t) × (at + t ≤ n)
+Said n l at m w (Ago t) =
+    (linked m at l w ≡ record { taken = Is (at + t); base = Now; time = Empty; own = 0; m = m + 1 }) × (1 ≤ t) × (at + t ≤ n)
+Said n l at m w (Link t) =
+    (linked m at l w ≡ linked (m + 1) (at + t) (drop t l) (dateTimeOf (drop t l))) × (1 ≤ t) × (at + t ≤ n)
+Said n l at m w NoTurn = linked m at l w ≡ outline Nothing 0 l now
+Said n l at m w TurnOverflow = linked m at l w ≡ outline Overflow 0 l now
+
+turn-said : (n : ℕ) (l : List ℕ) (at m : ℕ) → at + length l ≡ n → Said n l at m (dateTimeOf l) (turnAnswer l (turnOf l))
+unfolding dateTimeStep
+turn-said n l at m all = rw (date-time-is l) (go (turnOf l) (turn-holds l))
+  where
+    behind : (back : Bool) (dur : Duration) (t : ℕ) → linkTaken l ≡ t → (w : Parsed DateTime) →
+        linked m at l (andThen w (λ x u. is (around back dur x) (t + u))) ≡ linked (m + 1) (at + t) (drop t l) w
+    behind back dur t e (is x u) =
+        let same : at + (t + u) ≡ at + t + u = omega arith in
+        rw (around-outline back dur x (Is (at + (t + u))) m l, e, same)
+    behind back dur t e nothing = refl
+    behind back dur t e overflow = refl
+
+    within : {x : Turn} {t : ℕ} → TurnHolds l x t → (1 ≤ t) × (at + t ≤ n)
+    within h = let one = h .one in let most = h .most in (omega arith, omega arith)
+
+    go : (w : Parsed Turn) → Each (TurnHolds l) w → Said n l at m (andThen w (againOf dateTimeOf l)) (turnAnswer l w)
+    go (is (whole x) t) h =
+        let b = within (h .says) in (whole-outline x (h .says .stands .1) l (Is (at + t)) (Is t) m 0, b .0, b .1)
+    go (is (ago dur) t) h = let b = within (h .says) in (refl, b .0, b .1)
+    go (is (link back dur) t) h =
+        let b = within (h .says) in (behind back dur t (link-taken (h .says .stands)) (dateTimeOf (drop t l)), b .0, b .1)
+    go nothing h = refl
+    go overflow h = refl
+
+-- what a turn that the code took apart says, at the place at
+pub turn-learnt : (l : List ℕ) (at m : ℕ) → at ≤ length l → {left : List ℕ} {r z : TurnTaken} →
+    left ≡ drop at l → r ≡ turnAnswer left (turnOf left) → r ≡ z → Said (length l) (drop at l) at m (dateTimeOf (drop at l)) z
+turn-learnt l at m h same answer e =
+    let left = length-drop at l in
+    rw (← e, answer, same) (turn-said (length l) (drop at l) at m (omega arith))
+
+-- an outline has the count of what was read
+outline-count : (x : DateTime) (k : Count) (m : ℕ) (l : List ℕ) → outline k m l x .taken ≡ k
+outline-count (dateTime e t) k m l = refl
+outline-count (timeDate t e) k m l = refl
+outline-count (durationAfter dur x) k m l = outline-count x k (m + 1) (drop (linkTaken l) l)
+outline-count (durationBefore dur x) k m l = outline-count x k (m + 1) (drop (linkTaken l) l)
+outline-count now k m l = refl
+
+pub counted : (l : List ℕ) (w : Parsed DateTime) {o : Outline} → o ≡ outlineAnswer l w → o .taken ≡ countOf w
+counted l w answer = rw answer (outline-count (treeIn w) (countOf w) 0 l)
+
+-- with lexemes left, only the count is kept
+pub kept-left : (l : List ℕ) (w : Parsed DateTime) (n : ℕ) {t : ℕ} → countOf w ≡ Is t → t < n → outline (Is t) 0 [] now ≡ outlineAnswer l (kept n w)
+kept-left l (is x u) n {t} e h = let same : u ≡ t = cc in rw (same, lt-ltb t n h)
+kept-left l nothing n e h = let z : _≡_ {A = ℕ} 0 1 = cc in absurd (omega arith)
+kept-left l overflow n e h = let z : _≡_ {A = ℕ} 0 1 = cc in absurd (omega arith)
+
+-- with none left, and where nothing is read, all is kept
+pub kept-all : (w : Parsed DateTime) (n : ℕ) {t : ℕ} → countOf w ≡ Is t → n ≤ t → kept n w ≡ w
+kept-all (is x u) n {t} e h = let same : u ≡ t = cc in rw (same, le-ltb t n h)
+kept-all nothing n e h = refl
+kept-all overflow n e h = refl
+
+pub kept-none : (w : Parsed DateTime) (n : ℕ) → OneOf (1 ∷ 2 ∷ []) (tagOf count-type (countOf w)) → kept n w ≡ w
+kept-none (is x t) n k = neither 0 1 2 (eqb-false 0 1 refl) (eqb-false 0 2 refl) k
+kept-none nothing n k = refl
+kept-none overflow n k = refl
+
+-- the arm of a time's answer
+time-arm : {ks : List ℕ} (w : TimeFound) → OneOf ks (tagOf time-type w) → Arm ks (parsedTime w)
+time-arm (IsTime time t) k = record { tags = k }
+time-arm NoTime k = record { tags = k }
+time-arm TimeOverflow k = record { tags = k }
+
+-- the time that a code's answer says
+pub time-at : (l : List ℕ) {r : TimeFound} {time : Time} {t : ℕ} → parsedTime r ≡ timeOf l → r ≡ IsTime time t → timeOf l ≡ is time t
+time-at l answer e = rw (← answer, e)
+
+-- where no overflow stopped a time, nothing is left to say
+pub time-dropped : (w : TimeFound) → OneOf (0 ∷ 1 ∷ []) (tagOf time-type w) → NoTurn ≡ turnAnswer [] (stopped (parsedTime w))
+time-dropped w k = rw (dropped (time-arm w k))
+
+-- where no time is found, what would follow is not read
+pub time-unread : (l : List ℕ) (w : TimeFound) (f : Time → ℕ → Parsed Turn) → OneOf (1 ∷ 2 ∷ []) (tagOf time-type w) →
+    turnAnswer [] (stopped (parsedTime w)) ≡ turnAnswer l (andThen (parsedTime w) f)
+time-unread l w f k = go (parsedTime w) ∙ ap (turnAnswer l) (unread (parsedTime w) f (time-arm w k) refl)
+  where
+    go : (p : Parsed Time) → turnAnswer [] (stopped p) ≡ turnAnswer l (stopped p)
+    go (is time t) = refl
+    go nothing = refl
+    go overflow = refl
+
+-- a time and s lexemes with it, and the date expression behind them
+abbrev timedAnswer : Time → ℕ → ExprTaken → TurnTaken
+timedAnswer time s (IsExpr x u p) = Whole (Timed x) time (s + p) (s + u)
+timedAnswer time s NoExpr = Whole (Timed NoDate) time s s
+timedAnswer time s ExprOverflow = TurnOverflow
+
+pub timed-turn : (l m : List ℕ) {time : Time} {t : ℕ} → timeOf l ≡ is time t → m ≡ drop (commaOr l t lexeme.On) l →
+    turnAnswer l (timedTurnOf l) ≡ timedAnswer time (commaOr l t lexeme.On) (exprAnswer m (dateExprOf m))
+unfolding timedTurnOf
+timed-turn l m {time} {t} e same = rw (same, e) (go (dateExprOf (drop (commaOr l t lexeme.On) l)))
+  where
+    go : (w : Parsed DateExpr) →
+        turnAnswer l (ifLet w (λ x u. is (whole (timeDate time x)) (commaOr l t lexeme.On + u)) (is (whole (timeDate time empty)) (commaOr l t lexeme.On)))
+        ≡ timedAnswer time (commaOr l t lexeme.On) (exprAnswer (drop (commaOr l t lexeme.On) l) w)
+    go (is x u) = rw e
+    go nothing = let z : commaOr l t lexeme.On + 0 ≡ commaOr l t lexeme.On = omega arith in rw (e, z)
+    go overflow = refl
+
+-- a date expression at the place p, and the time behind it
+abbrev timeAnswer : Expr → ℕ → Parsed Time → TurnTaken
+timeAnswer x p (is time n) = Whole (Dated x) time p n
+timeAnswer x p nothing = NoTurn
+timeAnswer x p overflow = TurnOverflow
+
+pub time-stopped : (x : Expr) (p : ℕ) (w : TimeFound) → OneOf (1 ∷ 2 ∷ []) (tagOf time-type w) →
+    turnAnswer [] (stopped (parsedTime w)) ≡ timeAnswer x p (parsedTime w)
+time-stopped x p (IsTime time t) k = neither 0 1 2 (eqb-false 0 1 refl) (eqb-false 0 2 refl) k
+time-stopped x p NoTime k = refl
+time-stopped x p TimeOverflow k = refl
+
+abbrev datedAnswer : List ℕ → ExprTaken → TurnTaken
+datedAnswer l (IsExpr x t p) = timeAnswer x p (timeBehindOf t l)
+datedAnswer l NoExpr = turnAnswer l (undatedTurnOf l)
+datedAnswer l ExprOverflow = TurnOverflow
+
+pub dated-turn : (l : List ℕ) → isAt l 0 lexeme.Now ≡ false → turnAnswer l (turnOf l) ≡ datedAnswer l (exprAnswer l (dateExprOf l))
+unfolding turnOf
+dated-turn l e = rw e (go (dateExprOf l))
+  where
+    dated : (x : DateExpr) (w : Parsed Time) → turnAnswer l (andThen w (λ time n. is (whole (dateTime x time)) n)) ≡ timeAnswer (shape x) (ownPlace l x) w
+    dated x (is time n) = refl
+    dated x nothing = refl
+    dated x overflow = refl
+
+    go : (w : Parsed DateExpr) →
+        turnAnswer l (ifLet w (λ x t. andThen (timeBehindOf t l) (λ time n. is (whole (dateTime x time)) n)) (undatedTurnOf l))
+        ≡ datedAnswer l (exprAnswer l w)
+    go (is x t) = dated x (timeBehindOf t l)
+    go nothing = refl
+    go overflow = refl

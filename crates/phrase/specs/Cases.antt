@@ -28,7 +28,7 @@ use Rattle.phrase.specs.Tree.{dateTime, timeDate, durationAfter}
 use Rattle.phrase.specs.Tree.{durationBefore, now}
 use Rattle.expressions.specs.DateExprs.{inTailOf, durationTailOf, tailOf, withDurationOf, relativeExprOf, weekdayExprOf, undatedOf}
 use Rattle.expressions.specs.DateExprs.{dateExprOf}
-use Rattle.phrase.specs.DateTimes.{withExprOf, withDurationOf as durationTurnOf, withTimeOf, timedTurnOf, undatedTurnOf, turnOf}
+use Rattle.phrase.specs.DateTimes.{timeBehindOf, withDurationOf as durationTurnOf, timedTurnOf, undatedTurnOf, turnOf}
 use Rattle.phrase.specs.DateTimes.{dateTimeStep, dateTimeOf}
 use Rattle.phrase.specs.Refusals.{NothingRead, SumTooLarge, LexemesLeft}
 use Rattle.phrase.specs.Read.{ReadPhrase, refusal, tree, readOf}
@@ -81,6 +81,6 @@ unfolding cases keywords classOf markOf numberOf wordAt numberAt tokenAt lexed g
     tensOf tensOnesOf numDoubleOf sumOf numTailOf hundredsOf numTripleOf numTripleUnitOf fitsOf unitsOf numStep turns again numOf
     isArticle unitOf monthOf weekdayOf relativeSpecifierOf specificOf articleOf concreteOf durationStep durationOf namedDayOf
     dayMonthYearOf monthDayOf isDelim threeNumbersOf twoNumbersOf behindSecondOf delimitedOf dateOf minuteOf halfOf clockOf timeOf
-    inTailOf durationTailOf tailOf withDurationOf relativeExprOf weekdayExprOf undatedOf dateExprOf withExprOf durationTurnOf
-    withTimeOf timedTurnOf undatedTurnOf turnOf dateTimeStep dateTimeOf readOf
+    inTailOf durationTailOf tailOf withDurationOf relativeExprOf weekdayExprOf undatedOf dateExprOf timeBehindOf durationTurnOf
+    timedTurnOf undatedTurnOf turnOf dateTimeStep dateTimeOf readOf
 read-as-listed = refl

@@ -2,7 +2,6 @@ pub mod Tree
 pub mod DateTimes
 pub mod Flat
 pub mod Outlines
-pub mod TurnAnswers
 pub mod Refusals
 pub mod Read
 pub mod Cases

@@ -1,6 +1,5 @@
--- The outline of a whole phrase: links, a base, and where its own duration stands; and the flat reading that is gathered from it.
-use Prim.Native.Nat.{ℕ, zero, suc, _+_, _*_, _-_, _≤_}
-use mathlib.Core.Path.{_≡_}
+-- The code's answers for one turn and for a whole tree: an outline is so many links, a base, and where the base's own duration begins.
+use Prim.Native.Nat.{ℕ, _+_}
 use mathlib.Core.Bool.{Bool, true, false, cond}
 use mathlib.Core.List.{List}
 use lib.Dec.{ltb}
@@ -8,21 +7,84 @@ use lib.ListN.{drop}
 use Rattle.lexer.specs.Lexemes as lexeme
 use Rattle.numbers.specs.Slices.{isAt}
 use Rattle.dates.specs.Parsed.{Parsed, is, nothing, overflow}
-use Rattle.dates.specs.Durations.{durationOf, durationAnswer}
+use Rattle.dates.specs.Durations.{durationOf, rowed}
+use Rattle.dates.specs.Times.{timeOf}
 use Rattle.dates.specs.declared.duration.Parts.{Parts}
-use Rattle.dates.specs.declared.duration.Taken.{Taken}
-use Rattle.dates.specs.declared.duration.Taken.the-variants as k
-use Rattle.dates.specs.declared.time.Time.{Time}
 use Rattle.dates.specs.declared.time.Time.the-variants.{Empty}
-use Rattle.expressions.specs.Shapes.{hasDuration}
-use Rattle.phrase.specs.Tree.{DateTime}
-use Rattle.phrase.specs.Flat.{flatFrom, linkedParts, based}
+use Rattle.expressions.specs.Shapes.{shape, hasDuration}
+use Rattle.expressions.specs.ExprAnswers.{ownPlace}
+use Rattle.phrase.specs.Tree.{DateTime, dateTime, timeDate, durationAfter, durationBefore, now}
+use Rattle.phrase.specs.DateTimes.{Turn, whole, ago, link, commaOr}
+use Rattle.phrase.specs.Flat.{flat}
 use Rattle.phrase.specs.declared.reading.Base.{Base}
 use Rattle.phrase.specs.declared.reading.Base.the-variants.{Now, DateTime as Dated, TimeDate as Timed}
-use Rattle.phrase.specs.declared.reading.Reading.{Reading}
+use Rattle.phrase.specs.declared.gather.Gathered.{Gathered}
 use Rattle.phrase.specs.declared.date_time.Count.{Count}
 use Rattle.phrase.specs.declared.date_time.Count.the-variants.{Is, Nothing, Overflow}
 use Rattle.phrase.specs.declared.date_time.Outline.{Outline}
+use Rattle.phrase.specs.declared.date_time.Turn.{Turn as TurnTaken}
+use Rattle.phrase.specs.declared.date_time.Turn.the-variants.{Whole, Ago, Link, Nothing as NoTurn, Overflow as TurnOverflow}
+
+-- the lexemes taken, 0 where nothing was read
+abbrev pub takenOf : {A : Type 0} → Parsed A → ℕ
+takenOf (is v t) = t
+takenOf nothing = 0
+takenOf overflow = 0
+
+-- the lexemes of the link at the front of l: a duration, and the word behind it
+abbrev pub linkTaken : List ℕ → ℕ
+linkTaken l = takenOf (durationOf l) + 1
+
+-- the lexemes of the time at the front of l, with the comma or "on" behind it
+abbrev pub timeTaken : List ℕ → ℕ
+timeTaken l = commaOr l (takenOf (timeOf l)) lexeme.On
+
+-- the outline of a tree that stands at the front of l, behind m links; the place of its base's own duration is counted from the base on
+abbrev pub outline : Count → ℕ → List ℕ → DateTime → Outline
+outline k m l (dateTime e t) = record { taken = k; base = Dated (shape e); time = t; own = ownPlace l e; m = m }
+outline k m l (timeDate t e) =
+    record { taken = k; base = Timed (shape e); time = t; own = timeTaken l + ownPlace (drop (timeTaken l) l) e; m = m }
+outline k m l (durationAfter dur x) = outline k (m + 1) (drop (linkTaken l) l) x
+outline k m l (durationBefore dur x) = outline k (m + 1) (drop (linkTaken l) l) x
+outline k m l now = record { taken = k; base = Now; time = Empty; own = 0; m = m }
+
+-- how a reading ended
+abbrev pub countOf : {A : Type 0} → Parsed A → Count
+countOf (is v t) = Is t
+countOf nothing = Nothing
+countOf overflow = Overflow
+
+-- the tree, and now where there is none
+abbrev pub treeIn : Parsed DateTime → DateTime
+treeIn (is x t) = x
+treeIn nothing = now
+treeIn overflow = now
+
+-- the code's answer for a whole tree
+abbrev pub outlineAnswer : List ℕ → Parsed DateTime → Outline
+outlineAnswer l w = outline (countOf w) 0 l (treeIn w)
+
+-- the code's answer for one turn
+abbrev pub turnAnswer : List ℕ → Parsed Turn → TurnTaken
+turnAnswer l (is (whole x) t) = let o = outline (Is t) 0 l x in Whole (o .base) (o .time) (o .own) t
+turnAnswer l (is (ago dur) t) = Ago t
+turnAnswer l (is (link back dur) t) = Link t
+turnAnswer l nothing = NoTurn
+turnAnswer l overflow = TurnOverflow
+
+-- what is kept of a reading of n lexemes: the tree only where all of them are taken
+abbrev pub kept : ℕ → Parsed DateTime → Parsed DateTime
+kept n (is x t) = is (cond (ltb t n) now x) t
+kept n nothing = nothing
+kept n overflow = overflow
+
+-- the flat reading of a tree, and how reading ended
+abbrev pub gathered : Parsed DateTime → Gathered
+gathered w = record { reading = flat (treeIn w); taken = countOf w }
+
+-- whether a duration that ends at t goes back
+abbrev pub isBack : List ℕ → ℕ → Bool
+isBack l t = cond (isAt l t lexeme.After) false (cond (isAt l t lexeme.From) false true)
 
 -- whether a duration belongs to the base
 abbrev pub hasOwn : Base → Bool
@@ -30,64 +92,6 @@ hasOwn Now = false
 hasOwn (Dated x) = hasDuration x
 hasOwn (Timed x) = hasDuration x
 
--- whether a duration that ends at t goes back
-abbrev pub isBack : List ℕ → ℕ → Bool
-isBack l t = cond (isAt l t lexeme.After) false (cond (isAt l t lexeme.From) false true)
-
--- the base, with the parts of the duration at the front of l behind those of the links, where one belongs to it
-abbrev pub withOwn : Base → Time → List ℕ → Reading → Reading
-withOwn b time l r = based b time (cond (hasOwn b) (durationAnswer (r .parts) (durationOf l) .parts) (r .parts)) r
-
--- one link at the front of l, whose duration was read with the row ps, and what is gathered behind it
-abbrev pub linkOn : Taken → Parts → (List ℕ → ℕ → Reading → Reading) → List ℕ → ℕ → Reading → Reading
-linkOn (k.Is t b) ps next l own r = cond (ltb t own) (next (drop (t + 1) l) (own - (t + 1)) (linkedParts (isBack l t) ps r)) r
-linkOn k.Nothing ps next l own r = r
-linkOn k.Overflow ps next l own r = r
-
--- the reading that is gathered from m links at the front of l and a base whose own duration stands at own, behind what r has
-unfoldable pub gathered : ℕ → Base → Time → List ℕ → ℕ → Reading → Reading
-gathered zero b time l own r = withOwn b time (drop own l) r
-gathered (suc m) b time l own r =
-    linkOn (durationAnswer (r .parts) (durationOf l) .taken) (durationAnswer (r .parts) (durationOf l) .parts) (gathered m b time) l own r
-
--- where nothing is read, or a sum is too large
-abbrev pub noOutline : Count → Outline
-noOutline k = record { taken = k; base = Now; time = Empty; own = 0; m = 0 }
-
-abbrev pub linkedTaken : Count → ℕ → Outline → Outline
-linkedTaken (Is u) t x = record { taken = Is (t + u); base = x .base; time = x .time; own = t + x .own; m = x .m + 1 }
-linkedTaken Nothing t x = noOutline Nothing
-linkedTaken Overflow t x = noOutline Overflow
-
--- a link of t lexemes in front of an outline
-abbrev pub linkedOutline : ℕ → Outline → Outline
-linkedOutline t x = linkedTaken (x .taken) t x
-
--- the tree that was read of l: what is gathered from the outline is its flat reading
-pub record OutlineRead (l : List ℕ) (w : Parsed DateTime) (o : Outline) (n : ℕ) : Type 0 where
-  pub tree : DateTime
-  pub reading : w ≡ is tree n
-  pub gathers : (r : Reading) → gathered (o .m) (o .base) (o .time) l (o .own) r ≡ flatFrom r tree
-
-abbrev pub OutlineTaken : Count → List ℕ → Parsed DateTime → Outline → Type 0
-OutlineTaken (Is n) l w o = OutlineRead l w o n
-OutlineTaken Nothing l w o = w ≡ nothing
-OutlineTaken Overflow l w o = w ≡ overflow
-
--- what the code's outline says of the tree at the front of l
-pub record OutlinePlaced (l : List ℕ) (w : Parsed DateTime) (o : Outline) : Type 0 where
-  pub says : OutlineTaken (o .taken) l w o
-
-abbrev pub OutlineBounds : Count → Outline → ℕ → Type 0
-OutlineBounds (Is t) o n = (1 ≤ t) × (t ≤ n) × (o .own ≤ t) × (o .m ≤ t)
-OutlineBounds Nothing o n = 0 ≤ n
-OutlineBounds Overflow o n = 0 ≤ n
-
--- at least one and at most n lexemes, no more links, and the base's own duration within them
-pub record OutlineCounted (o : Outline) (n : ℕ) : Type 0 where
-  pub bounds : OutlineBounds (o .taken) o n
-
--- room for what n lexemes can hold: three lexemes a part, and a part a link
-pub record Room (r : Reading) (n : ℕ) : Type 0 where
-  pub parts : 3 * r .parts .n + n ≤ 64
-  pub links : r .m ≤ r .parts .n
+-- a row with the parts of the base's own duration, which stands at the front of l
+abbrev pub withOwn : Base → List ℕ → Parts → Parts
+withOwn b l ps = cond (hasOwn b) (rowed ps (durationOf l) .parts) ps

@@ -2,16 +2,16 @@
 use Prim.Native.Nat.{ℕ}
 use mathlib.Core.Bool.{cond}
 use mathlib.Core.List.{List, []}
-use lib.Dec.{ltb}
+use lib.Dec.{eqb, ltb}
 use lib.ListN.{length, getD}
 use Rattle.lexer.specs.Words.{Word}
 use Rattle.lexer.specs.Lex.{Lexed, refused, whole, lexed, codesOf, startsOf, between}
+use Rattle.lexer.specs.declared.lex.Ended.{Ended}
 use Rattle.dates.specs.Parsed.{Parsed, is, nothing, overflow}
 use Rattle.phrase.specs.Tree.{DateTime}
 use Rattle.phrase.specs.DateTimes.{dateTimeOf}
 use Rattle.phrase.specs.Flat.{flat, blank}
 use Rattle.phrase.specs.Refusals.{NothingRead, SumTooLarge, LexemesLeft}
-use Rattle.phrase.specs.declared.reading.Reading.{Reading}
 use Rattle.phrase.specs.declared.read.PhraseRead.{PhraseRead}
 
 -- a refusal's number, place and end of the part; or the tree and the lexemes taken
@@ -34,13 +34,18 @@ readLexed (whole items) n = readCodes (dateTimeOf (codesOf items)) (length items
 unfoldable pub readOf : List Word → List ℕ → ReadPhrase
 readOf ws s = readLexed (lexed ws s) (length s)
 
--- the code's answer for a refusal's number, place and end: no lexemes, and the reading that stands for none
-abbrev pub refusedWith : ℕ → ℕ → ℕ → Reading → PhraseRead
-refusedWith k a e none = record { number = k; place = a; end = e; taken = 0; reading = none }
+-- how reading ended, in the form of the lexer's answer: number 0 and the lexemes taken, or a refusal
+abbrev pub endedRead : ReadPhrase → Ended
+endedRead (refusal k a e) = record { number = k; place = a; end = e; count = 0 }
+endedRead (tree x t) = record { number = 0; place = 0; end = 0; count = t }
+
+-- the lexer's refusal, or how the reading w of its lexemes ended
+abbrev pub judgedOf : Ended → Parsed DateTime → List ℕ → ℕ → Ended
+judgedOf line w starts n = cond (eqb (line .number) 0) (endedRead (readCodes w (line .count) starts n)) line
 
 -- the code's answer: number 0, and the lexemes taken and the flat reading; or a refusal with the reading of nothing
 abbrev pub phraseAnswer : ReadPhrase → PhraseRead
-phraseAnswer (refusal k a e) = refusedWith k a e blank
+phraseAnswer (refusal k a e) = record { number = k; place = a; end = e; taken = 0; reading = blank }
 phraseAnswer (tree x t) = record { number = 0; place = 0; end = 0; taken = t; reading = flat x }
 
 -- the place of a refusal, 0 where nothing is refused

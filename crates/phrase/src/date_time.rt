@@ -21,16 +21,20 @@ use numbers::slices::rest;
 use numbers::slices::take_if;
 ghost use mathlib.Core.Path.{_≡_};
 ghost use mathlib.Core.Bool.{_||_};
+ghost use mathlib.Core.List.{[]};
 ghost use Prim.Native.Nat.{_+_, _≤_, max};
 ghost use lib.ListN.{length};
 ghost use Rattle.lexer.specs.Lexemes.{Comma};
 ghost use Rattle.numbers.specs.Slices.{isAt, oneIf};
-ghost use Rattle.phrase.specs.DateTimes.{turnOf, dateTimeOf};
-ghost use Rattle.phrase.specs.TurnAnswers.{exprTurn, durationTurn, timeTurn, timedTurn, undatedTurn, turnAnswer, outlineOf, TurnPlaced};
-ghost use Rattle.phrase.specs.Outlines.{noOutline, linkedOutline, OutlineCounted, OutlinePlaced};
+ghost use Rattle.dates.specs.Parsed.{stopped, nothing};
+ghost use Rattle.dates.specs.Durations.{Duration};
+ghost use Rattle.dates.specs.Times.{parsedTime};
+ghost use Rattle.phrase.specs.Tree.{now as bare};
+ghost use Rattle.phrase.specs.DateTimes.{timeBehindOf, withDurationOf, timedTurnOf, undatedTurnOf, turnOf, dateTimeOf};
+ghost use Rattle.phrase.specs.Outlines.{turnAnswer, outline, outlineAnswer, kept};
 
 // One turn, with the lexemes taken: a whole reading, with its base, its time and the place of the base's own duration;
-// or a link, behind which a datetime is read again. The duration of `Ago` and `Link` stands in front.
+// a duration before now; or a link, behind which a datetime is read again. The duration of `Ago` and `Link` stands in front.
 pub enum Turn {
     Whole(Base, Time, usize, usize),
     Ago(usize),
@@ -46,13 +50,13 @@ pub enum Count {
     Overflow,
 }
 
-// What is read of a whole phrase: m links in front of a base, and the place of the base's own duration.
+// What is read of a whole phrase: m links in front of a base, and the place of the base's own duration, from the base's first lexeme on.
 pub struct Outline {
     pub taken: Count,
     pub base: Base,
     pub time: Time,
     pub own: usize,
-    pub m: u8,
+    pub m: usize,
 }
 
 // 1 for a comma or an x at t, which is taken then, and else 0.
@@ -66,23 +70,22 @@ fn take_comma_or(l: &[u64], t: usize, x: u64) -> usize
     take_if(l, t, x)
 }
 
-// [, | at] [<time>] behind a date expression of t lexemes, whose duration stands at `own`
-fn with_expr(l: &[u64], expr: Expr, t: usize, own: usize) -> Turn
-    requires { ⌜ (t ≤ length (now l)) × (length (now l) ≤ 64) ⌝ }
-    ensures { λ x. ⌜ x ≡ exprTurn (now (l .entry)) expr t own ⌝ }
+// [, | at] [<time>] behind t lexemes
+fn time_behind(l: &[u64], t: usize) -> TimeFound
+    requires { ⌜ t ≤ length (now l) ⌝ }
+    ensures { λ r. ⌜ parsedTime r ≡ timeBehindOf t (now (l .entry)) ⌝ }
 {
     let s = t + take_comma_or(l, t, AT);
     match read_time(rest(l, s)) {
-        TimeFound::Is(time, u) => Turn::Whole(Base::DateTime(expr), time, own, s + u),
-        TimeFound::Nothing => Turn::Whole(Base::DateTime(expr), Time::Empty, own, s),
-        TimeFound::Overflow => Turn::Overflow,
+        TimeFound::Is(time, u) => TimeFound::Is(time, s + u),
+        TimeFound::Nothing => TimeFound::Is(Time::Empty, s),
+        TimeFound::Overflow => TimeFound::Overflow,
     }
 }
 
-// after | from | before | ago behind a duration of t lexemes
+// after | from | before | ago behind a duration of t lexemes, whichever that is
 fn with_duration(l: &[u64], t: usize) -> Turn
-    requires { ⌜ (t ≤ length (now l)) × (length (now l) ≤ 64) ⌝ }
-    ensures { λ x. ⌜ x ≡ durationTurn (now (l .entry)) t ⌝ }
+    ensures { λ r. ⌜ ((dur : Duration) → r ≡ turnAnswer (now (l .entry)) (withDurationOf dur t (now (l .entry)))) ⌝ }
 {
     if is_at(l, t, AFTER) {
         return Turn::Link(t + 1);
@@ -99,11 +102,24 @@ fn with_duration(l: &[u64], t: usize) -> Turn
     Turn::Nothing
 }
 
-// [, | on] [<date_expr>] behind a time of t lexemes
-fn with_time(l: &[u64], time: Time, t: usize) -> Turn
-    requires { ⌜ (t ≤ length (now l)) × (length (now l) ≤ 64) ⌝ }
-    ensures { λ x. ⌜ x ≡ timeTurn (now (l .entry)) time t ⌝ }
+// Where no time is found: nothing, or the overflow.
+fn turn_stopped(a: TimeFound) -> Turn
+    ensures { λ r. ⌜ r ≡ turnAnswer [] (stopped (parsedTime a)) ⌝ }
 {
+    let TimeFound::Overflow = a else {
+        return Turn::Nothing;
+    };
+    Turn::Overflow
+}
+
+// <time> [, | on] [<date_expr>]
+fn read_timed(l: &[u64]) -> Turn
+    ensures { λ r. ⌜ r ≡ turnAnswer (now (l .entry)) (timedTurnOf (now (l .entry))) ⌝ }
+{
+    let a = read_time(l);
+    let TimeFound::Is(time, t) = a else {
+        return turn_stopped(a);
+    };
     let s = t + take_comma_or(l, t, ON);
     let e = read_expr(rest(l, s));
     match e {
@@ -113,22 +129,9 @@ fn with_time(l: &[u64], time: Time, t: usize) -> Turn
     }
 }
 
-// <time> [, | on] [<date_expr>]
-fn read_timed(l: &[u64]) -> Turn
-    requires { ⌜ length (now l) ≤ 64 ⌝ }
-    ensures { λ x. ⌜ x ≡ timedTurn (now (l .entry)) ⌝ }
-{
-    match read_time(l) {
-        TimeFound::Is(time, t) => with_time(l, time, t),
-        TimeFound::Nothing => Turn::Nothing,
-        TimeFound::Overflow => Turn::Overflow,
-    }
-}
-
 // A duration and its connection, or a bare time.
 fn read_undated(l: &[u64]) -> Turn
-    requires { ⌜ length (now l) ≤ 64 ⌝ }
-    ensures { λ x. ⌜ x ≡ undatedTurn (now (l .entry)) ⌝ }
+    ensures { λ r. ⌜ r ≡ turnAnswer (now (l .entry)) (undatedTurnOf (now (l .entry))) ⌝ }
 {
     let taken = read_duration(l);
     match taken {
@@ -143,24 +146,28 @@ fn read_undated(l: &[u64]) -> Turn
 
 // One turn of DateTime::parse: now, a dated phrase, a duration, or a bare time last.
 fn read_turn(l: &[u64]) -> Turn
-    requires { ⌜ length (now l) ≤ 64 ⌝ }
-    ensures { λ x. ⌜ x ≡ turnAnswer (now (l .entry)) ⌝ }
-    ensures { λ x. ⌜ TurnPlaced (now (l .entry)) (turnOf (now (l .entry))) x ⌝ }
+    ensures { λ r. ⌜ r ≡ turnAnswer (now (l .entry)) (turnOf (now (l .entry))) ⌝ }
 {
     if is_at(l, 0, NOW) {
         return Turn::Whole(Base::Now, Time::Empty, 0, 1);
     }
     let e = read_expr(l);
     match e {
-        ExprTaken::Is(expr, t, own) => with_expr(l, expr, t, own),
+        ExprTaken::Is(expr, t, own) => {
+            let a = time_behind(l, t);
+            let TimeFound::Is(time, n) = a else {
+                return turn_stopped(a);
+            };
+            Turn::Whole(Base::DateTime(expr), time, own, n)
+        }
         ExprTaken::Nothing => read_undated(l),
         ExprTaken::Overflow => Turn::Overflow,
     }
 }
 
-// Where nothing is read, or a sum is too large.
+// The outline of now: where nothing is kept of what was read.
 fn ended(taken: Count) -> Outline
-    ensures { λ x. ⌜ x ≡ noOutline taken ⌝ }
+    ensures { λ r. ⌜ r ≡ outline taken 0 [] bare ⌝ }
 {
     Outline {
         taken,
@@ -171,52 +178,58 @@ fn ended(taken: Count) -> Outline
     }
 }
 
-// What was read behind a link of t lexemes, with the link.
-fn behind_link(t: usize, x: Outline) -> Outline
-    requires { ⌜ (t ≤ 64) × OutlineCounted x 64 ⌝ }
-    ensures { λ y. ⌜ y ≡ linkedOutline t x ⌝ }
+// DateTime::parse, turn after turn: behind a link a datetime is read again.
+fn read_date_time(l: &[u64]) -> Outline
+    ensures { λ r. ⌜ r ≡ outlineAnswer (now (l .entry)) (dateTimeOf (now (l .entry))) ⌝ }
 {
-    let base = x.base;
-    let time = x.time;
-    let taken = x.taken;
-    match taken {
-        Count::Is(u) => Outline {
-            taken: Count::Is(t + u),
-            base,
-            time,
-            own: t + x.own,
-            m: x.m + 1,
-        },
-        Count::Nothing => ended(Count::Nothing),
-        Count::Overflow => ended(Count::Overflow),
+    let mut at: usize = 0;
+    let mut m: usize = 0;
+    loop {
+        let turn = read_turn(rest(l, at));
+        match turn {
+            Turn::Whole(base, time, own, t) => {
+                return Outline {
+                    taken: Count::Is(at + t),
+                    base,
+                    time,
+                    own,
+                    m,
+                };
+            }
+            Turn::Ago(t) => {
+                return Outline {
+                    taken: Count::Is(at + t),
+                    base: Base::Now,
+                    time: Time::Empty,
+                    own: 0,
+                    m: m + 1,
+                };
+            }
+            Turn::Link(t) => {
+                at += t;
+                m += 1;
+            }
+            Turn::Nothing => {
+                return ended(Count::Nothing);
+            }
+            Turn::Overflow => {
+                return ended(Count::Overflow);
+            }
+        }
     }
 }
 
-// DateTime::parse: behind a link a datetime is read again.
-pub fn read_date_time(l: &[u64]) -> Outline
-    requires { ⌜ length (now l) ≤ 64 ⌝ }
-    ensures { λ x. ⌜ x ≡ outlineOf (now (l .entry)) ⌝ }
-    ensures { λ x. ⌜ OutlinePlaced (now (l .entry)) (dateTimeOf (now (l .entry))) x ⌝ }
-    ensures { λ x. ⌜ OutlineCounted x (length (now (l .entry))) ⌝ }
+// The same, kept only where all lexemes are taken.
+pub fn read_whole(l: &[u64]) -> Outline
+    ensures { λ r. ⌜ r ≡ outlineAnswer (now (l .entry)) (kept (length (now (l .entry))) (dateTimeOf (now (l .entry)))) ⌝ }
 {
-    let turn = read_turn(l);
-    match turn {
-        Turn::Whole(base, time, own, t) => Outline {
-            taken: Count::Is(t),
-            base,
-            time,
-            own,
-            m: 0,
-        },
-        Turn::Ago(t) => Outline {
-            taken: Count::Is(t),
-            base: Base::Now,
-            time: Time::Empty,
-            own: t,
-            m: 1,
-        },
-        Turn::Link(t) => behind_link(t, read_date_time(rest(l, t))),
-        Turn::Nothing => ended(Count::Nothing),
-        Turn::Overflow => ended(Count::Overflow),
+    let o = read_date_time(l);
+    let taken = o.taken;
+    let Count::Is(t) = taken else {
+        return o;
+    };
+    if t < l.len() {
+        return ended(taken);
     }
+    o
 }

@@ -1,20 +1,30 @@
-// The reading of an outline: the parts of each link's duration, then the base's own, in one row.
+// The reading of a phrase's lexemes: the parts of each link's duration, then the base's own, in one row.
+use super::date_time::Count;
+use super::date_time::read_whole;
 use super::reading::Base;
+use super::reading::Link;
 use super::reading::Reading;
-use super::reading::with_base;
-use super::reading::with_link;
-use dates::duration::Taken;
-use dates::duration::read_parts;
-use dates::time::Time;
+use dates::duration::Part;
+use dates::duration::Parts;
+use dates::duration::Slot;
+use dates::duration::with_parts;
+use dates::units::Unit;
 use expressions::expr::has_duration;
 use lexer::lexeme::AFTER;
 use lexer::lexeme::FROM;
 use numbers::slices::is_at;
 use numbers::slices::rest;
 ghost use mathlib.Core.Path.{_≡_};
-ghost use Prim.Native.Nat.{_≤_};
+ghost use Prim.Native.Nat.{_+_, _*_, _≤_};
 ghost use lib.ListN.{length};
-ghost use Rattle.phrase.specs.Outlines.{hasOwn, isBack, withOwn, gathered, Room};
+ghost use Rattle.phrase.specs.DateTimes.{dateTimeOf};
+ghost use Rattle.phrase.specs.Outlines.{hasOwn, isBack, withOwn, kept, gathered};
+
+// A reading, and how it ended; with lexemes left, or with nothing read, it is that of now.
+pub struct Gathered {
+    pub reading: Reading,
+    pub taken: Count,
+}
 
 // Whether a duration belongs to the base.
 fn has_own(b: Base) -> bool
@@ -40,44 +50,61 @@ fn is_back(l: &[u64], t: usize) -> bool
     true
 }
 
-// The base, with the parts of its duration at the front of l behind those of the links.
-fn with_own(l: &[u64], base: Base, time: Time, r: Reading) -> Reading
-    requires { ⌜ Room r (length (now l)) ⌝ }
-    ensures { λ q. ⌜ q ≡ withOwn base time (now (l .entry)) r ⌝ }
+// The parts of the base's own duration at the front of l behind those of the links.
+fn with_own(base: Base, l: &[u64], parts: Parts) -> Parts
+    requires { ⌜ 3 * parts .n + length (now l) ≤ 64 ⌝ }
+    ensures { λ r. ⌜ r ≡ withOwn base (now (l .entry)) parts ⌝ }
 {
-    let parts = r.parts;
     if has_own(base) {
-        let d = read_parts(l, parts);
-        let with = d.parts;
-        return with_base(r, base, time, with);
+        let x = with_parts(l, parts);
+        return x.parts;
     }
-    with_base(r, base, time, parts)
+    parts
 }
 
-// The parts of m links at the front of l, and of the base, whose own duration stands at `own`, behind what `r` has.
-pub fn gather(m: u8, base: Base, time: Time, l: &[u64], own: usize, r: Reading) -> Reading
-    requires { ⌜ (own ≤ length (now l)) × Room r (length (now l)) ⌝ }
-    ensures { λ q. ⌜ q ≡ gathered m base time (now (l .entry)) own r ⌝ }
+// The flat reading of what is read of l.
+pub fn gather(l: &[u64]) -> Gathered
+    requires { ⌜ length (now l) ≤ 64 ⌝ }
+    ensures { λ r. ⌜ r ≡ gathered (kept (length (now (l .entry))) (dateTimeOf (now (l .entry)))) ⌝ }
 {
-    if m == 0 {
-        return with_own(rest(l, own), base, time, r);
+    let o = read_whole(l);
+    let items = [Slot {
+        part: Part::Article(Unit::Day),
+    }; 21];
+    let mut parts = Parts { n: 0, items };
+    let mut links = [Link {
+        back: false,
+        from: 0,
+        to: 0,
+    }; 21];
+    let m = o.m;
+    let mut i: usize = 0;
+    let mut at: usize = 0;
+    while i < m {
+        let left = rest(l, at);
+        let x = with_parts(left, parts);
+        let with = x.parts;
+        let end = x.end;
+        links[i] = Link {
+            back: is_back(left, end),
+            from: parts.n,
+            to: with.n,
+        };
+        parts = with;
+        at = at + end + 1;
+        i += 1;
     }
-    let parts = r.parts;
-    let d = read_parts(l, parts);
-    let with = d.parts;
-    let taken = d.taken;
-    match taken {
-        Taken::Is {
-            taken: t,
-            sub_daily: _,
-        } => {
-            if t < own {
-                let q = with_link(r, is_back(l, t), with);
-                return gather(m - 1, base, time, rest(l, t + 1), own - (t + 1), q);
-            }
-            r
-        }
-        Taken::Nothing => r,
-        Taken::Overflow => r,
-    }
+    let base = o.base;
+    let time = o.time;
+    let taken = o.taken;
+    let all = with_own(base, rest(l, at + o.own), parts);
+    let reading = Reading {
+        base,
+        time,
+        parts: all,
+        own: parts.n,
+        m: m as u8,
+        links,
+    };
+    Gathered { reading, taken }
 }

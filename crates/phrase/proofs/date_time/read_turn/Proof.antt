@@ -1,7 +1,11 @@
 use native.Mathlib.Omega.{arith}
+use mathlib.Core.Path.{_≡_, _∙_}
+use mathlib.Core.Bool.{false}
 use denote.Ref.{now}
-use Rattle.phrase.specs.TurnAnswers.{turnAnswer}
-use Rattle.phrase.proofs.Answers.{turn-promised, expr-bounds}
+use Rattle.lexer.specs.Lexemes as lexeme
+use Rattle.numbers.specs.Slices.{isAt}
+use Rattle.phrase.specs.DateTimes.{turnOf}
+use Rattle.phrase.proofs.Turns.{time-stopped, dated-turn}
 use borrow.Author.Needs.{needs}
 use Rattle.phrase.proofs.date_time.read_turn.Statement.{statement}
 use Rattle.phrase.proofs.date_time.read_turn.Tie as tie
@@ -10,8 +14,8 @@ is-at-requires : tie.Need-is-at-requires
 is-at-requires c κs = search needs
 
 returns : tie.Need-returns
-unfolding turnAnswer
-returns c = turn-promised (now (c .before .before .before .args .l)) (rw (← (c .before .is-at .ensures .0), c .if1 .taken))
+unfolding turnOf
+returns c = rw (← (c .before .is-at .ensures .0), c .if1 .taken)
 
 read-expr-requires : tie.Need-read-expr-requires
 read-expr-requires c κs = search needs
@@ -19,10 +23,23 @@ read-expr-requires c κs = search needs
 enum-known-e : tie.Need-enum-known-e
 enum-known-e c = search needs
 
-with-expr-requires : tie.Need-with-expr-requires
-with-expr-requires c κs =
-    let b = expr-bounds _ (c .before .e .given .1) (c .before .before .before .read-expr .ensures .1) in
-    (omega arith, omega arith)
+time-behind-requires : tie.Need-time-behind-requires
+time-behind-requires c κs =
+    let b = (rw (c .before .e .given .1) at (c .before .before .before .read-expr .ensures .1)) .bounds in
+    omega arith
+
+enum-known-a : tie.Need-enum-known-a
+enum-known-a c = search needs
+
+turn-stopped-requires : tie.Need-turn-stopped-requires
+turn-stopped-requires c κs = search needs
+
+returns-2 : tie.Need-returns-2
+returns-2 c =
+    let l = now (c .before .before .before .before .before .before .before .before .before .before .args .l) in
+    let none : isAt l 0 lexeme.Now ≡ false = rw (← (c .before .before .before .before .before .before .before .before .is-at .ensures .0)) (c .before .before .before .before .before .before .before .if1 .left) in
+    let e = c .before .before .before .before .e in
+    rw (dated-turn l none, ← (c .before .before .before .before .before .before .read-expr .ensures .0), e .given .1, ← (c .before .before .time-behind .ensures)) (c .turn-stopped .ensures ∙ time-stopped (e .given .0 .0) (e .given .0 .1 .1 .0) (c .before .before .time-behind .result) (c .before .match2 .keys2))
 
 enum-told : tie.Need-enum-told
 enum-told c = search needs
@@ -33,37 +50,23 @@ read-undated-requires c κs = search needs
 enum-told-2 : tie.Need-enum-told-2
 enum-told-2 c = search needs
 
-returns-2 : tie.Need-returns-2
-unfolding turnAnswer
-returns-2 c =
-    let args = c .before .before .before .before .before .before .before .before .args in
-    let is-at = c .before .before .before .before .before .before .is-at in
-    let if1 = c .before .before .before .before .before .if1 in
-    let read-expr = c .before .before .before .before .read-expr in
-    let e = c .before .before .e in
-    let with-expr = c .with-expr in
-    turn-promised (now (args .l)) (rw (← (is-at .ensures .0), if1 .left, ← (read-expr .ensures .0), e .given .1) (with-expr .ensures))
-
 returns-3 : tie.Need-returns-3
-unfolding turnAnswer
 returns-3 c =
-    let args = c .before .before .before .before .before .before .before .args in
-    let is-at = c .before .before .before .before .before .is-at in
-    let if1 = c .before .before .before .before .if1 in
-    let read-expr = c .before .before .before .read-expr in
-    let enum-told = c .before .enum-told in
-    let read-undated = c .read-undated in
-    turn-promised (now (args .l)) (rw (← (is-at .ensures .0), if1 .left, ← (read-expr .ensures .0), enum-told .given .1) (read-undated .ensures))
+    let l = now (c .before .before .before .before .before .before .before .before .before .before .before .args .l) in
+    let none : isAt l 0 lexeme.Now ≡ false = rw (← (c .before .before .before .before .before .before .before .before .before .is-at .ensures .0)) (c .before .before .before .before .before .before .before .before .if1 .left) in
+    rw (dated-turn l none, ← (c .before .before .before .before .before .before .before .read-expr .ensures .0), c .before .before .before .before .before .e .given .1, ← (c .before .before .before .time-behind .ensures), c .before .a .given .1)
 
 returns-4 : tie.Need-returns-4
-unfolding turnAnswer
 returns-4 c =
-    let args = c .before .before .before .before .before .before .args in
-    let is-at = c .before .before .before .before .is-at in
-    let if1 = c .before .before .before .if1 in
-    let read-expr = c .before .before .read-expr in
-    let enum-told2 = c .enum-told2 in
-    turn-promised (now (args .l)) (rw (← (is-at .ensures .0), if1 .left, ← (read-expr .ensures .0), enum-told2 .given .1))
+    let l = now (c .before .before .before .before .before .before .before .args .l) in
+    let none : isAt l 0 lexeme.Now ≡ false = rw (← (c .before .before .before .before .before .is-at .ensures .0)) (c .before .before .before .before .if1 .left) in
+    rw (dated-turn l none, ← (c .before .before .before .read-expr .ensures .0), c .before .enum-told .given .1) (c .read-undated .ensures)
+
+returns-5 : tie.Need-returns-5
+returns-5 c =
+    let l = now (c .before .before .before .before .before .before .args .l) in
+    let none : isAt l 0 lexeme.Now ≡ false = rw (← (c .before .before .before .before .is-at .ensures .0)) (c .before .before .before .if1 .left) in
+    rw (dated-turn l none, ← (c .before .before .read-expr .ensures .0), c .enum-told2 .given .1)
 
 pub read-turn-spec : {M : Type 1} → statement M
 read-turn-spec =
@@ -73,10 +76,13 @@ read-turn-spec =
     returns
     read-expr-requires
     enum-known-e
-    with-expr-requires
+    time-behind-requires
+    enum-known-a
+    turn-stopped-requires
+    returns-2
     enum-told
     read-undated-requires
     enum-told-2
-    returns-2
     returns-3
-    returns-4)
+    returns-4
+    returns-5)

@@ -1,5 +1,7 @@
-use native.Mathlib.Omega.{arith}
-use Rattle.dates.proofs.Durations.{taken-found}
+use denote.Ref.{now}
+use Rattle.dates.specs.Durations.{durationOf}
+use Rattle.dates.proofs.Durations.{taken-read, taken-none, taken-overflow}
+use Rattle.phrase.specs.DateTimes.{undatedTurnOf}
 use borrow.Author.Needs.{needs}
 use Rattle.phrase.proofs.date_time.read_undated.Statement.{statement}
 use Rattle.phrase.proofs.date_time.read_undated.Tie as tie
@@ -11,9 +13,7 @@ enum-known-taken : tie.Need-enum-known-taken
 enum-known-taken c = search needs
 
 with-duration-requires : tie.Need-with-duration-requires
-with-duration-requires c κs =
-    let b = taken-found (c .before .taken .given .1) (c .before .before .before .read-duration .ensures .1) in
-    (omega arith, omega arith)
+with-duration-requires c κs = search needs
 
 enum-told : tie.Need-enum-told
 enum-told c = search needs
@@ -25,13 +25,23 @@ enum-told-2 : tie.Need-enum-told-2
 enum-told-2 c = search needs
 
 returns : tie.Need-returns
-returns c = rw (← (c .before .before .before .before .read-duration .ensures .0), c .before .before .taken .given .1) (c .with-duration .ensures)
+unfolding undatedTurnOf
+returns c =
+    let l = now (c .before .before .before .before .before .before .args .l) in
+    let read = taken-read (durationOf l) (c .before .before .before .before .read-duration .ensures .0) (c .before .before .taken .given .1) in
+    rw (read .reading) (c .with-duration .ensures (read .duration))
 
 returns-2 : tie.Need-returns-2
-returns-2 c = rw (← (c .before .before .before .read-duration .ensures .0), c .before .enum-told .given .1) (c .read-timed .ensures)
+unfolding undatedTurnOf
+returns-2 c =
+    let l = now (c .before .before .before .before .before .args .l) in
+    rw (taken-none (durationOf l) (c .before .before .before .read-duration .ensures .0) (c .before .enum-told .given .1)) (c .read-timed .ensures)
 
 returns-3 : tie.Need-returns-3
-returns-3 c = rw (← (c .before .before .read-duration .ensures .0), c .enum-told2 .given .1)
+unfolding undatedTurnOf
+returns-3 c =
+    let l = now (c .before .before .before .before .args .l) in
+    rw (taken-overflow (durationOf l) (c .before .before .read-duration .ensures .0) (c .enum-told2 .given .1))
 
 pub read-undated-spec : {M : Type 1} → statement M
 read-undated-spec =

@@ -1,10 +1,11 @@
 use native.Mathlib.Omega.{arith}
-use mathlib.Core.Path.{ap}
-use Rattle.dates.specs.Times.{parsedTime}
 use Rattle.dates.proofs.Laws.{found}
+use Rattle.dates.specs.Times.{parsedTime}
+use mathlib.Core.Path.{ap}
+use Rattle.phrase.specs.DateTimes.{timeBehindOf}
 use borrow.Author.Needs.{needs}
-use Rattle.phrase.proofs.date_time.with_expr.Statement.{statement}
-use Rattle.phrase.proofs.date_time.with_expr.Tie as tie
+use Rattle.phrase.proofs.date_time.time_behind.Statement.{statement}
+use Rattle.phrase.proofs.date_time.time_behind.Tie as tie
 
 take-comma-or-requires : tie.Need-take-comma-or-requires
 take-comma-or-requires c κs = search needs
@@ -21,8 +22,8 @@ read-time-requires c κs = search needs
 enum-known-time : tie.Need-enum-known-time
 enum-known-time c = search needs
 
-add-t13 : tie.Need-add-t13
-add-t13 c =
+add-t10 : tie.Need-add-t10
+add-t10 c =
     let b = found (ap parsedTime (c .before .time .given .1)) (c .before .before .before .read-time .ensures .1) in
     omega arith
 
@@ -33,31 +34,31 @@ enum-told-2 : tie.Need-enum-told-2
 enum-told-2 c = search needs
 
 returns : tie.Need-returns
+unfolding timeBehindOf
 returns c =
     let take-comma-or = c .before .before .before .before .before .take-comma-or in
     let rest = c .before .before .before .before .rest in
     let read-time = c .before .before .before .read-time in
-    let time = c .before .time in
-    rw (← (take-comma-or .ensures .0), ← (rest .ensures .0), ← (read-time .ensures .0), time .given .1)
+    rw (← (take-comma-or .ensures .0), ← (rest .ensures .0), ← (read-time .ensures .0), c .before .time .given .1)
 
 returns-2 : tie.Need-returns-2
+unfolding timeBehindOf
 returns-2 c =
     let take-comma-or = c .before .before .before .before .take-comma-or in
     let rest = c .before .before .before .rest in
     let read-time = c .before .before .read-time in
-    let enum-told = c .enum-told in
-    rw (← (take-comma-or .ensures .0), ← (rest .ensures .0), ← (read-time .ensures .0), enum-told .given .1)
+    rw (← (take-comma-or .ensures .0), ← (rest .ensures .0), ← (read-time .ensures .0), c .enum-told .given .1)
 
 returns-3 : tie.Need-returns-3
+unfolding timeBehindOf
 returns-3 c =
     let take-comma-or = c .before .before .before .before .take-comma-or in
     let rest = c .before .before .before .rest in
     let read-time = c .before .before .read-time in
-    let enum-told2 = c .enum-told2 in
-    rw (← (take-comma-or .ensures .0), ← (rest .ensures .0), ← (read-time .ensures .0), enum-told2 .given .1)
+    rw (← (take-comma-or .ensures .0), ← (rest .ensures .0), ← (read-time .ensures .0), c .enum-told2 .given .1)
 
-pub with-expr-spec : {M : Type 1} → statement M
-with-expr-spec =
+pub time-behind-spec : {M : Type 1} → statement M
+time-behind-spec =
     tie.close
     (tie.spec
     take-comma-or-requires
@@ -65,7 +66,7 @@ with-expr-spec =
     rest-requires
     read-time-requires
     enum-known-time
-    add-t13
+    add-t10
     enum-told
     enum-told-2
     returns
