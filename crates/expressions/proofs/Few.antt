@@ -3,7 +3,7 @@ use Prim.Native.Nat.{ℕ, _+_, _*_, _≤_}
 use native.Mathlib.Omega.{arith}
 use mathlib.Core.Path.{_≡_, refl}
 use mathlib.Core.Bool.{Bool, true, false, _&&_, not}
-use mathlib.Core.List.{List}
+use mathlib.Core.List.{List, [], _∷_}
 use lib.ListN.{length, drop, length-drop}
 use Rattle.lexer.specs.Lexemes as lexeme
 use Rattle.numbers.specs.Slices.{isAt}
@@ -20,10 +20,7 @@ use Rattle.expressions.specs.Tree.{DateExpr, date, dateRelative, dateExp
 use Rattle.expressions.specs.Tree.{relativeWeekday, weekdayRelative, weekdayExpressionBefore, before, after, weekday, empty}
 use Rattle.expressions.specs.DateExprs.{Tail, relative, ago, inside, stray, inTailOf, durationTailOf, tailOf, withDate, withWeekday}
 use Rattle.expressions.specs.DateExprs.{withDurationOf, relativeExprOf, weekdayExprOf, undatedOf, dateExprOf}
-use Rattle.expressions.specs.Shapes.{sizeExpr, intoExpr}
-use Rattle.expressions.specs.ExprAnswers.{tailAnswer, TailBounds, TailCounted}
-use Rattle.expressions.specs.declared.expr.Tail.{Tail as TailTaken}
-use Rattle.expressions.specs.declared.expr.Tail.the-variants.{Relative, Ago, Inside, Stray, Nothing as NoTail, Overflow as TailOverflow}
+use Rattle.expressions.specs.Shapes.{ownOf, intoOwn, sizeOwn, sizeExpr, intoExpr}
 
 abbrev Bounds : {A : Type 0} → (A → ℕ) → Parsed A → ℕ → ℕ → Type 0
 Bounds parts (is v t) k n = (k ≤ t) × (t ≤ n) × (3 * parts v ≤ t)
@@ -116,32 +113,6 @@ tail-few l =
     (record { bounds = omega arith }))
     (duration-tail-few l)
 
--- the bounds of the code's answer for a tail
-tail-counted : (p : Parsed Tail) {n : ℕ} → Few sizeTail p 0 n → TailCounted (tailAnswer p) n
-tail-counted (is (relative s u) t) h = let b = h .bounds in record { bounds = omega arith }
-tail-counted (is (ago d) t) h = let b = h .bounds in record { bounds = omega arith }
-tail-counted (is (inside d) t) h = let b = h .bounds in record { bounds = omega arith }
-tail-counted (is stray t) h = let b = h .bounds in record { bounds = omega arith }
-tail-counted nothing h = record { bounds = omega arith }
-tail-counted overflow h = record { bounds = omega arith }
-
-tail-wider′ : (w : TailTaken) (n n′ : ℕ) → n ≤ n′ → TailBounds w n → TailBounds w n′
-tail-wider′ (Relative s u t) n n′ e h = omega arith
-tail-wider′ (Ago t) n n′ e h = omega arith
-tail-wider′ (Inside t) n n′ e h = omega arith
-tail-wider′ (Stray t) n n′ e h = omega arith
-tail-wider′ NoTail n n′ e h = omega arith
-tail-wider′ TailOverflow n n′ e h = omega arith
-
--- the same within more lexemes
-pub tail-wider : {r : TailTaken} {n n′ : ℕ} → TailCounted r n → n ≤ n′ → TailCounted r n′
-tail-wider {r} {n} {n′} h e = record { bounds = tail-wider′ r n n′ e (h .bounds) }
-
--- what a reader of a tail promises
-pub tail-promised : {r : TailTaken} {p : Parsed Tail} {n : ℕ} →
-    r ≡ tailAnswer p → Few sizeTail p 0 n → (r ≡ tailAnswer p) × TailCounted r n
-tail-promised {p = p} e h = (e, rw e (tail-counted p h))
-
 with-date-few : (d : Date) (t : ℕ) (x : Tail) (u n : ℕ) → 1 ≤ t → t + u ≤ n → 3 * sizeTail x ≤ u → Few sizeExpr (withDate d t x u) 1 n
 with-date-few d t (relative s k) u n a b c = record { bounds = omega arith }
 with-date-few d t (ago dur) u n a b c = record { bounds = omega arith }
@@ -213,15 +184,8 @@ expr-few l =
 
 -- the row has as many parts more as the date expression
 pub into-expr-n : (x : DateExpr) (ps : Parts) → intoExpr x ps .n ≡ ps .n + sizeExpr x
-into-expr-n (date d) ps = omega arith
-into-expr-n (dateRelative d s u) ps = omega arith
-into-expr-n (dateExpressionAfter d dur) ps = into-n dur ps
-into-expr-n (dateExpressionBefore d dur) ps = into-n dur ps
-into-expr-n (unitRelative s u) ps = omega arith
-into-expr-n (relativeWeekday s w) ps = omega arith
-into-expr-n (weekdayRelative w s u) ps = omega arith
-into-expr-n (weekdayExpressionBefore w dur) ps = into-n dur ps
-into-expr-n (before dur d) ps = into-n dur ps
-into-expr-n (after dur d) ps = into-n dur ps
-into-expr-n (weekday w) ps = omega arith
-into-expr-n empty ps = omega arith
+into-expr-n x ps = go (ownOf x)
+  where
+    go : (own : List Duration) → intoOwn own ps .n ≡ ps .n + sizeOwn own
+    go [] = omega arith
+    go (dur ∷ none) = into-n dur ps

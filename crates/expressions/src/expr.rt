@@ -19,12 +19,16 @@ use numbers::Found;
 use numbers::slices::is_at;
 use numbers::slices::rest;
 ghost use mathlib.Core.Path.{_≡_};
-ghost use Prim.Native.Nat.{_≤_};
+ghost use Prim.Native.Nat.{ℕ, _+_, _≤_};
 ghost use lib.ListN.{length, drop};
-ghost use Rattle.expressions.specs.DateExprs.{inTailOf, durationTailOf, tailOf, relativeExprOf, dateExprOf};
+ghost use Rattle.dates.specs.Parsed.{is, andThen};
+ghost use Rattle.dates.specs.Durations.{Duration, isSubDaily};
+ghost use Rattle.dates.specs.Dates.{dateOf};
+ghost use Rattle.expressions.specs.Tree.{after};
+ghost use Rattle.expressions.specs.DateExprs.{relative, ago, inside, stray, inTailOf, durationTailOf, tailOf, withDurationOf};
+ghost use Rattle.expressions.specs.DateExprs.{relativeExprOf, weekdayExprOf, undatedOf, dateExprOf};
 ghost use Rattle.expressions.specs.Shapes.{hasDuration};
-ghost use Rattle.expressions.specs.ExprAnswers.{tailAnswer, TailCounted, dateTailed, weekdayTailed, bareAnswer, afterAnswer};
-ghost use Rattle.expressions.specs.ExprAnswers.{withDurationAnswer, weekdayAnswer, undatedAnswer, exprAnswer, ExprPlaced};
+ghost use Rattle.expressions.specs.ExprAnswers.{tailedAnswer, answerAt, weekdayPlace, undatedPlace, exprAnswer, ExprCounted};
 
 // `enum DateExpr` without its durations, whose parts stand in the reading; a weekday is a number, Monday 0.
 pub enum Expr {
@@ -42,14 +46,10 @@ pub enum Expr {
     Empty,
 }
 
-// What stands behind a date or a weekday, and the lexemes taken; `Stray` where lexemes were passed and no alternative is whole.
-pub enum Tail {
-    Relative(RelativeSpecifier, Unit, usize),
-    Ago(usize),
-    Inside(usize),
-    Stray(usize),
-    Nothing,
-    Overflow,
+// What a tail stands behind.
+enum Head {
+    Date(Date),
+    Weekday(u32),
 }
 
 // A date expression, the lexemes taken, and the place of the first lexeme of its duration, 0 where it has none.
@@ -79,135 +79,121 @@ pub fn has_duration(e: Expr) -> bool
     }
 }
 
-// in <duration>, unless that is sub-daily
-fn read_in_tail(l: &[u64]) -> Tail
-    requires { ⌜ length (now l) ≤ 64 ⌝ }
-    ensures { λ r. ⌜ r ≡ tailAnswer (inTailOf (now (l .entry))) ⌝ }
-    ensures { λ r. ⌜ TailCounted r (length (now (l .entry))) ⌝ }
+// A head of t lexemes, and a tail that is given up, which ends at s: behind a date the count is rolled back.
+fn stray(h: Head, t: usize, s: usize) -> ExprTaken
+    ensures { λ r. ⌜ ((u : ℕ) → s ≡ t + u → r ≡ tailedAnswer h t (is stray u)) ⌝ }
 {
-    if is_at(l, 0, IN) {
-        let taken = read_duration(rest(l, 1));
-        match taken {
+    match h {
+        Head::Date(d) => ExprTaken::Is(Expr::Date(d), t, 0),
+        Head::Weekday(w) => ExprTaken::Is(Expr::Weekday(w), s, 0),
+    }
+}
+
+// A head and a relative tail, which ends at s.
+fn relative(h: Head, spec: RelativeSpecifier, unit: Unit, s: usize) -> ExprTaken
+    ensures { λ r. ⌜ ((t u : ℕ) → s ≡ t + u → r ≡ tailedAnswer h t (is (relative spec unit) u)) ⌝ }
+{
+    match h {
+        Head::Date(d) => ExprTaken::Is(Expr::DateRelative(d, spec, unit), s, 0),
+        Head::Weekday(w) => ExprTaken::Is(Expr::WeekdayRelative(w, spec, unit), s, 0),
+    }
+}
+
+// A head and a tail with "ago", whose duration begins at t, and which ends at s.
+fn ago(h: Head, t: usize, s: usize) -> ExprTaken
+    ensures { λ r. ⌜ ((dur : Duration) (u : ℕ) → s ≡ t + u → r ≡ tailedAnswer h t (is (ago dur) u)) ⌝ }
+{
+    match h {
+        Head::Date(d) => ExprTaken::Is(Expr::DateExpressionBefore(d), s, t),
+        Head::Weekday(w) => ExprTaken::Is(Expr::WeekdayExpressionBefore(w), s, t),
+    }
+}
+
+// A head and a tail with "in", whose duration begins at p, and which ends at s: behind a weekday it goes back as "ago" does.
+fn inside(h: Head, p: usize, s: usize) -> ExprTaken
+    ensures { λ r. ⌜ ((dur : Duration) (t u : ℕ) → p ≡ t + 1 → s ≡ t + u → r ≡ tailedAnswer h t (is (inside dur) u)) ⌝ }
+{
+    match h {
+        Head::Date(d) => ExprTaken::Is(Expr::DateExpressionAfter(d), s, p),
+        Head::Weekday(w) => ExprTaken::Is(Expr::WeekdayExpressionBefore(w), s, p),
+    }
+}
+
+// in <duration>, unless that is sub-daily, behind a head of t lexemes
+fn read_in_tail(l: &[u64], h: Head, t: usize) -> ExprTaken
+    requires { ⌜ t ≤ length (now l) ⌝ }
+    ensures { λ r. ⌜ r ≡ tailedAnswer h t (inTailOf (drop t (now (l .entry)))) ⌝ }
+{
+    let tail = rest(l, t);
+    if is_at(tail, 0, IN) {
+        let p = t + 1;
+        match read_duration(rest(tail, 1)) {
             Taken::Is {
-                taken: t,
+                taken: u,
                 sub_daily,
             } => {
                 if sub_daily {
-                    return Tail::Stray(1);
+                    return stray(h, t, p);
                 }
-                return Tail::Inside(1 + t);
+                return inside(h, p, p + u);
             }
             Taken::Nothing => {
-                return Tail::Stray(1);
+                return stray(h, t, p);
             }
             Taken::Overflow => {
-                return Tail::Overflow;
+                return ExprTaken::Overflow;
             }
         }
     }
-    Tail::Nothing
+    stray(h, t, t)
 }
 
 // <duration> ago, unless that is sub-daily; else in <duration>
-fn read_duration_tail(l: &[u64]) -> Tail
-    requires { ⌜ length (now l) ≤ 64 ⌝ }
-    ensures { λ r. ⌜ r ≡ tailAnswer (durationTailOf (now (l .entry))) ⌝ }
-    ensures { λ r. ⌜ TailCounted r (length (now (l .entry))) ⌝ }
+fn read_duration_tail(l: &[u64], h: Head, t: usize) -> ExprTaken
+    requires { ⌜ t ≤ length (now l) ⌝ }
+    ensures { λ r. ⌜ r ≡ tailedAnswer h t (durationTailOf (drop t (now (l .entry)))) ⌝ }
 {
-    let taken = read_duration(l);
-    match taken {
+    let tail = rest(l, t);
+    match read_duration(tail) {
         Taken::Is {
-            taken: t,
+            taken: u,
             sub_daily,
         } => {
-            if is_at(l, t, AGO) {
+            if is_at(tail, u, AGO) {
                 if sub_daily {
-                    return Tail::Stray(t);
+                    return stray(h, t, t + u);
                 }
-                return Tail::Ago(t + 1);
+                return ago(h, t, t + u + 1);
             }
-            Tail::Stray(t)
+            stray(h, t, t + u)
         }
-        Taken::Nothing => read_in_tail(l),
-        Taken::Overflow => Tail::Overflow,
+        Taken::Nothing => read_in_tail(l, h, t),
+        Taken::Overflow => ExprTaken::Overflow,
     }
 }
 
-// <relative_specifier> <unit> | <duration> ago | in <duration>
-fn read_tail(l: &[u64]) -> Tail
-    requires { ⌜ length (now l) ≤ 64 ⌝ }
-    ensures { λ r. ⌜ r ≡ tailAnswer (tailOf (now (l .entry))) ⌝ }
-    ensures { λ r. ⌜ TailCounted r (length (now (l .entry))) ⌝ }
-{
-    let SpecifierFound::Is(spec) = read_specifier(l) else {
-        return read_duration_tail(l);
-    };
-    let UnitFound::Is(unit) = read_unit(rest(l, 1)) else {
-        return Tail::Stray(1);
-    };
-    Tail::Relative(spec, unit, 2)
-}
-
-// A date of t lexemes and its tail: with no whole tail the count is rolled back.
-fn with_date(d: Date, t: usize, tail: Tail) -> ExprTaken
-    requires { ⌜ (t ≤ 64) × TailCounted tail 64 ⌝ }
-    ensures { λ r. ⌜ r ≡ dateTailed d t tail ⌝ }
-{
-    match tail {
-        Tail::Relative(spec, unit, u) => ExprTaken::Is(Expr::DateRelative(d, spec, unit), t + u, 0),
-        Tail::Ago(u) => ExprTaken::Is(Expr::DateExpressionBefore(d), t + u, t),
-        Tail::Inside(u) => ExprTaken::Is(Expr::DateExpressionAfter(d), t + u, t + 1),
-        Tail::Stray(_) => ExprTaken::Is(Expr::Date(d), t, 0),
-        Tail::Nothing => ExprTaken::Is(Expr::Date(d), t, 0),
-        Tail::Overflow => ExprTaken::Overflow,
-    }
-}
-
-// A weekday of t lexemes and its tail: the count is not rolled back, and "in" is read as "ago".
-fn with_weekday(w: u32, t: usize, tail: Tail) -> ExprTaken
-    requires { ⌜ (t ≤ 64) × TailCounted tail 64 ⌝ }
-    ensures { λ r. ⌜ r ≡ weekdayTailed w t tail ⌝ }
-{
-    match tail {
-        Tail::Relative(spec, unit, u) => ExprTaken::Is(
-            Expr::WeekdayRelative(w, spec, unit),
-            t + u,
-            0,
-        ),
-        Tail::Ago(u) => ExprTaken::Is(Expr::WeekdayExpressionBefore(w), t + u, t),
-        Tail::Inside(u) => ExprTaken::Is(Expr::WeekdayExpressionBefore(w), t + u, t + 1),
-        Tail::Stray(u) => ExprTaken::Is(Expr::Weekday(w), t + u, 0),
-        Tail::Nothing => ExprTaken::Is(Expr::Weekday(w), t, 0),
-        Tail::Overflow => ExprTaken::Overflow,
-    }
-}
-
-// A date of t lexemes and what stands behind it: no tail is looked for where no lexeme is left.
-fn read_date_tail(l: &[u64], d: Date, t: usize) -> ExprTaken
-    requires { ⌜ (t ≤ length (now l)) × (length (now l) ≤ 64) ⌝ }
-    ensures { λ r. ⌜ r ≡ dateTailed d t (tailAnswer (tailOf (drop t (now (l .entry))))) ⌝ }
+// <relative_specifier> <unit> | <duration> ago | in <duration>, behind a head of t lexemes; not looked for where no lexeme is left
+fn read_tail(l: &[u64], h: Head, t: usize) -> ExprTaken
+    requires { ⌜ t ≤ length (now l) ⌝ }
+    ensures { λ r. ⌜ r ≡ tailedAnswer h t (tailOf (drop t (now (l .entry)))) ⌝ }
 {
     if l.len() <= t {
-        return ExprTaken::Is(Expr::Date(d), t, 0);
+        return stray(h, t, t);
     }
-    with_date(d, t, read_tail(rest(l, t)))
-}
-
-// A weekday of t lexemes and what stands behind it: no tail is looked for where no lexeme is left.
-fn read_weekday_tail(l: &[u64], w: u32, t: usize) -> ExprTaken
-    requires { ⌜ (t ≤ length (now l)) × (length (now l) ≤ 64) ⌝ }
-    ensures { λ r. ⌜ r ≡ weekdayTailed w t (tailAnswer (tailOf (drop t (now (l .entry))))) ⌝ }
-{
-    if l.len() <= t {
-        return ExprTaken::Is(Expr::Weekday(w), t, 0);
-    }
-    with_weekday(w, t, read_tail(rest(l, t)))
+    let tail = rest(l, t);
+    let SpecifierFound::Is(spec) = read_specifier(tail) else {
+        return read_duration_tail(l, h, t);
+    };
+    let UnitFound::Is(unit) = read_unit(rest(tail, 1)) else {
+        return stray(h, t, t + 1);
+    };
+    relative(h, spec, unit, t + 2)
 }
 
 // after <date> | from <date>: the date behind a duration and its connection, which end at t
 fn read_after(l: &[u64], t: usize) -> ExprTaken
-    requires { ⌜ (t ≤ length (now l)) × (length (now l) ≤ 64) ⌝ }
-    ensures { λ r. ⌜ r ≡ afterAnswer (now (l .entry)) t ⌝ }
+    requires { ⌜ t ≤ length (now l) ⌝ }
+    ensures { λ r. ⌜ ((dur : Duration) → r ≡ answerAt 0 (andThen (dateOf (drop t (now (l .entry)))) (λ d u. is (after dur d) (t + u)))) ⌝ }
 {
     match read_date(rest(l, t)) {
         DateFound::Is(d, u) => ExprTaken::Is(Expr::After(d), t + u, 0),
@@ -218,8 +204,8 @@ fn read_after(l: &[u64], t: usize) -> ExprTaken
 
 // What stands behind a duration of t lexemes; a sub-daily one is given up.
 fn with_duration(l: &[u64], t: usize, sub_daily: bool) -> ExprTaken
-    requires { ⌜ (t ≤ length (now l)) × (length (now l) ≤ 64) ⌝ }
-    ensures { λ r. ⌜ r ≡ withDurationAnswer (now (l .entry)) t «sub_daily» ⌝ }
+    requires { ⌜ t ≤ length (now l) ⌝ }
+    ensures { λ r. ⌜ ((dur : Duration) → isSubDaily dur ≡ «sub_daily» → r ≡ answerAt 0 (withDurationOf dur t (now (l .entry)))) ⌝ }
 {
     if sub_daily {
         return ExprTaken::Nothing;
@@ -238,7 +224,7 @@ fn with_duration(l: &[u64], t: usize, sub_daily: bool) -> ExprTaken
 
 // <relative_specifier> <weekday> | <relative_specifier> <unit>
 fn read_relative(l: &[u64]) -> ExprTaken
-    ensures { λ r. ⌜ r ≡ bareAnswer (relativeExprOf (now (l .entry))) ⌝ }
+    ensures { λ r. ⌜ r ≡ answerAt 0 (relativeExprOf (now (l .entry))) ⌝ }
 {
     let SpecifierFound::Is(spec) = read_specifier(l) else {
         return ExprTaken::Nothing;
@@ -255,22 +241,19 @@ fn read_relative(l: &[u64]) -> ExprTaken
 
 // A weekday and its tail, or a relative specifier.
 fn read_weekday_expr(l: &[u64]) -> ExprTaken
-    requires { ⌜ length (now l) ≤ 64 ⌝ }
-    ensures { λ r. ⌜ r ≡ weekdayAnswer (now (l .entry)) ⌝ }
+    ensures { λ r. ⌜ r ≡ answerAt (weekdayPlace (now (l .entry))) (weekdayExprOf (now (l .entry))) ⌝ }
 {
     let Found::Is(w, t) = read_weekday(l) else {
         return read_relative(l);
     };
-    read_weekday_tail(l, w, t)
+    read_tail(l, Head::Weekday(w), t)
 }
 
 // A duration and what stands behind it, or what begins with a weekday or a relative specifier.
 fn read_undated(l: &[u64]) -> ExprTaken
-    requires { ⌜ length (now l) ≤ 64 ⌝ }
-    ensures { λ r. ⌜ r ≡ undatedAnswer (now (l .entry)) ⌝ }
+    ensures { λ r. ⌜ r ≡ answerAt (undatedPlace (now (l .entry))) (undatedOf (now (l .entry))) ⌝ }
 {
-    let taken = read_duration(l);
-    match taken {
+    match read_duration(l) {
         Taken::Is {
             taken: t,
             sub_daily,
@@ -282,12 +265,11 @@ fn read_undated(l: &[u64]) -> ExprTaken
 
 // DateExpr::parse: its shape, and where its duration begins
 pub fn read_expr(l: &[u64]) -> ExprTaken
-    requires { ⌜ length (now l) ≤ 64 ⌝ }
-    ensures { λ r. ⌜ r ≡ exprAnswer (now (l .entry)) ⌝ }
-    ensures { λ r. ⌜ ExprPlaced (now (l .entry)) (dateExprOf (now (l .entry))) r ⌝ }
+    ensures { λ r. ⌜ r ≡ exprAnswer (now (l .entry)) (dateExprOf (now (l .entry))) ⌝ }
+    ensures { λ r. ⌜ ExprCounted r (length (now (l .entry))) ⌝ }
 {
     match read_date(l) {
-        DateFound::Is(d, t) => read_date_tail(l, d, t),
+        DateFound::Is(d, t) => read_tail(l, Head::Date(d), t),
         DateFound::Nothing => read_undated(l),
         DateFound::Overflow => ExprTaken::Overflow,
     }

@@ -1,108 +1,108 @@
-use mathlib.Core.Path.{_∙_}
-use native.Mathlib.Omega.{arith}
-use denote.Ref.{now}
-use Rattle.dates.specs.Durations.{durationOf}
-use Rattle.dates.proofs.Durations.{taken-read, taken-none, taken-overflow}
-use Rattle.expressions.specs.DateExprs.{durationTailOf}
-use Rattle.expressions.proofs.Few.{duration-tail-few, tail-promised}
 use borrow.Author.Needs.{needs}
 use Rattle.expressions.proofs.expr.read_duration_tail.Statement.{statement}
 use Rattle.expressions.proofs.expr.read_duration_tail.Tie as tie
+use Rattle.expressions.proofs.expr.read_duration_tail.Reads as reads
+use Rattle.expressions.proofs.expr.read_duration_tail.Lts as lts
+use Rattle.dates.proofs.duration.read_duration.Reads as read-duration-reads
+use Rattle.expressions.proofs.expr.ago.Reads as ago-reads
+use Rattle.expressions.proofs.expr.read_in_tail.Reads as read-in-tail-reads
+use Rattle.expressions.proofs.expr.stray.Reads as stray-reads
+use Rattle.numbers.proofs.slices.is_at.Reads as is-at-reads
+use Rattle.numbers.proofs.slices.rest.Reads as rest-reads
 
+-- src/expr.rt:156:9
+rest-requires : tie.Need-rest-requires
+rest-requires c κs = search needs
+
+-- src/expr.rt:157:11
 read-duration-requires : tie.Need-read-duration-requires
-read-duration-requires c κs = search needs
+read-duration-requires c κs = ?
 
-enum-known-taken : tie.Need-enum-known-taken
-enum-known-taken c = search needs
+-- src/expr.rt:159:20
+enum-known-u : tie.Need-enum-known-u
+enum-known-u c = search needs
 
+-- src/expr.rt:162:16
 is-at-requires : tie.Need-is-at-requires
 is-at-requires c κs = search needs
 
+-- src/expr.rt:164:40
+add-stray : tie.Need-add-stray
+add-stray c = ?
+
+-- src/expr.rt:164:21
+stray-requires : tie.Need-stray-requires
+stray-requires c κs = search needs
+
+-- src/expr.rt:164:21
 returns : tie.Need-returns
-unfolding durationTailOf
-returns c =
-    let args = c .before .before .before .before .before .before .before .before .args in
-    let read-duration = c .before .before .before .before .before .before .read-duration in
-    let taken = c .before .before .before .before .taken in
-    let is-at = c .before .before .is-at in
-    let if1 = c .before .if1 in
-    let read = taken-read (durationOf (now (args .l))) (read-duration .ensures .0) (taken .given .1) in
-    tail-promised
-    (rw (read .reading, ← (is-at .ensures .0), if1 .taken, read .sub-daily ∙ c .if2 .taken))
-    (duration-tail-few (now (args .l)))
+returns c = ?
 
-add-t8 : tie.Need-add-t8
-add-t8 c =
-    let read-duration = c .before .before .before .before .before .before .read-duration in
-    let taken = c .before .before .before .before .taken in
-    let b = rw (taken .given .1) at (read-duration .ensures .1 .bounds) in
-    omega arith
+-- src/expr.rt:166:34
+add-ago : tie.Need-add-ago
+add-ago c = ?
 
+-- src/expr.rt:166:34
+add-ago-2 : tie.Need-add-ago-2
+add-ago-2 c = ?
+
+-- src/expr.rt:166:17
+ago-requires : tie.Need-ago-requires
+ago-requires c κs = search needs
+
+-- src/expr.rt:166:17
 returns-2 : tie.Need-returns-2
-unfolding durationTailOf
-returns-2 c =
-    let args = c .before .before .before .before .before .before .before .before .args in
-    let read-duration = c .before .before .before .before .before .before .read-duration in
-    let taken = c .before .before .before .before .taken in
-    let is-at = c .before .before .is-at in
-    let if1 = c .before .if1 in
-    let read = taken-read (durationOf (now (args .l))) (read-duration .ensures .0) (taken .given .1) in
-    tail-promised
-    (rw (read .reading, ← (is-at .ensures .0), if1 .taken, read .sub-daily ∙ c .if2 .left))
-    (duration-tail-few (now (args .l)))
+returns-2 c = ?
 
+-- src/expr.rt:168:25
+add-stray-2 : tie.Need-add-stray-2
+add-stray-2 c = ?
+
+-- src/expr.rt:168:13
+stray-requires-2 : tie.Need-stray-requires-2
+stray-requires-2 c κs = search needs
+
+-- src/expr.rt:170:27
 enum-told : tie.Need-enum-told
 enum-told c = search needs
 
+-- src/expr.rt:170:27
 read-in-tail-requires : tie.Need-read-in-tail-requires
 read-in-tail-requires c κs = search needs
 
+-- src/expr.rt:171:28
 enum-told-2 : tie.Need-enum-told-2
 enum-told-2 c = search needs
 
+-- src/expr.rt:152:1
 returns-3 : tie.Need-returns-3
-unfolding durationTailOf
-returns-3 c =
-    let args = c .before .before .before .before .before .before .before .args in
-    let read-duration = c .before .before .before .before .before .read-duration in
-    let taken = c .before .before .before .taken in
-    let is-at = c .before .is-at in
-    let read = taken-read (durationOf (now (args .l))) (read-duration .ensures .0) (taken .given .1) in
-    tail-promised
-    (rw (read .reading, ← (is-at .ensures .0), c .if1 .left))
-    (duration-tail-few (now (args .l)))
+returns-3 c = ?
 
+-- src/expr.rt:152:1
 returns-4 : tie.Need-returns-4
-unfolding durationTailOf
-returns-4 c =
-    let args = c .before .before .before .before .before .args in
-    let read-duration = c .before .before .before .read-duration in
-    let enum-told = c .before .enum-told in
-    let none = taken-none (durationOf (now (args .l))) (read-duration .ensures .0) (enum-told .given .1) in
-    tail-promised
-    (rw (none) (c .read-in-tail .ensures .0))
-    (duration-tail-few (now (args .l)))
+returns-4 c = ?
 
+-- src/expr.rt:152:1
 returns-5 : tie.Need-returns-5
-unfolding durationTailOf
-returns-5 c =
-    let args = c .before .before .before .before .args in
-    let read-duration = c .before .before .read-duration in
-    let over = taken-overflow (durationOf (now (args .l))) (read-duration .ensures .0) (c .enum-told2 .given .1) in
-    tail-promised
-    (rw (over))
-    (duration-tail-few (now (args .l)))
+returns-5 c = ?
 
 pub read-duration-tail-spec : {M : Type 1} → statement M
 read-duration-tail-spec =
     tie.close
     (tie.spec
+    rest-requires
     read-duration-requires
-    enum-known-taken
+    enum-known-u
     is-at-requires
+    add-stray
+    stray-requires
     returns
-    add-t8
+    add-ago
+    add-ago-2
+    ago-requires
     returns-2
+    add-stray-2
+    stray-requires-2
     enum-told
     read-in-tail-requires
     enum-told-2

@@ -1,61 +1,47 @@
-use mathlib.Core.Path.{ap}
-use native.Mathlib.Omega.{arith}
-use denote.Ref.{now}
-use Rattle.dates.specs.Dates.{parsedDate}
-use Rattle.dates.proofs.Laws.{found}
-use Rattle.expressions.specs.ExprAnswers.{exprAnswer}
-use Rattle.expressions.proofs.Answers.{expr-promised}
 use borrow.Author.Needs.{needs}
 use Rattle.expressions.proofs.expr.read_expr.Statement.{statement}
 use Rattle.expressions.proofs.expr.read_expr.Tie as tie
+use Rattle.expressions.proofs.expr.read_expr.Reads as reads
+use Rattle.expressions.proofs.expr.read_expr.Lts as lts
+use Rattle.dates.proofs.date.read_date.Reads as read-date-reads
+use Rattle.expressions.proofs.expr.read_tail.Reads as read-tail-reads
+use Rattle.expressions.proofs.expr.read_undated.Reads as read-undated-reads
 
+-- src/expr.rt:271:11
 read-date-requires : tie.Need-read-date-requires
 read-date-requires c κs = search needs
 
+-- src/expr.rt:272:23
 enum-known-d : tie.Need-enum-known-d
 enum-known-d c = search needs
 
-read-date-tail-requires : tie.Need-read-date-tail-requires
-read-date-tail-requires c κs =
-    let read-date = c .before .before .before .read-date in
-    let d = c .before .d in
-    let b = found (ap parsedDate (d .given .1)) (read-date .ensures .1) in
-    (omega arith, search needs)
+-- src/expr.rt:272:32
+read-tail-requires : tie.Need-read-tail-requires
+read-tail-requires c κs = ?
 
+-- src/expr.rt:273:31
 enum-told : tie.Need-enum-told
 enum-told c = search needs
 
+-- src/expr.rt:273:31
 read-undated-requires : tie.Need-read-undated-requires
 read-undated-requires c κs = search needs
 
+-- src/expr.rt:274:32
 enum-told-2 : tie.Need-enum-told-2
 enum-told-2 c = search needs
 
+-- src/expr.rt:267:1
 returns : tie.Need-returns
-unfolding exprAnswer
-returns c =
-    let args = c .before .before .before .before .before .before .args in
-    let read-date = c .before .before .before .before .read-date in
-    let d = c .before .before .d in
-    let read-date-tail = c .read-date-tail in
-    expr-promised (now (args .l)) (rw (← (read-date .ensures .0), d .given .1) (read-date-tail .ensures))
+returns c = ?
 
+-- src/expr.rt:267:1
 returns-2 : tie.Need-returns-2
-unfolding exprAnswer
-returns-2 c =
-    let args = c .before .before .before .before .before .args in
-    let read-date = c .before .before .before .read-date in
-    let enum-told = c .before .enum-told in
-    let read-undated = c .read-undated in
-    expr-promised (now (args .l)) (rw (← (read-date .ensures .0), enum-told .given .1) (read-undated .ensures))
+returns-2 c = ?
 
+-- src/expr.rt:267:1
 returns-3 : tie.Need-returns-3
-unfolding exprAnswer
-returns-3 c =
-    let args = c .before .before .before .before .args in
-    let read-date = c .before .before .read-date in
-    let enum-told2 = c .enum-told2 in
-    expr-promised (now (args .l)) (rw (← (read-date .ensures .0), enum-told2 .given .1))
+returns-3 c = ?
 
 pub read-expr-spec : {M : Type 1} → statement M
 read-expr-spec =
@@ -63,7 +49,7 @@ read-expr-spec =
     (tie.spec
     read-date-requires
     enum-known-d
-    read-date-tail-requires
+    read-tail-requires
     enum-told
     read-undated-requires
     enum-told-2

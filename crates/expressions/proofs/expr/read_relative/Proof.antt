@@ -1,110 +1,68 @@
-use mathlib.Core.Path.{ap}
-use native.Mathlib.Omega.{arith}
-use Rattle.dates.specs.Units.{parsedSpecifier}
-use Rattle.dates.specs.Parsed.{parsedNumber}
-use Rattle.dates.proofs.Laws.{found, number-arm}
-use Rattle.expressions.specs.DateExprs.{relativeExprOf}
-use Rattle.expressions.proofs.Answers.{weekday-none}
 use borrow.Author.Needs.{needs}
 use Rattle.expressions.proofs.expr.read_relative.Statement.{statement}
 use Rattle.expressions.proofs.expr.read_relative.Tie as tie
+use Rattle.expressions.proofs.expr.read_relative.Reads as reads
+use Rattle.expressions.proofs.expr.read_relative.Lts as lts
+use Rattle.dates.proofs.units.read_specifier.Reads as read-specifier-reads
+use Rattle.dates.proofs.units.read_unit.Reads as read-unit-reads
+use Rattle.dates.proofs.units.read_weekday.Reads as read-weekday-reads
+use Rattle.numbers.proofs.slices.rest.Reads as rest-reads
 
+-- src/expr.rt:229:36
 read-specifier-requires : tie.Need-read-specifier-requires
 read-specifier-requires c κs = search needs
 
+-- src/expr.rt:229:28
 enum-known-spec : tie.Need-enum-known-spec
 enum-known-spec c = search needs
 
+-- src/expr.rt:230:9
 enum-told : tie.Need-enum-told
 enum-told c = search needs
 
+-- src/expr.rt:230:9
 returns : tie.Need-returns
-unfolding relativeExprOf
-returns c =
-    let read-specifier = c .before .before .read-specifier in
-    rw (← (read-specifier .ensures .0), c .enum-told .given .1)
+returns c = ?
 
+-- src/expr.rt:232:9
 rest-requires : tie.Need-rest-requires
-rest-requires c κs =
-    let read-specifier = c .before .before .before .read-specifier in
-    let spec = c .before .spec in
-    let b = found (ap parsedSpecifier (spec .given .1)) (read-specifier .ensures .1) in
-    omega arith
+rest-requires c κs = ?
 
+-- src/expr.rt:233:27
 read-weekday-requires : tie.Need-read-weekday-requires
 read-weekday-requires c κs = search needs
 
+-- src/expr.rt:233:19
 enum-known-w : tie.Need-enum-known-w
 enum-known-w c = search needs
 
+-- src/expr.rt:234:35
 read-unit-requires : tie.Need-read-unit-requires
 read-unit-requires c κs = search needs
 
+-- src/expr.rt:234:27
 enum-known-unit : tie.Need-enum-known-unit
 enum-known-unit c = search needs
 
+-- src/expr.rt:235:13
 enum-told-2 : tie.Need-enum-told-2
 enum-told-2 c = search needs
 
+-- src/expr.rt:235:13
 returns-2 : tie.Need-returns-2
-unfolding relativeExprOf
-returns-2 c =
-    let read-specifier = c .before .before .before .before .before .before .before .before .before .read-specifier in
-    let spec = c .before .before .before .before .before .before .before .spec in
-    let rest = c .before .before .before .before .before .rest in
-    let read-weekday = c .before .before .before .before .read-weekday in
-    let match2 = c .before .before .before .match2 in
-    let read-unit = c .before .before .read-unit in
-    let none = weekday-none _ (read-weekday .ensures .0) (number-arm (read-weekday .result) (match2 .keys2)) in
-    rw (
-      ← (read-specifier .ensures .0),
-      spec .given .1,
-      ← (rest .ensures .0),
-      ← (read-weekday .ensures .0),
-      none,
-      ← (read-unit .ensures .0),
-      c .enum-told2 .given .1,
-    )
+returns-2 c = ?
 
+-- src/expr.rt:237:9
 returns-3 : tie.Need-returns-3
-unfolding relativeExprOf
-returns-3 c =
-    let read-specifier = c .before .before .before .before .before .before .before .before .before .before .read-specifier in
-    let spec = c .before .before .before .before .before .before .before .before .spec in
-    let rest = c .before .before .before .before .before .before .rest in
-    let read-weekday = c .before .before .before .before .before .read-weekday in
-    let match2 = c .before .before .before .before .match2 in
-    let read-unit = c .before .before .before .read-unit in
-    let unit = c .before .unit in
-    let none = weekday-none _ (read-weekday .ensures .0) (number-arm (read-weekday .result) (match2 .keys2)) in
-    rw (
-      ← (read-specifier .ensures .0),
-      spec .given .1,
-      ← (rest .ensures .0),
-      ← (read-weekday .ensures .0),
-      none,
-      ← (read-unit .ensures .0),
-      unit .given .1,
-    )
+returns-3 c = ?
 
+-- src/expr.rt:239:51
 add-t12 : tie.Need-add-t12
-add-t12 c =
-    let rest = c .before .before .before .before .rest in
-    let read-weekday = c .before .before .before .read-weekday in
-    let w = c .before .w in
-    let b = found (ap parsedNumber (w .given .1)) (read-weekday .ensures .1) in
-    let left = rest .ensures .1 in
-    omega arith
+add-t12 c = ?
 
+-- src/expr.rt:226:1
 returns-4 : tie.Need-returns-4
-unfolding relativeExprOf
-returns-4 c =
-    let read-specifier = c .before .before .before .before .before .before .before .before .read-specifier in
-    let spec = c .before .before .before .before .before .before .spec in
-    let rest = c .before .before .before .before .rest in
-    let read-weekday = c .before .before .before .read-weekday in
-    let w = c .before .w in
-    rw (← (read-specifier .ensures .0), spec .given .1, ← (rest .ensures .0), ← (read-weekday .ensures .0), w .given .1)
+returns-4 c = ?
 
 pub read-relative-spec : {M : Type 1} → statement M
 read-relative-spec =

@@ -1,45 +1,54 @@
-use native.Mathlib.Omega.{arith}
 use borrow.Author.Needs.{needs}
 use Rattle.expressions.proofs.expr.read_undated.Statement.{statement}
 use Rattle.expressions.proofs.expr.read_undated.Tie as tie
+use Rattle.expressions.proofs.expr.read_undated.Reads as reads
+use Rattle.expressions.proofs.expr.read_undated.Lts as lts
+use Rattle.dates.proofs.duration.read_duration.Reads as read-duration-reads
+use Rattle.expressions.proofs.expr.read_weekday_expr.Reads as read-weekday-expr-reads
+use Rattle.expressions.proofs.expr.with_duration.Reads as with-duration-reads
 
+-- src/expr.rt:256:11
 read-duration-requires : tie.Need-read-duration-requires
-read-duration-requires c κs = search needs
+read-duration-requires c κs = ?
 
-enum-known-taken : tie.Need-enum-known-taken
-enum-known-taken c = search needs
+-- src/expr.rt:258:20
+enum-known-t : tie.Need-enum-known-t
+enum-known-t c = search needs
 
+-- src/expr.rt:260:14
 with-duration-requires : tie.Need-with-duration-requires
-with-duration-requires c κs =
-    let read-duration = c .before .before .before .read-duration in
-    let taken = c .before .taken in
-    let b = rw (taken .given .1) at (read-duration .ensures .1 .bounds) in
-    (omega arith, omega arith)
+with-duration-requires c κs = ?
 
+-- src/expr.rt:261:27
 enum-told : tie.Need-enum-told
 enum-told c = search needs
 
+-- src/expr.rt:261:27
 read-weekday-expr-requires : tie.Need-read-weekday-expr-requires
 read-weekday-expr-requires c κs = search needs
 
+-- src/expr.rt:262:28
 enum-told-2 : tie.Need-enum-told-2
 enum-told-2 c = search needs
 
+-- src/expr.rt:253:1
 returns : tie.Need-returns
-returns c = rw (← (c .before .before .before .before .read-duration .ensures .0), c .before .before .taken .given .1) (c .with-duration .ensures)
+returns c = ?
 
+-- src/expr.rt:253:1
 returns-2 : tie.Need-returns-2
-returns-2 c = rw (← (c .before .before .before .read-duration .ensures .0), c .before .enum-told .given .1) (c .read-weekday-expr .ensures)
+returns-2 c = ?
 
+-- src/expr.rt:253:1
 returns-3 : tie.Need-returns-3
-returns-3 c = rw (← (c .before .before .read-duration .ensures .0), c .enum-told2 .given .1)
+returns-3 c = ?
 
 pub read-undated-spec : {M : Type 1} → statement M
 read-undated-spec =
     tie.close
     (tie.spec
     read-duration-requires
-    enum-known-taken
+    enum-known-t
     with-duration-requires
     enum-told
     read-weekday-expr-requires
