@@ -10,8 +10,9 @@ use numbers::slices::is_at;
 use numbers::slices::rest;
 ghost use mathlib.Core.Path.{_≡_};
 ghost use mathlib.Core.Bool.{_||_};
-ghost use Prim.Native.Nat.{_+_, _*_, _≤_, _<_};
+ghost use Prim.Native.Nat.{_+_, _*_, _-_, _≤_, _<_};
 ghost use lib.ListN.{length};
+ghost use Rattle.numbers.specs.Answers.{USIZE};
 ghost use Rattle.dates.specs.Parsed.{Took, stopped, parsedNumber};
 ghost use Rattle.dates.specs.Durations.{isSubDailyUnit, isSubDailyPart, specificOf, articleOf, concreteOf, durationOf};
 ghost use Rattle.dates.specs.Durations.{parsedPart, takenAnswer, takenBehind, TakenCounted};
@@ -214,7 +215,7 @@ fn taken_stopped(c: PartFound) -> Taken
 
 // A part of t lexemes, "and", and what was read behind it; with nothing behind it the "and" is not taken.
 fn taken_behind(t: usize, own: bool, next: Taken) -> Taken
-    requires { ⌜ (t ≤ 64) × TakenCounted next 64 ⌝ }
+    requires { ⌜ (t < USIZE) × TakenCounted next (USIZE - (t + 1)) ⌝ }
     ensures { λ r. ⌜ r ≡ takenBehind t «own» next ⌝ }
 {
     match next {
@@ -235,7 +236,6 @@ fn taken_behind(t: usize, own: bool, next: Taken) -> Taken
 
 // Duration::parse, without its parts.
 pub fn read_duration(l: &[u64]) -> Taken
-    requires { ⌜ length (now l) ≤ 64 ⌝ }
     ensures { λ r. ⌜ r ≡ takenAnswer (durationOf (now (l .entry))) ⌝ }
     ensures { λ r. ⌜ TakenCounted r (length (now (l .entry))) ⌝ }
 {

@@ -93,11 +93,12 @@ module _ (t : ℕ) where
   read-duration-requires : lts.Need-read-duration-requires claims pre read-duration.Post
   read-duration-requires c κs =
       let b = part-took (c .before .before .before .before) in
-      (omega arith, omega arith)
+      (omega arith, search needs)
 
   taken-behind-requires : lts.Need-taken-behind-requires claims pre read-duration.Post
   taken-behind-requires c κs =
       let b = part-took (c .before .before .before .before .before) in
+      let left = c .before .rest .ensures .1 in
       (omega arith, taken-wider (c .read-duration .ensures .1) (omega arith))
 
   returns-2 : lts.Need-returns-2 claims pre read-duration.Post
