@@ -1,24 +1,19 @@
+use native.Mathlib.Nat.{add-zero}
 use borrow.Author.Needs.{needs}
 use Rattle.expressions.proofs.expr.ago.Statement.{statement}
 use Rattle.expressions.proofs.expr.ago.Tie as tie
-use Rattle.expressions.proofs.expr.ago.Reads as reads
-use Rattle.expressions.proofs.expr.ago.Lts as lts
 
--- src/expr.rt:107:20
 enum-known-h : tie.Need-enum-known-h
 enum-known-h c = search needs
 
--- src/expr.rt:108:23
 enum-known-h-2 : tie.Need-enum-known-h-2
 enum-known-h-2 c = search needs
 
--- src/expr.rt:103:1
 returns : tie.Need-returns
-returns c = ?
+returns c = λ dur u e. rw (c .before .h .given .1, e, add-zero)
 
--- src/expr.rt:103:1
 returns-2 : tie.Need-returns-2
-returns-2 c = ?
+returns-2 c = λ dur u e. rw (c .before .h2 .given .1, e, add-zero)
 
 pub ago-spec : {M : Type 1} → statement M
 ago-spec = tie.close (tie.spec enum-known-h enum-known-h-2 returns returns-2)

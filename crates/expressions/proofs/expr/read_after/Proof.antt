@@ -1,46 +1,40 @@
+use mathlib.Core.Path.{ap}
+use native.Mathlib.Omega.{arith}
+use Rattle.dates.specs.Dates.{parsedDate}
+use Rattle.dates.proofs.Laws.{found}
 use borrow.Author.Needs.{needs}
 use Rattle.expressions.proofs.expr.read_after.Statement.{statement}
 use Rattle.expressions.proofs.expr.read_after.Tie as tie
-use Rattle.expressions.proofs.expr.read_after.Reads as reads
-use Rattle.expressions.proofs.expr.read_after.Lts as lts
-use Rattle.dates.proofs.date.read_date.Reads as read-date-reads
-use Rattle.numbers.proofs.slices.rest.Reads as rest-reads
 
--- src/expr.rt:198:21
 rest-requires : tie.Need-rest-requires
 rest-requires c κs = search needs
 
--- src/expr.rt:198:11
 read-date-requires : tie.Need-read-date-requires
 read-date-requires c κs = search needs
 
--- src/expr.rt:199:23
 enum-known-d : tie.Need-enum-known-d
 enum-known-d c = search needs
 
--- src/expr.rt:199:62
 add-t9 : tie.Need-add-t9
-add-t9 c = ?
+add-t9 c =
+    let b = found (ap parsedDate (c .before .d .given .1)) (c .before .before .before .read-date .ensures .1) in
+    let left = c .before .before .before .before .rest .ensures .1 in
+    omega arith
 
--- src/expr.rt:200:31
 enum-told : tie.Need-enum-told
 enum-told c = search needs
 
--- src/expr.rt:201:32
 enum-told-2 : tie.Need-enum-told-2
 enum-told-2 c = search needs
 
--- src/expr.rt:194:1
 returns : tie.Need-returns
-returns c = ?
+returns c = λ dur. rw (← (c .before .before .before .before .rest .ensures .0), ← (c .before .before .before .read-date .ensures .0), c .before .d .given .1)
 
--- src/expr.rt:194:1
 returns-2 : tie.Need-returns-2
-returns-2 c = ?
+returns-2 c = λ dur. rw (← (c .before .before .before .rest .ensures .0), ← (c .before .before .read-date .ensures .0), c .enum-told .given .1)
 
--- src/expr.rt:194:1
 returns-3 : tie.Need-returns-3
-returns-3 c = ?
+returns-3 c = λ dur. rw (← (c .before .before .before .rest .ensures .0), ← (c .before .before .read-date .ensures .0), c .enum-told2 .given .1)
 
 pub read-after-spec : {M : Type 1} → statement M
 read-after-spec =

@@ -1,90 +1,109 @@
+use Prim.Native.Nat.{_+_}
+use mathlib.Core.Path.{_∙_}
+use native.Mathlib.Omega.{arith}
+use denote.Ref.{now}
+use Rattle.numbers.proofs.Places.{there}
+use Rattle.dates.specs.Durations.{durationOf}
+use Rattle.dates.proofs.Durations.{taken-found, taken-read, taken-none, taken-overflow}
+use Rattle.expressions.specs.DateExprs.{durationTailOf}
 use borrow.Author.Needs.{needs}
 use Rattle.expressions.proofs.expr.read_duration_tail.Statement.{statement}
 use Rattle.expressions.proofs.expr.read_duration_tail.Tie as tie
-use Rattle.expressions.proofs.expr.read_duration_tail.Reads as reads
-use Rattle.expressions.proofs.expr.read_duration_tail.Lts as lts
-use Rattle.dates.proofs.duration.read_duration.Reads as read-duration-reads
-use Rattle.expressions.proofs.expr.ago.Reads as ago-reads
-use Rattle.expressions.proofs.expr.read_in_tail.Reads as read-in-tail-reads
-use Rattle.expressions.proofs.expr.stray.Reads as stray-reads
-use Rattle.numbers.proofs.slices.is_at.Reads as is-at-reads
-use Rattle.numbers.proofs.slices.rest.Reads as rest-reads
 
--- src/expr.rt:156:9
 rest-requires : tie.Need-rest-requires
 rest-requires c κs = search needs
 
--- src/expr.rt:157:11
 read-duration-requires : tie.Need-read-duration-requires
-read-duration-requires c κs = ?
+read-duration-requires c κs = search needs
 
--- src/expr.rt:159:20
 enum-known-u : tie.Need-enum-known-u
 enum-known-u c = search needs
 
--- src/expr.rt:162:16
 is-at-requires : tie.Need-is-at-requires
 is-at-requires c κs = search needs
 
--- src/expr.rt:164:40
 add-stray : tie.Need-add-stray
-add-stray c = ?
+add-stray c =
+    let b = taken-found (c .before .before .before .before .u .given .1) (c .before .before .before .before .before .before .read-duration .ensures .1) in
+    let left = c .before .before .before .before .before .before .before .rest .ensures .1 in
+    omega arith
 
--- src/expr.rt:164:21
 stray-requires : tie.Need-stray-requires
 stray-requires c κs = search needs
 
--- src/expr.rt:164:21
 returns : tie.Need-returns
-returns c = ?
+unfolding durationTailOf
+returns c =
+    let rest = c .before .before .before .before .before .before .before .before .rest in
+    let u = c .before .before .before .before .before .u in
+    let read = taken-read (durationOf (now (rest .result))) (c .before .before .before .before .before .before .before .read-duration .ensures .0) (u .given .1) in
+    rw (← (rest .ensures .0), read .reading, ← (c .before .before .before .is-at .ensures .0), c .before .before .if1 .taken, read .sub-daily ∙ c .before .if2 .taken)
+    (c .stray .ensures (u .given .0 .0) (omega arith))
 
--- src/expr.rt:166:34
 add-ago : tie.Need-add-ago
-add-ago c = ?
+add-ago c =
+    let b = taken-found (c .before .before .before .before .u .given .1) (c .before .before .before .before .before .before .read-duration .ensures .1) in
+    let left = c .before .before .before .before .before .before .before .rest .ensures .1 in
+    omega arith
 
--- src/expr.rt:166:34
 add-ago-2 : tie.Need-add-ago-2
-add-ago-2 c = ?
+add-ago-2 c =
+    let left = c .before .before .before .before .before .before .before .rest .ensures .1 in
+    let room = there (c .before .before .is-at .ensures .1) (c .before .if1 .taken) in
+    omega arith
 
--- src/expr.rt:166:17
 ago-requires : tie.Need-ago-requires
 ago-requires c κs = search needs
 
--- src/expr.rt:166:17
 returns-2 : tie.Need-returns-2
-returns-2 c = ?
+unfolding durationTailOf
+returns-2 c =
+    let rest = c .before .before .before .before .before .before .before .before .rest in
+    let u = c .before .before .before .before .before .u in
+    let read = taken-read (durationOf (now (rest .result))) (c .before .before .before .before .before .before .before .read-duration .ensures .0) (u .given .1) in
+    rw (← (rest .ensures .0), read .reading, ← (c .before .before .before .is-at .ensures .0), c .before .before .if1 .taken, read .sub-daily ∙ c .before .if2 .left)
+    (c .ago .ensures (read .duration) (u .given .0 .0 + 1) (omega arith))
 
--- src/expr.rt:168:25
 add-stray-2 : tie.Need-add-stray-2
-add-stray-2 c = ?
+add-stray-2 c =
+    let b = taken-found (c .before .before .before .u .given .1) (c .before .before .before .before .before .read-duration .ensures .1) in
+    let left = c .before .before .before .before .before .before .rest .ensures .1 in
+    omega arith
 
--- src/expr.rt:168:13
 stray-requires-2 : tie.Need-stray-requires-2
 stray-requires-2 c κs = search needs
 
--- src/expr.rt:170:27
 enum-told : tie.Need-enum-told
 enum-told c = search needs
 
--- src/expr.rt:170:27
 read-in-tail-requires : tie.Need-read-in-tail-requires
 read-in-tail-requires c κs = search needs
 
--- src/expr.rt:171:28
 enum-told-2 : tie.Need-enum-told-2
 enum-told-2 c = search needs
 
--- src/expr.rt:152:1
 returns-3 : tie.Need-returns-3
-returns-3 c = ?
+unfolding durationTailOf
+returns-3 c =
+    let rest = c .before .before .before .before .before .before .before .rest in
+    let u = c .before .before .before .before .u in
+    let read = taken-read (durationOf (now (rest .result))) (c .before .before .before .before .before .before .read-duration .ensures .0) (u .given .1) in
+    rw (← (rest .ensures .0), read .reading, ← (c .before .before .is-at .ensures .0), c .before .if1 .left)
+    (c .stray2 .ensures (u .given .0 .0) (omega arith))
 
--- src/expr.rt:152:1
 returns-4 : tie.Need-returns-4
-returns-4 c = ?
+unfolding durationTailOf
+returns-4 c =
+    let rest = c .before .before .before .before .rest in
+    let none = taken-none (durationOf (now (rest .result))) (c .before .before .before .read-duration .ensures .0) (c .before .enum-told .given .1) in
+    rw (← (rest .ensures .0), none, rest .ensures .0) (c .read-in-tail .ensures)
 
--- src/expr.rt:152:1
 returns-5 : tie.Need-returns-5
-returns-5 c = ?
+unfolding durationTailOf
+returns-5 c =
+    let rest = c .before .before .before .rest in
+    let over = taken-overflow (durationOf (now (rest .result))) (c .before .before .read-duration .ensures .0) (c .enum-told2 .given .1) in
+    rw (← (rest .ensures .0), over)
 
 pub read-duration-tail-spec : {M : Type 1} → statement M
 read-duration-tail-spec =

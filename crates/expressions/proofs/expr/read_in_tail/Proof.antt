@@ -1,85 +1,111 @@
+use Prim.Native.Nat.{_+_}
+use mathlib.Core.Path.{_∙_}
+use native.Mathlib.Omega.{arith}
+use denote.Ref.{now}
+use Rattle.numbers.proofs.Places.{there}
+use Rattle.dates.specs.Durations.{durationOf}
+use Rattle.dates.proofs.Durations.{taken-found, taken-read, taken-none, taken-overflow}
+use Rattle.expressions.specs.DateExprs.{inTailOf}
+use Rattle.expressions.proofs.Own.{alone}
 use borrow.Author.Needs.{needs}
 use Rattle.expressions.proofs.expr.read_in_tail.Statement.{statement}
 use Rattle.expressions.proofs.expr.read_in_tail.Tie as tie
-use Rattle.expressions.proofs.expr.read_in_tail.Reads as reads
-use Rattle.expressions.proofs.expr.read_in_tail.Lts as lts
-use Rattle.dates.proofs.duration.read_duration.Reads as read-duration-reads
-use Rattle.expressions.proofs.expr.inside.Reads as inside-reads
-use Rattle.expressions.proofs.expr.stray.Reads as stray-reads
-use Rattle.numbers.proofs.slices.is_at.Reads as is-at-reads
-use Rattle.numbers.proofs.slices.rest.Reads as rest-reads
 
--- src/expr.rt:127:9
 rest-requires : tie.Need-rest-requires
 rest-requires c κs = search needs
 
--- src/expr.rt:128:8
 is-at-requires : tie.Need-is-at-requires
 is-at-requires c κs = search needs
 
--- src/expr.rt:129:17
 add-p : tie.Need-add-p
 add-p c = search needs
 
--- src/expr.rt:130:29
 rest-requires-2 : tie.Need-rest-requires-2
-rest-requires-2 c κs = ?
+rest-requires-2 c κs =
+    let room = there (c .before .is-at .ensures .1) (c .if1 .taken) in
+    omega arith
 
--- src/expr.rt:130:15
 read-duration-requires : tie.Need-read-duration-requires
-read-duration-requires c κs = ?
+read-duration-requires c κs = search needs
 
--- src/expr.rt:132:24
 enum-known-u : tie.Need-enum-known-u
 enum-known-u c = search needs
 
--- src/expr.rt:136:21
 stray-requires : tie.Need-stray-requires
 stray-requires c κs = search needs
 
--- src/expr.rt:136:21
 returns : tie.Need-returns
-returns c = ?
+unfolding inTailOf
+returns c =
+    let rest2 = c .before .before .before .before .before .before .rest2 in
+    let read = taken-read (durationOf (now (rest2 .result))) (c .before .before .before .before .before .read-duration .ensures .0) (c .before .before .before .u .given .1) in
+    rw (
+      ← (c .before .before .before .before .before .before .before .before .before .rest .ensures .0),
+      ← (c .before .before .before .before .before .before .before .before .is-at .ensures .0),
+      c .before .before .before .before .before .before .before .if1 .taken,
+      ← (rest2 .ensures .0),
+      read .reading,
+      read .sub-daily ∙ c .before .if2 .taken,
+    ) (c .stray .ensures 1 (omega arith))
 
--- src/expr.rt:138:37
 add-inside : tie.Need-add-inside
-add-inside c = ?
+add-inside c =
+    let b = taken-found (c .before .before .u .given .1) (c .before .before .before .before .read-duration .ensures .1) in
+    let left = c .before .before .before .before .before .before .before .before .rest .ensures .1 in
+    let left2 = c .before .before .before .before .before .rest2 .ensures .1 in
+    omega arith
 
--- src/expr.rt:138:17
 inside-requires : tie.Need-inside-requires
 inside-requires c κs = search needs
 
--- src/expr.rt:138:17
 returns-2 : tie.Need-returns-2
-returns-2 c = ?
+unfolding inTailOf
+returns-2 c =
+    let rest2 = c .before .before .before .before .before .before .rest2 in
+    let u = c .before .before .before .u in
+    let read = taken-read (durationOf (now (rest2 .result))) (c .before .before .before .before .before .read-duration .ensures .0) (u .given .1) in
+    rw (
+      ← (c .before .before .before .before .before .before .before .before .before .rest .ensures .0),
+      ← (c .before .before .before .before .before .before .before .before .is-at .ensures .0),
+      c .before .before .before .before .before .before .before .if1 .taken,
+      ← (rest2 .ensures .0),
+      read .reading,
+      read .sub-daily ∙ c .before .if2 .left,
+    ) (c .inside .ensures (read .duration) _ (1 + u .given .0 .0) (omega arith) (omega arith))
 
--- src/expr.rt:141:17
 enum-told : tie.Need-enum-told
 enum-told c = search needs
 
--- src/expr.rt:141:17
 stray-requires-2 : tie.Need-stray-requires-2
 stray-requires-2 c κs = search needs
 
--- src/expr.rt:141:17
 returns-3 : tie.Need-returns-3
-returns-3 c = ?
+unfolding inTailOf
+returns-3 c =
+    let rest2 = c .before .before .before .before .rest2 in
+    let none = taken-none (durationOf (now (rest2 .result))) (c .before .before .before .read-duration .ensures .0) (c .before .enum-told .given .1) in
+    rw (← (c .before .before .before .before .before .before .before .rest .ensures .0), ← (c .before .before .before .before .before .before .is-at .ensures .0), c .before .before .before .before .before .if1 .taken, ← (rest2 .ensures .0), none)
+    (c .stray2 .ensures 1 (omega arith))
 
--- src/expr.rt:144:17
 enum-told-2 : tie.Need-enum-told-2
 enum-told-2 c = search needs
 
--- src/expr.rt:144:17
 returns-4 : tie.Need-returns-4
-returns-4 c = ?
+unfolding inTailOf
+returns-4 c =
+    let rest2 = c .before .before .before .rest2 in
+    let over = taken-overflow (durationOf (now (rest2 .result))) (c .before .before .read-duration .ensures .0) (c .enum-told2 .given .1) in
+    rw (← (c .before .before .before .before .before .before .rest .ensures .0), ← (c .before .before .before .before .before .is-at .ensures .0), c .before .before .before .before .if1 .taken, ← (rest2 .ensures .0), over)
 
--- src/expr.rt:148:5
 stray-requires-3 : tie.Need-stray-requires-3
 stray-requires-3 c κs = search needs
 
--- src/expr.rt:123:1
 returns-5 : tie.Need-returns-5
-returns-5 c = ?
+unfolding inTailOf
+returns-5 c =
+    let args = c .before .before .before .before .before .args in
+    rw (← (c .before .before .before .rest .ensures .0), ← (c .before .before .is-at .ensures .0), c .before .if1 .left)
+    (c .stray3 .ensures 0 (omega arith) ∙ alone (args .h) (args .t))
 
 pub read-in-tail-spec : {M : Type 1} → statement M
 read-in-tail-spec =

@@ -1,86 +1,91 @@
+use mathlib.Core.Path.{_∙_, ap}
+use native.Mathlib.Omega.{arith}
+use denote.Ref.{now}
+use Rattle.dates.specs.Units.{parsedSpecifier}
+use Rattle.dates.proofs.Laws.{found}
+use Rattle.expressions.specs.DateExprs.{tailOf}
+use Rattle.expressions.proofs.Own.{alone, tail-none}
 use borrow.Author.Needs.{needs}
 use Rattle.expressions.proofs.expr.read_tail.Statement.{statement}
 use Rattle.expressions.proofs.expr.read_tail.Tie as tie
-use Rattle.expressions.proofs.expr.read_tail.Reads as reads
-use Rattle.expressions.proofs.expr.read_tail.Lts as lts
-use Rattle.dates.proofs.units.read_specifier.Reads as read-specifier-reads
-use Rattle.dates.proofs.units.read_unit.Reads as read-unit-reads
-use Rattle.expressions.proofs.expr.read_duration_tail.Reads as read-duration-tail-reads
-use Rattle.expressions.proofs.expr.relative.Reads as relative-reads
-use Rattle.expressions.proofs.expr.stray.Reads as stray-reads
-use Rattle.numbers.proofs.slices.rest.Reads as rest-reads
 
--- src/expr.rt:181:9
 stray-requires : tie.Need-stray-requires
 stray-requires c κs = search needs
 
--- src/expr.rt:181:9
 returns : tie.Need-returns
-returns c = ?
+returns c =
+    let args = c .before .before .before .args in
+    rw (tail-none (now (args .l)) (args .t) (c .before .if1 .taken)) (c .stray .ensures 0 (omega arith) ∙ alone (args .h) (args .t))
 
--- src/expr.rt:183:9
 rest-requires : tie.Need-rest-requires
 rest-requires c κs = search needs
 
--- src/expr.rt:184:36
 read-specifier-requires : tie.Need-read-specifier-requires
 read-specifier-requires c κs = search needs
 
--- src/expr.rt:184:28
 enum-known-spec : tie.Need-enum-known-spec
 enum-known-spec c = search needs
 
--- src/expr.rt:185:9
 enum-told : tie.Need-enum-told
 enum-told c = search needs
 
--- src/expr.rt:185:9
 read-duration-tail-requires : tie.Need-read-duration-tail-requires
 read-duration-tail-requires c κs = search needs
 
--- src/expr.rt:185:9
 returns-2 : tie.Need-returns-2
-returns-2 c = ?
+unfolding tailOf
+returns-2 c =
+    let rest = c .before .before .before .before .rest in
+    rw (← (rest .ensures .0), ← (c .before .before .before .read-specifier .ensures .0), c .before .enum-told .given .1, rest .ensures .0)
+    (c .read-duration-tail .ensures)
 
--- src/expr.rt:187:41
 rest-requires-2 : tie.Need-rest-requires-2
 rest-requires-2 c κs = search needs
 
--- src/expr.rt:187:31
 read-unit-requires : tie.Need-read-unit-requires
 read-unit-requires c κs = search needs
 
--- src/expr.rt:187:23
 enum-known-unit : tie.Need-enum-known-unit
 enum-known-unit c = search needs
 
--- src/expr.rt:188:28
 enum-told-2 : tie.Need-enum-told-2
 enum-told-2 c = search needs
 
--- src/expr.rt:188:28
 add-stray : tie.Need-add-stray
 add-stray c = search needs
 
--- src/expr.rt:188:9
 stray-requires-2 : tie.Need-stray-requires-2
 stray-requires-2 c κs = search needs
 
--- src/expr.rt:188:9
 returns-3 : tie.Need-returns-3
-returns-3 c = ?
+unfolding tailOf
+returns-3 c =
+    rw (
+      ← (c .before .before .before .before .before .before .before .before .before .rest .ensures .0),
+      ← (c .before .before .before .before .before .before .before .before .read-specifier .ensures .0),
+      c .before .before .before .before .before .before .spec .given .1,
+      ← (c .before .before .before .before .rest2 .ensures .0),
+      ← (c .before .before .before .read-unit .ensures .0),
+      c .before .enum-told2 .given .1,
+    ) (c .stray2 .ensures 1 (omega arith))
 
--- src/expr.rt:190:29
 add-relative : tie.Need-add-relative
 add-relative c = search needs
 
--- src/expr.rt:190:5
 relative-requires : tie.Need-relative-requires
 relative-requires c κs = search needs
 
--- src/expr.rt:176:1
 returns-4 : tie.Need-returns-4
-returns-4 c = ?
+unfolding tailOf
+returns-4 c =
+    rw (
+      ← (c .before .before .before .before .before .before .before .before .before .before .rest .ensures .0),
+      ← (c .before .before .before .before .before .before .before .before .before .read-specifier .ensures .0),
+      c .before .before .before .before .before .before .before .spec .given .1,
+      ← (c .before .before .before .before .before .rest2 .ensures .0),
+      ← (c .before .before .before .before .read-unit .ensures .0),
+      c .before .before .unit .given .1,
+    ) (c .relative .ensures _ 2 (omega arith))
 
 pub read-tail-spec : {M : Type 1} → statement M
 read-tail-spec =

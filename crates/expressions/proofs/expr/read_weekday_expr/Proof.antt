@@ -1,35 +1,37 @@
+use mathlib.Core.Path.{ap}
+use native.Mathlib.Omega.{arith}
+use Rattle.dates.specs.Parsed.{parsedNumber}
+use Rattle.dates.proofs.Laws.{found, number-arm}
+use Rattle.expressions.specs.DateExprs.{weekdayExprOf}
+use Rattle.expressions.proofs.Own.{weekday-none}
 use borrow.Author.Needs.{needs}
 use Rattle.expressions.proofs.expr.read_weekday_expr.Statement.{statement}
 use Rattle.expressions.proofs.expr.read_weekday_expr.Tie as tie
-use Rattle.expressions.proofs.expr.read_weekday_expr.Reads as reads
-use Rattle.expressions.proofs.expr.read_weekday_expr.Lts as lts
-use Rattle.dates.proofs.units.read_weekday.Reads as read-weekday-reads
-use Rattle.expressions.proofs.expr.read_relative.Reads as read-relative-reads
-use Rattle.expressions.proofs.expr.read_tail.Reads as read-tail-reads
 
--- src/expr.rt:246:27
 read-weekday-requires : tie.Need-read-weekday-requires
 read-weekday-requires c κs = search needs
 
--- src/expr.rt:246:19
 enum-known-w : tie.Need-enum-known-w
 enum-known-w c = search needs
 
--- src/expr.rt:247:9
 read-relative-requires : tie.Need-read-relative-requires
 read-relative-requires c κs = search needs
 
--- src/expr.rt:247:9
 returns : tie.Need-returns
-returns c = ?
+unfolding weekdayExprOf
+returns c =
+    let read-weekday = c .before .before .read-weekday in
+    let none = weekday-none _ (read-weekday .ensures .0) (number-arm (read-weekday .result) (c .before .match .keys2)) in
+    rw (← (read-weekday .ensures .0), none) (c .read-relative .ensures)
 
--- src/expr.rt:249:5
 read-tail-requires : tie.Need-read-tail-requires
-read-tail-requires c κs = ?
+read-tail-requires c κs =
+    let b = found (ap parsedNumber (c .before .w .given .1)) (c .before .before .before .read-weekday .ensures .1) in
+    omega arith
 
--- src/expr.rt:243:1
 returns-2 : tie.Need-returns-2
-returns-2 c = ?
+unfolding weekdayExprOf
+returns-2 c = rw (← (c .before .before .before .before .read-weekday .ensures .0), c .before .before .w .given .1) (c .read-tail .ensures)
 
 pub read-weekday-expr-spec : {M : Type 1} → statement M
 read-weekday-expr-spec =

@@ -1,62 +1,80 @@
+use mathlib.Core.Path.{_∙_}
+use native.Mathlib.Omega.{arith}
+use Rattle.numbers.proofs.Places.{there}
+use Rattle.expressions.specs.DateExprs.{withDurationOf}
 use borrow.Author.Needs.{needs}
 use Rattle.expressions.proofs.expr.with_duration.Statement.{statement}
 use Rattle.expressions.proofs.expr.with_duration.Tie as tie
-use Rattle.expressions.proofs.expr.with_duration.Reads as reads
-use Rattle.expressions.proofs.expr.with_duration.Lts as lts
-use Rattle.expressions.proofs.expr.read_after.Reads as read-after-reads
-use Rattle.numbers.proofs.slices.is_at.Reads as is-at-reads
 
--- src/expr.rt:211:9
 returns : tie.Need-returns
-returns c = ?
+unfolding withDurationOf
+returns c = λ dur e. rw (e ∙ c .if1 .taken)
 
--- src/expr.rt:213:8
 is-at-requires : tie.Need-is-at-requires
 is-at-requires c κs = search needs
 
--- src/expr.rt:214:57
 add-t8 : tie.Need-add-t8
 add-t8 c = search needs
 
--- src/expr.rt:214:9
 returns-2 : tie.Need-returns-2
-returns-2 c = ?
+unfolding withDurationOf
+returns-2 c = λ dur e. rw (e ∙ c .before .before .if1 .left, ← (c .before .is-at .ensures .0), c .if2 .taken)
 
--- src/expr.rt:216:8
 is-at-requires-2 : tie.Need-is-at-requires-2
 is-at-requires-2 c κs = search needs
 
--- src/expr.rt:217:30
 add-read-after : tie.Need-add-read-after
 add-read-after c = search needs
 
--- src/expr.rt:217:9
 read-after-requires : tie.Need-read-after-requires
-read-after-requires c κs = ?
+read-after-requires c κs =
+    let room = there (c .before .is-at2 .ensures .1) (c .if3 .taken) in
+    omega arith
 
--- src/expr.rt:217:9
 returns-3 : tie.Need-returns-3
-returns-3 c = ?
+unfolding withDurationOf
+returns-3 c =
+    λ dur e. rw (e ∙ c .before .before .before .before .before .if1 .left, ← (c .before .before .before .before .is-at .ensures .0), c .before .before .before .if2 .left, ← (c .before .before .is-at2 .ensures .0), c .before .if3 .taken)
+    (c .read-after .ensures dur)
 
--- src/expr.rt:219:8
 is-at-requires-3 : tie.Need-is-at-requires-3
 is-at-requires-3 c κs = search needs
 
--- src/expr.rt:220:30
 add-read-after-2 : tie.Need-add-read-after-2
 add-read-after-2 c = search needs
 
--- src/expr.rt:220:9
 read-after-requires-2 : tie.Need-read-after-requires-2
-read-after-requires-2 c κs = ?
+read-after-requires-2 c κs =
+    let room = there (c .before .is-at3 .ensures .1) (c .if4 .taken) in
+    omega arith
 
--- src/expr.rt:220:9
 returns-4 : tie.Need-returns-4
-returns-4 c = ?
+unfolding withDurationOf
+returns-4 c =
+    λ dur e.
+    rw (
+      e ∙ c .before .before .before .before .before .before .before .if1 .left,
+      ← (c .before .before .before .before .before .before .is-at .ensures .0),
+      c .before .before .before .before .before .if2 .left,
+      ← (c .before .before .before .before .is-at2 .ensures .0),
+      c .before .before .before .if3 .left,
+      ← (c .before .before .is-at3 .ensures .0),
+      c .before .if4 .taken,
+    ) (c .read-after2 .ensures dur)
 
--- src/expr.rt:206:1
 returns-5 : tie.Need-returns-5
-returns-5 c = ?
+unfolding withDurationOf
+returns-5 c =
+    λ dur e.
+    rw (
+      e ∙ c .before .before .before .before .before .before .if1 .left,
+      ← (c .before .before .before .before .before .is-at .ensures .0),
+      c .before .before .before .before .if2 .left,
+      ← (c .before .before .before .is-at2 .ensures .0),
+      c .before .before .if3 .left,
+      ← (c .before .is-at3 .ensures .0),
+      c .if4 .left,
+    )
 
 pub with-duration-spec : {M : Type 1} → statement M
 with-duration-spec =
