@@ -11,7 +11,9 @@ use Rattle.dates.specs.declared.units.Unit.the-variants.{Day}
 use Rattle.expressions.specs.Tree.{DateExpr, date, dateRelative, dateExpressionAfter, dateExpressionBefore, unitRelative}
 use Rattle.expressions.specs.Tree.{relativeWeekday, weekdayRelative, weekdayExpressionBefore, before, after, weekday, empty}
 use Rattle.expressions.specs.declared.expr.Expr.{Expr}
-use Rattle.expressions.specs.declared.expr.Expr.the-variants.{Date as Dated, DateRelative, DateExpressionAfter, DateExpressionBefore, UnitRelative, RelativeWeekday, WeekdayRelative, WeekdayExpressionBefore, Before, After, Weekday, Empty}
+use Rattle.expressions.specs.declared.expr.Expr.the-variants.{Date as Dated, DateRelative, DateExpressionAfter, DateExpressionBefore}
+use Rattle.expressions.specs.declared.expr.Expr.the-variants.{UnitRelative, RelativeWeekday, WeekdayRelative, WeekdayExpressionBefore}
+use Rattle.expressions.specs.declared.expr.Expr.the-variants.{Before, After, Weekday, Empty}
 
 -- a date expression without its duration
 abbrev pub shape : DateExpr → Expr

@@ -1,8 +1,6 @@
-use mathlib.Core.Path.{_∙_, ap}
+use mathlib.Core.Path.{_∙_}
 use native.Mathlib.Omega.{arith}
 use denote.Ref.{now}
-use Rattle.dates.specs.Units.{parsedSpecifier}
-use Rattle.dates.proofs.Laws.{found}
 use Rattle.expressions.specs.DateExprs.{tailOf}
 use Rattle.expressions.proofs.Own.{alone, tail-none}
 use borrow.Author.Needs.{needs}
