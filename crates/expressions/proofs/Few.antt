@@ -12,7 +12,7 @@ use Rattle.numbers.specs.Slices.{isAt}
 use Rattle.numbers.proofs.Places.{at-most, there}
 use Rattle.dates.specs.Parsed.{Parsed, is, ifLet, andThen}
 use Rattle.dates.specs.Units.{unitOf, weekdayOf, relativeSpecifierOf}
-use Rattle.dates.specs.Durations.{Duration, isSubDaily, durationOf}
+use Rattle.dates.specs.Durations.{Duration, into, size, isSubDaily, durationOf}
 use Rattle.dates.specs.Dates.{dateOf}
 use Rattle.dates.specs.declared.date.Date.{Date}
 use Rattle.dates.specs.declared.duration.Parts.{Parts}
@@ -23,14 +23,14 @@ use Rattle.dates.proofs.Durations.{duration-bounds, into-n}
 use Rattle.expressions.specs.Tree.{DateExpr, after}
 use Rattle.expressions.specs.DateExprs.{Tail, relative, ago, inside, stray, inTailOf, durationTailOf, tailOf, withDate, withWeekday}
 use Rattle.expressions.specs.DateExprs.{withDurationOf, relativeExprOf, weekdayExprOf, undatedOf, dateExprOf}
-use Rattle.expressions.specs.Shapes.{ownOf, intoOwn, intoExpr, sizeOwn, sizeExpr, OwnStands}
-use Rattle.expressions.specs.ExprAnswers.{tailPlace, placeLet, tailAt, weekdayPlace, undatedPlace, exprPlace, placeOwn}
+use Rattle.expressions.specs.Shapes.{ownOf, ofOwn, intoExpr, sizeExpr, OwnStands}
+use Rattle.expressions.specs.ExprAnswers.{tailPlace, placeLet, tailAt, weekdayPlace, undatedPlace, exprPlace, placeAt}
 
 -- t lexemes were read of l: three for each part of a duration that stands at p, if there is one
 pub record Read (own : List Duration) (p t : ℕ) (l : List ℕ) : Type 0 where
   pub least : 1 ≤ t
   pub most : t ≤ length l
-  pub few : 3 * sizeOwn own ≤ t
+  pub few : 3 * ofOwn 0 size own ≤ t
   pub within : p ≤ t
   pub stands : OwnStands own (drop p l)
 
@@ -68,7 +68,7 @@ abbrev TailRead : List ℕ → Tail → ℕ → Type 0
 TailRead l x t = Read (ownTail x) (tailPlace (is x t)) t l
 
 abbrev pub ExprRead : List ℕ → ℕ → DateExpr → ℕ → Type 0
-ExprRead l p x t = Read (ownOf x) (placeOwn (ownOf x) p) t l
+ExprRead l p x t = Read (ownOf x) (placeAt p x) t l
 
 in-tail-read : (l : List ℕ) → Each (TailRead l) (inTailOf l)
 unfolding inTailOf
@@ -183,6 +183,6 @@ expr-few l =
 pub into-expr-n : (x : DateExpr) (ps : Parts) → intoExpr x ps .n ≡ ps .n + sizeExpr x
 into-expr-n x ps = go (ownOf x)
   where
-    go : (own : List Duration) → intoOwn own ps .n ≡ ps .n + sizeOwn own
+    go : (own : List Duration) → ofOwn ps (λ dur. into dur ps) own .n ≡ ps .n + ofOwn 0 size own
     go [] = omega arith
     go (dur ∷ none) = into-n dur ps

@@ -1,6 +1,5 @@
 -- The code's answers are those of the definitions, and the duration of a date expression stands at the place that they say.
 use Prim.Native.Nat.{ℕ, _≤_}
-use native.Mathlib.Nat.{add-zero}
 use mathlib.Core.Path.{_≡_, refl, _∙_}
 use mathlib.Core.List.{List, [], _∷_}
 use lib.ListN.{length, drop, drop-of-length-le}
@@ -15,11 +14,9 @@ use Rattle.dates.specs.Durations.{specificOf, articleOf, concreteOf, durationSt
 use Rattle.dates.proofs.Each.{Each}
 use Rattle.dates.proofs.Laws.{Arm, none}
 use Rattle.expressions.specs.Tree.{DateExpr}
-use Rattle.expressions.specs.DateExprs.{stray, inTailOf, durationTailOf, tailOf, dateExprOf}
+use Rattle.expressions.specs.DateExprs.{inTailOf, durationTailOf, tailOf, dateExprOf}
 use Rattle.expressions.specs.Shapes.{ownOf, OwnStands}
-use Rattle.expressions.specs.ExprAnswers.{exprPlace, ownPlace, answerAt, exprAnswer, tailedAnswer, ExprCounted}
-use Rattle.expressions.specs.declared.expr.Head.{Head}
-use Rattle.expressions.specs.declared.expr.Head.the-variants.{Date as Dated, Weekday}
+use Rattle.expressions.specs.ExprAnswers.{exprPlace, ownPlace, answerAt, exprAnswer, ExprCounted}
 use Rattle.expressions.specs.declared.expr.ExprTaken.{ExprTaken}
 use Rattle.expressions.proofs.Few.{ExprRead, expr-few}
 
@@ -36,11 +33,6 @@ counted l p overflow h = record { bounds = tt }
 pub expr-promised : {r : ExprTaken} (l : List ℕ) → r ≡ exprAnswer l (dateExprOf l)
     → (r ≡ exprAnswer l (dateExprOf l)) × ExprCounted r (length l)
 expr-promised l e = (e, rw e (counted l (exprPlace l) (dateExprOf l) (expr-few l)))
-
--- a head alone is a head with a tail of no lexemes that is given up
-pub alone : (h : Head) (t : ℕ) → tailedAnswer h t (is stray 0) ≡ tailedAnswer h t nothing
-alone (Dated d) t = refl
-alone (Weekday w) t = rw add-zero
 
 -- behind the last lexeme stands no tail
 pub tail-none : (l : List ℕ) (t : ℕ) → length l ≤ t → tailOf (drop t l) ≡ nothing

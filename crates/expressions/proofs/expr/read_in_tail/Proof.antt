@@ -6,7 +6,6 @@ use Rattle.numbers.proofs.Places.{there}
 use Rattle.dates.specs.Durations.{durationOf}
 use Rattle.dates.proofs.Durations.{taken-found, taken-read, taken-none, taken-overflow}
 use Rattle.expressions.specs.DateExprs.{inTailOf}
-use Rattle.expressions.proofs.Own.{alone}
 use borrow.Author.Needs.{needs}
 use Rattle.expressions.proofs.expr.read_in_tail.Statement.{statement}
 use Rattle.expressions.proofs.expr.read_in_tail.Tie as tie
@@ -115,9 +114,8 @@ stray-requires-3 c κs = search needs
 returns-5 : tie.Need-returns-5
 unfolding inTailOf
 returns-5 c =
-    let args = c .before .before .before .before .before .args in
     rw (← (c .before .before .before .rest .ensures .0), ← (c .before .before .is-at .ensures .0), c .before .if1 .left)
-    (c .stray3 .ensures 0 (omega arith) ∙ alone (args .h) (args .t))
+    (c .stray3 .ensures 0 (omega arith))
 
 pub read-in-tail-spec : {M : Type 1} → statement M
 read-in-tail-spec =
