@@ -1,3 +1,4 @@
+pub mod Each
 pub mod Laws
 pub mod Bounds
 pub mod Durations

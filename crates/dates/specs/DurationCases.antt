@@ -1,33 +1,21 @@
 -- Worked cases: what `Duration::parse` gives for each row of lexemes, computed.
 use mathlib.Core.Path.{_≡_, refl}
 use mathlib.Core.List.{List, [], _∷_, map}
-use Prim.Native.Nat.{ℕ, _+_}
 use Rattle.lexer.specs.Lexemes as lexeme
 use Rattle.numbers.specs.Slices.{get, isAt, within}
 use Rattle.numbers.specs.Answers.{fitsOf}
 use Rattle.numbers.specs.Numbers.{isEnding, wordOf, literalOf, onesOf, teensOf, tensOf, tensOnesOf, numDoubleOf, sumOf, tailOf, hundredsOf}
 use Rattle.numbers.specs.Numbers.{numTripleOf, numTripleUnitOf, unitsOf, numStep, numOf}
-use Rattle.dates.specs.Parsed.{Parsed, is, nothing, overflow}
+use Rattle.dates.specs.Parsed.{is, nothing, overflow}
 use Rattle.dates.specs.Units.{isArticle, unitOf}
 use Rattle.dates.specs.declared.units.Unit.the-variants.{Day, Week, Hour, Minute, Month, Year}
 use Rattle.dates.specs.declared.duration.Part.the-variants.{Article, Specific}
 use Rattle.dates.specs.Durations.{Duration, part, concat, specificOf, articleOf, concreteOf, durationStep, durationOf}
 use Rattle.numbers.specs.Again.{turns, again}
-
--- a row: the lexemes, and what is read of them
-pub record Case : Type 0 where
-  pub lexemes : List ℕ
-  pub reading : Parsed Duration
-
--- the literal n
-abbrev Num : ℕ → ℕ
-Num n = lexeme.NUM + n
-
-abbrev row : List ℕ → Parsed Duration → Case
-row l r = record { lexemes = l; reading = r }
+use Rattle.dates.specs.Rows.{Row, row, Num}
 
 -- the table
-unfoldable pub cases : List Case
+unfoldable pub cases : List (Row Duration)
 cases =
     -- a number or an article with each unit
     row (Num 5 ∷ lexeme.Day ∷ []) (is (part (Specific Day 5)) 2)

@@ -1,14 +1,14 @@
 -- The code's answer for a date expression: its shape, its count, and the place of its duration among the lexemes that it was read of.
 use Prim.Native.Nat.{ℕ, _+_, _≤_}
-use mathlib.Core.List.{List, [], _∷_}
+use mathlib.Core.List.{List}
 use lib.ListN.{drop}
 use Rattle.dates.specs.Parsed.{Parsed, is, nothing, overflow, ifLet}
 use Rattle.dates.specs.Units.{weekdayOf}
-use Rattle.dates.specs.Durations.{Duration, durationOf}
+use Rattle.dates.specs.Durations.{durationOf}
 use Rattle.dates.specs.Dates.{dateOf}
-use Rattle.expressions.specs.Tree.{DateExpr, date, weekday}
+use Rattle.expressions.specs.Tree.{DateExpr}
 use Rattle.expressions.specs.DateExprs.{Tail, relative, ago, inside, stray, tailOf, withDate, withWeekday}
-use Rattle.expressions.specs.Shapes.{shape, ownOf}
+use Rattle.expressions.specs.Shapes.{shape, ownOf, ofOwn}
 use Rattle.expressions.specs.declared.expr.Head.{Head}
 use Rattle.expressions.specs.declared.expr.Head.the-variants.{Date, Weekday}
 use Rattle.expressions.specs.declared.expr.ExprTaken.{ExprTaken}
@@ -45,18 +45,17 @@ undatedPlace l = placeLet (durationOf l) (λ t. 0) (weekdayPlace l)
 abbrev pub exprPlace : List ℕ → ℕ
 exprPlace l = placeLet (dateOf l) (tailAt l) (undatedPlace l)
 
--- 0 where it has none
-abbrev pub placeOwn : List Duration → ℕ → ℕ
-placeOwn [] p = 0
-placeOwn (dur ∷ none) p = p
+-- p for a date expression with a duration, 0 for one without
+abbrev pub placeAt : ℕ → DateExpr → ℕ
+placeAt p x = ofOwn 0 (λ dur. p) (ownOf x)
 
 -- where the duration of a date expression begins among the lexemes that it was read of
 abbrev pub ownPlace : List ℕ → DateExpr → ℕ
-ownPlace l x = placeOwn (ownOf x) (exprPlace l)
+ownPlace l x = placeAt (exprPlace l) x
 
 -- the code's answer, whose duration begins at p
 abbrev pub answerAt : ℕ → Parsed DateExpr → ExprTaken
-answerAt p (is x t) = Is (shape x) t (placeOwn (ownOf x) p)
+answerAt p (is x t) = Is (shape x) t (placeAt p x)
 answerAt p nothing = Nothing
 answerAt p overflow = Overflow
 
@@ -69,14 +68,9 @@ abbrev pub withHead : Head → ℕ → Tail → ℕ → Parsed DateExpr
 withHead (Date d) t x u = withDate d t x u
 withHead (Weekday w) t x u = withWeekday w t x u
 
--- a head alone
-abbrev pub headAlone : Head → DateExpr
-headAlone (Date d) = date d
-headAlone (Weekday w) = weekday w
-
--- the code's answer for a head of t lexemes and what was read behind it
+-- the code's answer for a head of t lexemes and what was read behind it; alone it is as with a tail of no lexemes that is given up
 abbrev pub tailedAnswer : Head → ℕ → Parsed Tail → ExprTaken
-tailedAnswer h t p = answerAt (t + tailPlace p) (ifLet p (withHead h t) (is (headAlone h) t))
+tailedAnswer h t p = answerAt (t + tailPlace p) (ifLet p (withHead h t) (withHead h t stray 0))
 
 -- the bounds of `ExprCounted`
 abbrev pub ExprBounds : ExprTaken → ℕ → Type 0

@@ -11,7 +11,9 @@ use Rattle.dates.specs.declared.units.Unit.the-variants.{Day}
 use Rattle.expressions.specs.Tree.{DateExpr, date, dateRelative, dateExpressionAfter, dateExpressionBefore, unitRelative}
 use Rattle.expressions.specs.Tree.{relativeWeekday, weekdayRelative, weekdayExpressionBefore, before, after, weekday, empty}
 use Rattle.expressions.specs.declared.expr.Expr.{Expr}
-use Rattle.expressions.specs.declared.expr.Expr.the-variants.{Date as Dated, DateRelative, DateExpressionAfter, DateExpressionBefore, UnitRelative, RelativeWeekday, WeekdayRelative, WeekdayExpressionBefore, Before, After, Weekday, Empty}
+use Rattle.expressions.specs.declared.expr.Expr.the-variants.{Date as Dated, DateRelative, DateExpressionAfter, DateExpressionBefore}
+use Rattle.expressions.specs.declared.expr.Expr.the-variants.{UnitRelative, RelativeWeekday, WeekdayRelative, WeekdayExpressionBefore}
+use Rattle.expressions.specs.declared.expr.Expr.the-variants.{Before, After, Weekday, Empty}
 
 -- a date expression without its duration
 abbrev pub shape : DateExpr → Expr
@@ -58,29 +60,22 @@ exprFrom (After d) dur = after dur d
 exprFrom (Weekday w) dur = weekday w
 exprFrom Empty dur = empty
 
-abbrev pub hasAny : List Duration → Bool
-hasAny [] = false
-hasAny (dur ∷ none) = true
+-- z where there is no duration, and f of it where there is one
+abbrev pub ofOwn : {A : Type 0} → A → (Duration → A) → List Duration → A
+ofOwn z f [] = z
+ofOwn z f (dur ∷ none) = f dur
 
 -- whether a duration belongs to it: "a day", given to it, is its own
 abbrev pub hasDuration : Expr → Bool
-hasDuration e = hasAny (ownOf (exprFrom e (part (Article Day))))
-
-abbrev pub intoOwn : List Duration → Parts → Parts
-intoOwn [] ps = ps
-intoOwn (dur ∷ none) ps = into dur ps
+hasDuration e = ofOwn false (λ dur. true) (ownOf (exprFrom e (part (Article Day))))
 
 -- the parts of its duration, where it has one, behind those of a row
 abbrev pub intoExpr : DateExpr → Parts → Parts
-intoExpr x ps = intoOwn (ownOf x) ps
-
-abbrev pub sizeOwn : List Duration → ℕ
-sizeOwn [] = 0
-sizeOwn (dur ∷ none) = size dur
+intoExpr x ps = ofOwn ps (λ dur. into dur ps) (ownOf x)
 
 -- how many parts its duration has
 abbrev pub sizeExpr : DateExpr → ℕ
-sizeExpr x = sizeOwn (ownOf x)
+sizeExpr x = ofOwn 0 size (ownOf x)
 
 -- a duration stands at the front of lexemes
 pub record Stands (dur : Duration) (l : List ℕ) : Type 0 where

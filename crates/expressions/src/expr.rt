@@ -69,13 +69,7 @@ pub fn has_duration(e: Expr) -> bool
         | Expr::WeekdayExpressionBefore(_)
         | Expr::Before(_)
         | Expr::After(_) => true,
-        Expr::Date(_)
-        | Expr::DateRelative(_, _, _)
-        | Expr::UnitRelative(_, _)
-        | Expr::RelativeWeekday(_, _)
-        | Expr::WeekdayRelative(_, _, _)
-        | Expr::Weekday(_)
-        | Expr::Empty => false,
+        _ => false,
     }
 }
 

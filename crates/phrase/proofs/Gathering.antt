@@ -26,7 +26,8 @@ use Rattle.phrase.specs.declared.reading.Reading.{Reading}
 use Rattle.phrase.specs.declared.gather.Gathered.{Gathered}
 use Rattle.phrase.specs.declared.date_time.Count.{Count}
 use Rattle.phrase.specs.declared.date_time.Outline.{Outline}
-use Rattle.phrase.proofs.Stands.{Each, LinkStands, TreeStands, TreeHolds, link-taken, date-time-holds}
+use Rattle.dates.proofs.Each.{Each}
+use Rattle.phrase.proofs.Stands.{LinkStands, TreeStands, TreeHolds, link-taken, date-time-holds}
 use Rattle.phrase.proofs.Turns.{around-outline}
 use Rattle.phrase.proofs.Decoded.{some}
 
@@ -45,11 +46,11 @@ pub record Gathering (l : List ℕ) (k : Count) (o : Outline) (goal : Reading) (
   pub few : i ≤ ps .n
 
 -- nothing yet
-pub begin : (l : List ℕ) {o : Outline} → length l ≤ 64 → let w = kept (length l) (dateTimeOf l) in
+pub begin : (l : List ℕ) (n : ℕ) {o : Outline} → length l ≤ 64 → let w = kept n (dateTimeOf l) in
     o ≡ outlineAnswer l w → Gathering l (countOf w) o (flat (treeIn w)) (blank .parts) (blank .links) 0 0
-begin l h answer =
+begin l n h answer =
     record {
-      left = treeIn (kept (length l) (dateTimeOf l));
+      left = treeIn (kept n (dateTimeOf l));
       stands = go (dateTimeOf l) (date-time-holds l);
       outlined = rw answer;
       flattened = refl;
@@ -58,12 +59,12 @@ begin l h answer =
       few = omega arith;
     }
   where
-    go : (w : Parsed DateTime) → Each (TreeHolds l) w → TreeStands l (treeIn (kept (length l) w))
-    go (is x t) h = only (ltb t (length l))
+    go : (w : Parsed DateTime) → Each (TreeHolds l) w → TreeStands l (treeIn (kept n w))
+    go (is x t) h = only (ltb t n)
       where
         only : (b : Bool) → TreeStands l (cond b now x)
         only true = tt
-        only false = h .says .stands
+        only false = h .bounds .stands
     go nothing h = tt
     go overflow h = tt
 

@@ -1,7 +1,7 @@
 -- A phrase read whole: what reading takes of lexing, where the offending part stands, and what a reading stands for.
 use Prim.Native.Nat.{ℕ, _≤_}
 use native.Mathlib.Omega.{arith}
-use mathlib.Core.Path.{_≡_, refl, ap, sym}
+use mathlib.Core.Path.{_≡_, refl, ap, sym, _∙_}
 use mathlib.Core.Bool.{Bool, true, false, cond}
 use mathlib.Core.List.{List, []}
 use lib.Dec.{ltb}
@@ -19,32 +19,14 @@ use Rattle.phrase.specs.Tree.{DateTime, now}
 use Rattle.phrase.specs.DateTimes.{dateTimeOf}
 use Rattle.phrase.specs.Flat.{flat, blank, treeOf, sizeTree}
 use Rattle.phrase.specs.Outlines.{countOf, treeIn, kept, gathered}
-use Rattle.phrase.specs.Refusals.{NothingRead, SumTooLarge, LexemesLeft}
-use Rattle.phrase.specs.Read.{ReadPhrase, refusal, tree, readCodes, readLexed, readOf, endedRead, judgedOf, phraseAnswer, placeOf, offendingOf}
-use Rattle.phrase.specs.declared.date_time.Count.{Count}
-use Rattle.phrase.specs.declared.date_time.Count.the-variants.{Is, Nothing, Overflow}
+use Rattle.phrase.specs.Refusals.{LexemesLeft}
+use Rattle.phrase.specs.Read.{ReadPhrase, refusal, tree, readCodes, readLexed, readOf, refusedEnd, countEnded, judgedOf, phraseAnswer, placeOf, offendingOf}
 use Rattle.phrase.specs.declared.gather.Gathered.{Gathered}
 use Rattle.phrase.specs.declared.reading.Reading.{Reading}
 use Rattle.phrase.specs.declared.read.PhraseRead.{PhraseRead}
-use Rattle.phrase.proofs.Stands.{Each, TreeHolds, date-time-holds}
+use Rattle.dates.proofs.Each.{Each}
+use Rattle.phrase.proofs.Stands.{TreeHolds, date-time-holds}
 use Rattle.phrase.proofs.Decoded.{tree-count, decoded}
-
--- how reading ended, by the count that the code has of it
-abbrev countEnded : Count → ℕ → List ℕ → ℕ → Ended
-countEnded (Is t) count starts n = endedRead (cond (ltb t count) (refusal LexemesLeft (getD starts t 0) n) (tree now t))
-countEnded Nothing count starts n = endedRead (refusal NothingRead 0 0)
-countEnded Overflow count starts n = endedRead (refusal SumTooLarge 0 0)
-
-pub count-ended : (w : Parsed DateTime) {k : Count} (count : ℕ) (starts : List ℕ) (n : ℕ) → k ≡ countOf w →
-    endedRead (readCodes w count starts n) ≡ countEnded k count starts n
-count-ended (is x t) count starts n e = rw e (go (ltb t count))
-  where
-    go : (b : Bool) → endedRead (cond b (refusal LexemesLeft (getD starts t 0) n) (tree x t))
-        ≡ endedRead (cond b (refusal LexemesLeft (getD starts t 0) n) (tree now t))
-    go true = refl
-    go false = refl
-count-ended nothing count starts n e = rw e
-count-ended overflow count starts n e = rw e
 
 -- the code's answer, from how reading ended
 abbrev pub answerOf : Ended → Reading → PhraseRead
@@ -52,10 +34,11 @@ answerOf r x = record { reading = x; number = r .number; place = r .place; end =
 
 -- of n lexemes, read as w
 codes-answer : (w : Parsed DateTime) (count n : ℕ) (starts : List ℕ) →
-    answerOf (endedRead (readCodes w count starts n)) (flat (treeIn (kept count w))) ≡ phraseAnswer (readCodes w count starts n)
+    answerOf (countEnded (countOf w) count starts n) (flat (treeIn (kept count w))) ≡ phraseAnswer (readCodes w count starts n)
 codes-answer (is x t) count n starts = go (ltb t count)
   where
-    go : (b : Bool) → answerOf (endedRead (cond b (refusal LexemesLeft (getD starts t 0) n) (tree x t))) (flat (cond b now x))
+    go : (b : Bool) →
+        answerOf (cond b (refusedEnd LexemesLeft (getD starts t 0) n) (record { number = 0; place = 0; end = 0; count = t })) (flat (cond b now x))
         ≡ phraseAnswer (cond b (refusal LexemesLeft (getD starts t 0) n) (tree x t))
     go true = refl
     go false = refl
@@ -64,7 +47,7 @@ codes-answer overflow count n starts = refl
 
 -- of no lexemes nothing is kept
 none-kept : (w : Parsed DateTime) → Each (TreeHolds []) w → treeIn (kept 0 w) ≡ now
-none-kept (is x t) h = let one = h .says .one in let most = h .says .most in absurd (omega arith)
+none-kept (is x t) h = let one = h .bounds .one in let most = h .bounds .most in absurd (omega arith)
 none-kept nothing h = refl
 none-kept overflow h = refl
 
@@ -94,7 +77,7 @@ module _ (s : List ℕ) where
   abbrev lineRead : Ended → List Item → PhraseRead
   lineRead line items =
       let w = dateTimeOf (take (line .count) (sets (replicate 64 0) 0 (codesOf items))) in
-      answerOf (judgedOf line w (sets (replicate 64 0) 0 (startsOf items)) (length s)) (flat (treeIn (kept (line .count) w)))
+      answerOf (judgedOf line (countOf w) (sets (replicate 64 0) 0 (startsOf items)) (length s)) (flat (treeIn (kept (line .count) w)))
 
   line-answered : lineRead (endedOf (lexed keywords s)) (front keywords s) ≡ phraseAnswer (readOf keywords s)
   unfolding readOf
@@ -106,11 +89,11 @@ module _ (s : List ℕ) where
       go (whole items) same h most =
           let count = (rw same at most) .count-most in
           let codes = length-map items (λ (i : Item). i .code) in
-          rw (
-            front-whole keywords s items same,
-            sets-taken (codesOf items) (replicate 64 0) (omega arith) (length items) codes,
-            starts-stored items (replicate 64 0) count (length s) (dateTimeOf (codesOf items)),
-          ) (codes-answer (dateTimeOf (codesOf items)) (length items) (length s) (startsOf items))
+          let w = dateTimeOf (codesOf items) in
+          rw (front-whole keywords s items same, sets-taken (codesOf items) (replicate 64 0) (omega arith) (length items) codes) (
+          codes-answer w (length items) (length s) (sets (replicate 64 0) 0 (startsOf items))
+          ∙ ap phraseAnswer (starts-stored items (replicate 64 0) count (length s) w)
+          )
 
   -- the codes are as many as the lexemes, and there is room for them
   pub codes-stored : {line : Ended} {codes : List ℕ} → line ≡ endedOf (lexed keywords s) →
@@ -123,12 +106,13 @@ module _ (s : List ℕ) where
 
   pub read-answered : {line r : Ended} {codes starts : List ℕ} {x : Gathered} → line ≡ endedOf (lexed keywords s) →
       codes ≡ sets (replicate 64 0) 0 (codesOf (front keywords s)) → starts ≡ sets (replicate 64 0) 0 (startsOf (front keywords s)) →
-      x ≡ gathered (kept (length (take (line .count) codes)) (dateTimeOf (take (line .count) codes))) →
-      ((w : Parsed DateTime) → x .taken ≡ countOf w → r ≡ judgedOf line w starts (length s)) →
+      x ≡ gathered (kept (line .count) (dateTimeOf (take (line .count) codes))) →
+      r ≡ judgedOf line (x .taken) starts (length s) →
       answerOf r (x .reading) ≡ phraseAnswer (readOf keywords s)
-  read-answered {line} {r} {codes} e f g gives ends =
+  read-answered {line} {r} {codes} {starts} {x} e f g gives ends =
       let w = dateTimeOf (take (line .count) codes) in
-      rw (ends w (rw gives (kept-count (length (take (line .count) codes)) w)), gives, codes-stored e f .1, e, f, g) line-answered
+      let count : x .taken ≡ countOf w = rw gives (kept-count (line .count) w) in
+      rw (ends, count, gives, e, f, g) line-answered
 
 -- the offending part begins and ends within the first n bytes
 abbrev Within : ℕ → ReadPhrase → Type 0
@@ -202,7 +186,7 @@ module _ (s : List ℕ) (items : List Item) (lexemes : lexed keywords s ≡ whol
       go false h =
           let same = length-map items (λ (i : Item). i .code) in
           let left = ltb-false t (length items) h in
-          let took = (rw e at (date-time-holds (codesOf items))) .says in
+          let took = (rw e at (date-time-holds (codesOf items))) .bounds in
           let parts : sizeTree x ≤ 21 = omega arith in
           let count = tree-count x blank in
           record {

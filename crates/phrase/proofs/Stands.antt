@@ -10,9 +10,10 @@ use Rattle.lexer.specs.Lexemes as lexeme
 use Rattle.numbers.specs.Slices.{isAt, oneIf}
 use Rattle.numbers.proofs.Again.{again-keeps}
 use Rattle.numbers.proofs.Places.{at-most, there}
-use Rattle.dates.specs.Parsed.{Parsed, is, nothing, overflow, pick, ifLet, andThen, Took}
+use Rattle.dates.specs.Parsed.{Parsed, is, nothing, Took}
 use Rattle.dates.specs.Durations.{Duration, size, durationOf}
 use Rattle.dates.specs.Times.{timeOf}
+use Rattle.dates.proofs.Each.{Each, pick-each, then-each, if-let-each}
 use Rattle.dates.proofs.Laws.{found, if-let-took}
 use Rattle.dates.proofs.Bounds.{time-took}
 use Rattle.dates.proofs.Durations.{duration-bounds}
@@ -21,37 +22,11 @@ use Rattle.expressions.specs.DateExprs.{dateExprOf}
 use Rattle.expressions.specs.Shapes.{ownOf, OwnStands}
 use Rattle.expressions.specs.ExprAnswers.{ownPlace}
 use Rattle.expressions.proofs.Few.{expr-few}
-use Rattle.expressions.proofs.Own.{own-stands, expr-promised}
 use Rattle.phrase.specs.Tree.{DateTime, dateTime, timeDate, durationAfter, durationBefore, now, around}
 use Rattle.phrase.specs.DateTimes.{Turn, whole, ago, link, commaOr, timeBehindOf, withDurationOf, timedTurnOf, undatedTurnOf, turnOf}
 use Rattle.phrase.specs.DateTimes.{againOf, dateTimeStep, dateTimeOf}
 use Rattle.phrase.specs.Flat.{sizeTree}
 use Rattle.phrase.specs.Outlines.{linkTaken, timeTaken, isBack}
-
-abbrev Says : {A : Type 0} → (A → ℕ → Type 0) → Parsed A → Type 0
-Says P (is v t) = P v t
-Says P nothing = Unit
-Says P overflow = Unit
-
--- what holds of a value that was read and its count, if one was read
-pub record Each {A : Type 0} (P : A → ℕ → Type 0) (w : Parsed A) : Type 0 where
-  pub says : Says P w
-
-module _ {A : Type 0} {P : A → ℕ → Type 0} where
-  pick-each : (b : Bool) {x y : Parsed A} → (b ≡ true → Each P x) → (b ≡ false → Each P y) → Each P (pick b x y)
-  pick-each true f g = f refl
-  pick-each false f g = g refl
-
-  then-each : {B : Type 0} (w : Parsed B) (f : B → ℕ → Parsed A) → ((v : B) (t : ℕ) → w ≡ is v t → Each P (f v t)) → Each P (andThen w f)
-  then-each (is v t) f g = g v t refl
-  then-each nothing f g = record { says = tt }
-  then-each overflow f g = record { says = tt }
-
-  if-let-each : {B : Type 0} (w : Parsed B) (f : B → ℕ → Parsed A) (b : Parsed A) →
-      ((v : B) (t : ℕ) → w ≡ is v t → Each P (f v t)) → Each P b → Each P (ifLet w f b)
-  if-let-each (is v t) f b g h = g v t refl
-  if-let-each nothing f b g h = h
-  if-let-each overflow f b g h = record { says = tt }
 
 -- a link of t lexemes: its duration at the front of l, and its direction behind that
 pub record LinkStands (l : List ℕ) (back : Bool) (dur : Duration) (t : ℕ) : Type 0 where
@@ -130,8 +105,8 @@ time-behind-took t l h =
 -- the duration of a date expression
 expr-base : (l : List ℕ) (x : DateExpr) (t : ℕ) → dateExprOf l ≡ is x t → BaseStands (ownOf x) (ownPlace l x) l
 expr-base l x t e =
-    let b = (rw e at (expr-promised l refl .1)) .bounds in
-    record { stands = own-stands l x t e; within = omega arith }
+    let b = (rw e at (expr-few l)) .bounds in
+    record { stands = b .stands; within = omega arith }
 
 -- the same from s lexemes before on
 further : (own : List Duration) (p s : ℕ) (l : List ℕ) → s ≤ length l → BaseStands own p (drop s l) → BaseStands own (s + p) l
@@ -150,7 +125,7 @@ timed-holds l =
     let left = length-drop s l in
     if-let-each (dateExprOf (drop s l)) _ _
     (λ x u f. let k = (rw f at (expr-few (drop s l))) .bounds in record {
-      says = record {
+      bounds = record {
         one = omega arith;
         most = omega arith;
         few = omega arith;
@@ -158,7 +133,7 @@ timed-holds l =
       };
     })
     (record {
-      says = record {
+      bounds = record {
         one = omega arith;
         most = omega arith;
         few = omega arith;
@@ -174,7 +149,7 @@ module _ (l : List ℕ) (dur : Duration) (t : ℕ) (e : durationOf l ≡ is dur 
       let some = there (at-most l t word) h in
       let b = duration-bounds l e in
       record {
-        says = record {
+        bounds = record {
           one = omega arith;
           most = omega arith;
           few = omega arith;
@@ -189,7 +164,7 @@ module _ (l : List ℕ) (dur : Duration) (t : ℕ) (e : durationOf l ≡ is dur 
       (λ a. pick-each (isAt l t lexeme.From) (λ b. behind (link false dur) false lexeme.From b (rw (a, b)) refl (λ s. s))
       (λ b. pick-each (isAt l t lexeme.Before) (λ c. behind (link true dur) true lexeme.Before c (rw (a, b)) refl (λ s. s))
       (λ c. pick-each (isAt l t lexeme.Ago) (λ d. behind (ago dur) true lexeme.Ago d (rw (a, b)) refl (λ s. s))
-      (λ d. record { says = tt }))))
+      (λ d. record { bounds = tt }))))
 
 undated-holds : (l : List ℕ) → Each (TurnHolds l) (undatedTurnOf l)
 unfolding undatedTurnOf
@@ -201,12 +176,12 @@ unfolding turnOf
 turn-holds l =
     pick-each (isAt l 0 lexeme.Now)
     (λ e. let some = there (at-most l 0 lexeme.Now) e in record {
-      says = record { one = omega arith; most = omega arith; few = omega arith; stands = (tt, tt) };
+      bounds = record { one = omega arith; most = omega arith; few = omega arith; stands = (tt, tt) };
     })
     (λ e. if-let-each (dateExprOf l) _ _
     (λ x t f. let b = (rw f at (expr-few l)) .bounds in
     then-each (timeBehindOf t l) _ (λ time n g. let k = found g (time-behind-took t l (omega arith)) in record {
-      says = record { one = omega arith; most = omega arith; few = omega arith; stands = (expr-base l x t f, tt) };
+      bounds = record { one = omega arith; most = omega arith; few = omega arith; stands = (expr-base l x t f, tt) };
     }))
     (undated-holds l))
 
@@ -226,22 +201,22 @@ around-size false dur x = refl
 
 step-holds : (D : List ℕ → Parsed DateTime) → ((m : List ℕ) → Each (TreeHolds m) (D m)) → (l : List ℕ) → Each (TreeHolds l) (dateTimeStep D l)
 unfolding dateTimeStep
-step-holds D holds l = then-each (turnOf l) _ (λ x t e. go x t ((rw e at (turn-holds l)) .says))
+step-holds D holds l = then-each (turnOf l) _ (λ x t e. go x t ((rw e at (turn-holds l)) .bounds))
   where
     go : (x : Turn) (t : ℕ) → TurnHolds l x t → Each (TreeHolds l) (againOf D l x t)
-    go (whole x) t h = record { says = record { one = h .one; most = h .most; few = h .few; stands = h .stands .0 } }
+    go (whole x) t h = record { bounds = record { one = h .one; most = h .most; few = h .few; stands = h .stands .0 } }
     go (ago dur) t h =
         let few = h .few in
         record {
-          says = record { one = h .one; most = h .most; few = omega arith; stands = around-stands true dur now l t (h .stands) (h .most) tt };
+          bounds = record { one = h .one; most = h .most; few = omega arith; stands = around-stands true dur now l t (h .stands) (h .most) tt };
         }
     go (link back dur) t h =
         then-each (D (drop t l)) _ (λ x u e.
-        let k = (rw e at (holds (drop t l))) .says in
+        let k = (rw e at (holds (drop t l))) .bounds in
         let left = length-drop t l in
         let same = around-size back dur x in
         record {
-          says = record {
+          bounds = record {
             one = omega arith;
             most = omega arith;
             few = omega arith;
@@ -252,4 +227,4 @@ step-holds D holds l = then-each (turnOf l) _ (λ x t e. go x t ((rw e at (turn-
 -- a whole tree
 pub date-time-holds : (l : List ℕ) → Each (TreeHolds l) (dateTimeOf l)
 unfolding dateTimeOf
-date-time-holds l = again-keeps nothing dateTimeStep (λ m w. Each (TreeHolds m) w) (λ m. record { says = tt }) step-holds l
+date-time-holds l = again-keeps nothing dateTimeStep (λ m w. Each (TreeHolds m) w) (λ m. record { bounds = tt }) step-holds l

@@ -5,6 +5,7 @@ use mathlib.Core.Path.{_≡_, refl, ap, _∙_}
 use mathlib.Core.Bool.{Bool, true, false}
 use mathlib.Core.List.{List, [], _∷_}
 use lib.ListN.{length, drop, length-drop}
+use lib.Seq.{drop-drop}
 use types.Run.{OneOf}
 use denote.Enum.Declared.{tagOf}
 use Rattle.lexer.specs.Lexemes as lexeme
@@ -39,7 +40,8 @@ use Rattle.phrase.specs.declared.date_time.Outline.{Outline}
 use Rattle.phrase.specs.declared.date_time.Turn.{Turn as TurnTaken}
 use Rattle.phrase.specs.declared.date_time.Turn.the-variants.{Whole, Ago, Link, Nothing as NoTurn, Overflow as TurnOverflow}
 use Rattle.phrase.proofs.date_time.Count.{the-type as count-type}
-use Rattle.phrase.proofs.Stands.{Each, TurnHolds, Bare, turn-holds, link-taken}
+use Rattle.dates.proofs.Each.{Each}
+use Rattle.phrase.proofs.Stands.{TurnHolds, Bare, turn-holds, link-taken}
 
 step-agree : (D E : List ℕ → Parsed DateTime) (l : List ℕ) → ((m : List ℕ) → length m < length l → D m ≡ E m) → dateTimeStep D l ≡ dateTimeStep E l
 unfolding dateTimeStep
@@ -49,8 +51,8 @@ step-agree D E l agree = go (turnOf l) (turn-holds l)
     go (is (whole x) t) h = refl
     go (is (ago dur) t) h = refl
     go (is (link back dur) t) h =
-        let b = h .says .one in
-        let most = h .says .most in
+        let b = h .bounds .one in
+        let most = h .bounds .most in
         rw (agree (drop t l) (let left = length-drop t l in omega arith))
     go nothing h = refl
     go overflow h = refl
@@ -66,11 +68,20 @@ linked m at l (is x u) = outline (Is (at + u)) m l x
 linked m at l nothing = outline Nothing 0 l now
 linked m at l overflow = outline Overflow 0 l now
 
--- from the front on
-pub unlinked : (l : List ℕ) (w : Parsed DateTime) → outlineAnswer l w ≡ linked 0 0 l w
-unlinked l (is x t) = let e : 0 + t ≡ t = omega arith in rw e
-unlinked l nothing = refl
-unlinked l overflow = refl
+-- m links of at lexemes are passed
+pub record Turning (l : List ℕ) (at m : ℕ) : Type 0 where
+  pub outlined : outlineAnswer l (dateTimeOf l) ≡ linked m at (drop at l) (dateTimeOf (drop at l))
+  pub within : at ≤ length l
+  pub few : m ≤ at
+
+-- none yet
+pub unlinked : (l : List ℕ) → Turning l 0 0
+unlinked l = record { outlined = go (dateTimeOf l); within = omega arith; few = omega arith }
+  where
+    go : (w : Parsed DateTime) → outlineAnswer l w ≡ linked 0 0 l w
+    go (is x t) = let e : 0 + t ≡ t = omega arith in rw e
+    go nothing = refl
+    go overflow = refl
 
 -- a base is the same with other links and another count
 whole-outline : (x : DateTime) → Bare x → (l : List ℕ) (k j : Count) (m n : ℕ) →
@@ -86,47 +97,64 @@ pub around-outline : (back : Bool) (dur : Duration) (x : DateTime) (k : Count) (
 around-outline true dur x k m l = refl
 around-outline false dur x k m l = refl
 
--- what the code's answer for a turn says of the outline, within n lexemes
-abbrev Said : ℕ → List ℕ → ℕ → ℕ → Parsed DateTime → TurnTaken → Type 0
-Said n l at m w (Whole b time own t) =
-    (linked m at l w ≡ record { taken = Is (at + t); base = b; time = time; own = own; m = m }) × (1 ≤ t) × (at + t ≤ n)
-Said n l at m w (Ago t) =
-    (linked m at l w ≡ record { taken = Is (at + t); base = Now; time = Empty; own = 0; m = m + 1 }) × (1 ≤ t) × (at + t ≤ n)
-Said n l at m w (Link t) =
-    (linked m at l w ≡ linked (m + 1) (at + t) (drop t l) (dateTimeOf (drop t l))) × (1 ≤ t) × (at + t ≤ n)
-Said n l at m w NoTurn = linked m at l w ≡ outline Nothing 0 l now
-Said n l at m w TurnOverflow = linked m at l w ≡ outline Overflow 0 l now
+-- what the code's answer for a turn says of the outline
+abbrev Said : List ℕ → ℕ → ℕ → TurnTaken → Type 0
+Said l at m (Whole b time own t) =
+    (outlineAnswer l (dateTimeOf l) ≡ record { taken = Is (at + t); base = b; time = time; own = own; m = m }) × (at + t ≤ length l)
+Said l at m (Ago t) =
+    (outlineAnswer l (dateTimeOf l) ≡ record { taken = Is (at + t); base = Now; time = Empty; own = 0; m = m + 1 })
+    × (at + t ≤ length l)
+    × (m < at + t)
+Said l at m (Link t) = Turning l (at + t) (m + 1) × (1 ≤ t)
+Said l at m NoTurn = outlineAnswer l (dateTimeOf l) ≡ outline Nothing 0 [] now
+Said l at m TurnOverflow = outlineAnswer l (dateTimeOf l) ≡ outline Overflow 0 [] now
 
-turn-said : (n : ℕ) (l : List ℕ) (at m : ℕ) → at + length l ≡ n → Said n l at m (dateTimeOf l) (turnAnswer l (turnOf l))
-unfolding dateTimeStep
-turn-said n l at m all = rw (date-time-is l) (go (turnOf l) (turn-holds l))
-  where
-    behind : (back : Bool) (dur : Duration) (t : ℕ) → linkTaken l ≡ t → (w : Parsed DateTime) →
-        linked m at l (andThen w (λ x u. is (around back dur x) (t + u))) ≡ linked (m + 1) (at + t) (drop t l) w
-    behind back dur t e (is x u) =
-        let same : at + (t + u) ≡ at + t + u = omega arith in
-        rw (around-outline back dur x (Is (at + (t + u))) m l, e, same)
-    behind back dur t e nothing = refl
-    behind back dur t e overflow = refl
+module _ {l : List ℕ} {at m : ℕ} (g : Turning l at m) where
+  abbrev left : List ℕ
+  left = drop at l
 
-    within : {x : Turn} {t : ℕ} → TurnHolds l x t → (1 ≤ t) × (at + t ≤ n)
-    within h = let one = h .one in let most = h .most in (omega arith, omega arith)
+  behind : (back : Bool) (dur : Duration) (t : ℕ) → linkTaken left ≡ t → (w : Parsed DateTime) →
+      linked m at left (andThen w (λ x u. is (around back dur x) (t + u))) ≡ linked (m + 1) (at + t) (drop t left) w
+  behind back dur t e (is x u) =
+      let same : at + (t + u) ≡ at + t + u = omega arith in
+      rw (around-outline back dur x (Is (at + (t + u))) m left, e, same)
+  behind back dur t e nothing = refl
+  behind back dur t e overflow = refl
 
-    go : (w : Parsed Turn) → Each (TurnHolds l) w → Said n l at m (andThen w (againOf dateTimeOf l)) (turnAnswer l w)
-    go (is (whole x) t) h =
-        let b = within (h .says) in (whole-outline x (h .says .stands .1) l (Is (at + t)) (Is t) m 0, b .0, b .1)
-    go (is (ago dur) t) h = let b = within (h .says) in (refl, b .0, b .1)
-    go (is (link back dur) t) h =
-        let b = within (h .says) in (behind back dur t (link-taken (h .says .stands)) (dateTimeOf (drop t l)), b .0, b .1)
-    go nothing h = refl
-    go overflow h = refl
+  turn-said : (w : Parsed Turn) → Each (TurnHolds left) w →
+      outlineAnswer l (dateTimeOf l) ≡ linked m at left (andThen w (againOf dateTimeOf left)) → Said l at m (turnAnswer left w)
+  turn-said (is x t) h e = go x (h .bounds) e
+    where
+      go : (x : Turn) → TurnHolds left x t → outlineAnswer l (dateTimeOf l) ≡ linked m at left (againOf dateTimeOf left x t) →
+          Said l at m (turnAnswer left (is x t))
+      go (whole x) h e =
+          let most = h .most in
+          let all = length-drop at l in
+          let within = g .within in
+          (e ∙ whole-outline x (h .stands .1) left (Is (at + t)) (Is t) m 0, omega arith)
+      go (ago dur) h e =
+          let one = h .one in
+          let most = h .most in
+          let all = length-drop at l in
+          let within = g .within in
+          let few = g .few in
+          (e, omega arith, omega arith)
+      go (link back dur) h e =
+          let one = h .one in
+          let most = h .most in
+          let all = length-drop at l in
+          let within = g .within in
+          let few = g .few in
+          let more = e ∙ behind back dur t (link-taken (h .stands)) (dateTimeOf (drop t left)) in
+          (record { outlined = rw (drop-drop t at l) at more; within = omega arith; few = omega arith }, one)
+  turn-said nothing h e = e
+  turn-said overflow h e = e
 
--- what a turn that the code took apart says, at the place at
-pub turn-learnt : (l : List ℕ) (at m : ℕ) → at ≤ length l → {left : List ℕ} {r z : TurnTaken} →
-    left ≡ drop at l → r ≡ turnAnswer left (turnOf left) → r ≡ z → Said (length l) (drop at l) at m (dateTimeOf (drop at l)) z
-turn-learnt l at m h same answer e =
-    let left = length-drop at l in
-    rw (← e, answer, same) (turn-said (length l) (drop at l) at m (omega arith))
+  -- what a turn that the code took apart says
+  pub turn-learnt : {n : List ℕ} {r z : TurnTaken} → n ≡ drop at l → r ≡ turnAnswer n (turnOf n) → r ≡ z → Said l at m z
+  unfolding dateTimeStep
+  turn-learnt same answer e =
+      rw (← e, answer, same) (turn-said (turnOf left) (turn-holds left) (g .outlined ∙ ap (linked m at left) (date-time-is left)))
 
 -- an outline has the count of what was read
 outline-count : (x : DateTime) (k : Count) (m : ℕ) (l : List ℕ) → outline k m l x .taken ≡ k

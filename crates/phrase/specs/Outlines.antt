@@ -72,7 +72,7 @@ turnAnswer l (is (link back dur) t) = Link t
 turnAnswer l nothing = NoTurn
 turnAnswer l overflow = TurnOverflow
 
--- what is kept of a reading of n lexemes: the tree only where all of them are taken
+-- what is kept of a reading: the tree only where at least n lexemes are taken
 abbrev pub kept : ℕ → Parsed DateTime → Parsed DateTime
 kept n (is x t) = is (cond (ltb t n) now x) t
 kept n nothing = nothing

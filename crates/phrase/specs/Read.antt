@@ -12,6 +12,8 @@ use Rattle.phrase.specs.Tree.{DateTime}
 use Rattle.phrase.specs.DateTimes.{dateTimeOf}
 use Rattle.phrase.specs.Flat.{flat, blank}
 use Rattle.phrase.specs.Refusals.{NothingRead, SumTooLarge, LexemesLeft}
+use Rattle.phrase.specs.declared.date_time.Count.{Count}
+use Rattle.phrase.specs.declared.date_time.Count.the-variants.{Is, Nothing, Overflow}
 use Rattle.phrase.specs.declared.read.PhraseRead.{PhraseRead}
 
 -- a refusal's number, place and end of the part; or the tree and the lexemes taken
@@ -34,14 +36,20 @@ readLexed (whole items) n = readCodes (dateTimeOf (codesOf items)) (length items
 unfoldable pub readOf : List Word → List ℕ → ReadPhrase
 readOf ws s = readLexed (lexed ws s) (length s)
 
--- how reading ended, in the form of the lexer's answer: number 0 and the lexemes taken, or a refusal
-abbrev pub endedRead : ReadPhrase → Ended
-endedRead (refusal k a e) = record { number = k; place = a; end = e; count = 0 }
-endedRead (tree x t) = record { number = 0; place = 0; end = 0; count = t }
+-- a refusal in the form of the lexer's answer
+abbrev pub refusedEnd : ℕ → ℕ → ℕ → Ended
+refusedEnd k a e = record { number = k; place = a; end = e; count = 0 }
 
--- the lexer's refusal, or how the reading w of its lexemes ended
-abbrev pub judgedOf : Ended → Parsed DateTime → List ℕ → ℕ → Ended
-judgedOf line w starts n = cond (eqb (line .number) 0) (endedRead (readCodes w (line .count) starts n)) line
+-- how the reading of so many lexemes ended, by those that it took: as in `readCodes`
+abbrev pub countEnded : Count → ℕ → List ℕ → ℕ → Ended
+countEnded (Is t) count starts n =
+    cond (ltb t count) (refusedEnd LexemesLeft (getD starts t 0) n) (record { number = 0; place = 0; end = 0; count = t })
+countEnded Nothing count starts n = refusedEnd NothingRead 0 0
+countEnded Overflow count starts n = refusedEnd SumTooLarge 0 0
+
+-- the lexer's refusal first
+abbrev pub judgedOf : Ended → Count → List ℕ → ℕ → Ended
+judgedOf line k starts n = cond (eqb (line .number) 0) (countEnded k (line .count) starts n) line
 
 -- the code's answer: number 0, and the lexemes taken and the flat reading; or a refusal with the reading of nothing
 abbrev pub phraseAnswer : ReadPhrase → PhraseRead

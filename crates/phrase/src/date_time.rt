@@ -219,16 +219,16 @@ fn read_date_time(l: &[u64]) -> Outline
     }
 }
 
-// The same, kept only where all lexemes are taken.
-pub fn read_whole(l: &[u64]) -> Outline
-    ensures { λ r. ⌜ r ≡ outlineAnswer (now (l .entry)) (kept (length (now (l .entry))) (dateTimeOf (now (l .entry)))) ⌝ }
+// The same, kept only where at least n lexemes are taken.
+pub fn read_outline(l: &[u64], n: usize) -> Outline
+    ensures { λ r. ⌜ r ≡ outlineAnswer (now (l .entry)) (kept n (dateTimeOf (now (l .entry)))) ⌝ }
 {
     let o = read_date_time(l);
     let taken = o.taken;
     let Count::Is(t) = taken else {
         return o;
     };
-    if t < l.len() {
+    if t < n {
         return ended(taken);
     }
     o

@@ -1,6 +1,6 @@
 // The reading of a phrase's lexemes: the parts of each link's duration, then the base's own, in one row.
 use super::date_time::Count;
-use super::date_time::read_whole;
+use super::date_time::read_outline;
 use super::reading::Base;
 use super::reading::Link;
 use super::reading::Reading;
@@ -20,7 +20,7 @@ ghost use lib.ListN.{length};
 ghost use Rattle.phrase.specs.DateTimes.{dateTimeOf};
 ghost use Rattle.phrase.specs.Outlines.{hasOwn, isBack, withOwn, kept, gathered};
 
-// A reading, and how it ended; with lexemes left, or with nothing read, it is that of now.
+// A reading, and how it ended; that of now where nothing is kept.
 pub struct Gathered {
     pub reading: Reading,
     pub taken: Count,
@@ -62,12 +62,12 @@ fn with_own(base: Base, l: &[u64], parts: Parts) -> Parts
     parts
 }
 
-// The flat reading of what is read of l.
-pub fn gather(l: &[u64]) -> Gathered
+// The flat reading of what is read of l, kept only where at least n lexemes are taken.
+pub fn gather(l: &[u64], n: usize) -> Gathered
     requires { ⌜ length (now l) ≤ 64 ⌝ }
-    ensures { λ r. ⌜ r ≡ gathered (kept (length (now (l .entry))) (dateTimeOf (now (l .entry)))) ⌝ }
+    ensures { λ r. ⌜ r ≡ gathered (kept n (dateTimeOf (now (l .entry)))) ⌝ }
 {
-    let o = read_whole(l);
+    let o = read_outline(l, n);
     let items = [Slot {
         part: Part::Article(Unit::Day),
     }; 21];

@@ -11,10 +11,7 @@ use lexer::part::part;
 ghost use mathlib.Core.Path.{_≡_};
 ghost use Prim.Native.Nat.{_+_, _≤_};
 ghost use Rattle.lexer.specs.Keywords.{keywords};
-ghost use Rattle.dates.specs.Parsed.{Parsed};
-ghost use Rattle.phrase.specs.Tree.{DateTime};
-ghost use Rattle.phrase.specs.Outlines.{countOf};
-ghost use Rattle.phrase.specs.Read.{refusal, endedRead, judgedOf, readOf, phraseAnswer, placeOf, offendingOf};
+ghost use Rattle.phrase.specs.Read.{refusedEnd, judgedOf, readOf, phraseAnswer, placeOf, offendingOf};
 
 // Number 0: the lexemes taken and the reading. Else a refusal of 1 to 7, with its place and the end of its part.
 pub struct PhraseRead {
@@ -27,7 +24,7 @@ pub struct PhraseRead {
 
 // A refusal.
 fn refuse(number: u8, place: usize, end: usize) -> Ended
-    ensures { λ r. ⌜ r ≡ endedRead (refusal number place end) ⌝ }
+    ensures { λ r. ⌜ r ≡ refusedEnd number place end ⌝ }
 {
     Ended {
         number,
@@ -47,7 +44,7 @@ fn wide(x: u8) -> usize
 // How the reading of a phrase of n bytes ended: as lexing did, where that refused; else by how the reading of the lexemes did.
 fn judged(line: Ended, taken: Count, starts: &[u8; 64], n: usize) -> Ended
     requires { ⌜ line .count ≤ 64 ⌝ }
-    ensures { λ r. ⌜ ((w : Parsed DateTime) → taken ≡ countOf w → r ≡ judgedOf line w (now (starts .entry)) n) ⌝ }
+    ensures { λ r. ⌜ r ≡ judgedOf line taken (now (starts .entry)) n ⌝ }
 {
     if line.number != 0 {
         return line;
@@ -78,7 +75,7 @@ pub fn read(phrase: &[u8]) -> PhraseRead
     let mut starts = [0u8; 64];
     let line = lex(phrase, &mut codes, &mut starts);
     let n = line.count;
-    let x = gather(&codes[..n]);
+    let x = gather(&codes[..n], n);
     let taken = x.taken;
     let reading = x.reading;
     let end = judged(line, taken, &starts, phrase.len());

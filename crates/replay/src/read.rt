@@ -1,8 +1,7 @@
 // A phrase as far as it is read.
 use lexer::lex::lex;
 use phrase::date_time::Count;
-use phrase::date_time::read_date_time;
-use phrase::reading::empty;
+use phrase::gather::gather;
 use shown::lexemes::write_lexemes;
 use shown::out::number;
 use shown::out::text;
@@ -14,7 +13,7 @@ ghost use lib.ListN.{length};
 fn write_read(codes: &[u64])
     requires { ⌜ length (now codes) ≤ 64 ⌝ }
 {
-    let x = read_date_time(codes, empty());
+    let x = gather(codes, 0);
     let taken = x.taken;
     let Count::Is(t) = taken else {
         return;
@@ -27,10 +26,11 @@ fn write_read(codes: &[u64])
 
 // The lexemes of a phrase, its reading and the lexemes taken, with a bar behind each: as many of the three as there are.
 pub fn write_phrase(phrase: &[u8]) {
-    let line = lex(phrase);
+    let mut codes = [0u64; 64];
+    let mut starts = [0u8; 64];
+    let line = lex(phrase, &mut codes, &mut starts);
     if line.number == 0 {
         let n = line.count;
-        let codes = line.codes;
         let lexemes = &codes[..n];
         write_lexemes(lexemes);
         text(b"|");

@@ -18,7 +18,6 @@ enum-known-d c = search needs
 add-t9 : tie.Need-add-t9
 add-t9 c =
     let b = found (ap parsedDate (c .before .d .given .1)) (c .before .before .before .read-date .ensures .1) in
-    let left = c .before .before .before .before .rest .ensures .1 in
     omega arith
 
 enum-told : tie.Need-enum-told
@@ -28,13 +27,20 @@ enum-told-2 : tie.Need-enum-told-2
 enum-told-2 c = search needs
 
 returns : tie.Need-returns
-returns c = λ dur. rw (← (c .before .before .before .before .rest .ensures .0), ← (c .before .before .before .read-date .ensures .0), c .before .d .given .1)
+returns c =
+    λ dur. rw (
+      ← (c .before .before .before .before .rest .ensures .0),
+      ← (c .before .before .before .read-date .ensures .0),
+      c .before .d .given .1,
+    )
 
 returns-2 : tie.Need-returns-2
-returns-2 c = λ dur. rw (← (c .before .before .before .rest .ensures .0), ← (c .before .before .read-date .ensures .0), c .enum-told .given .1)
+returns-2 c =
+    λ dur. rw (← (c .before .before .before .rest .ensures .0), ← (c .before .before .read-date .ensures .0), c .enum-told .given .1)
 
 returns-3 : tie.Need-returns-3
-returns-3 c = λ dur. rw (← (c .before .before .before .rest .ensures .0), ← (c .before .before .read-date .ensures .0), c .enum-told2 .given .1)
+returns-3 c =
+    λ dur. rw (← (c .before .before .before .rest .ensures .0), ← (c .before .before .read-date .ensures .0), c .enum-told2 .given .1)
 
 pub read-after-spec : {M : Type 1} → statement M
 read-after-spec =

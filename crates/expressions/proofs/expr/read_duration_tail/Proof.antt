@@ -24,8 +24,8 @@ is-at-requires c κs = search needs
 
 add-stray : tie.Need-add-stray
 add-stray c =
-    let b = taken-found (c .before .before .before .before .u .given .1) (c .before .before .before .before .before .before .read-duration .ensures .1) in
-    let left = c .before .before .before .before .before .before .before .rest .ensures .1 in
+    let read-duration = c .before .before .before .before .before .before .read-duration in
+    let b = taken-found (c .before .before .before .before .u .given .1) (read-duration .ensures .1) in
     omega arith
 
 stray-requires : tie.Need-stray-requires
@@ -36,19 +36,24 @@ unfolding durationTailOf
 returns c =
     let rest = c .before .before .before .before .before .before .before .before .rest in
     let u = c .before .before .before .before .before .u in
-    let read = taken-read (durationOf (now (rest .result))) (c .before .before .before .before .before .before .before .read-duration .ensures .0) (u .given .1) in
-    rw (← (rest .ensures .0), read .reading, ← (c .before .before .before .is-at .ensures .0), c .before .before .if1 .taken, read .sub-daily ∙ c .before .if2 .taken)
-    (c .stray .ensures (u .given .0 .0) (omega arith))
+    let read-duration = c .before .before .before .before .before .before .before .read-duration in
+    let read = taken-read (durationOf (now (rest .result))) (read-duration .ensures .0) (u .given .1) in
+    rw (
+      ← (rest .ensures .0),
+      read .reading,
+      ← (c .before .before .before .is-at .ensures .0),
+      c .before .before .if1 .taken,
+      read .sub-daily ∙ c .before .if2 .taken,
+    ) (c .stray .ensures (u .given .0 .0) (omega arith))
 
 add-ago : tie.Need-add-ago
 add-ago c =
-    let b = taken-found (c .before .before .before .before .u .given .1) (c .before .before .before .before .before .before .read-duration .ensures .1) in
-    let left = c .before .before .before .before .before .before .before .rest .ensures .1 in
+    let read-duration = c .before .before .before .before .before .before .read-duration in
+    let b = taken-found (c .before .before .before .before .u .given .1) (read-duration .ensures .1) in
     omega arith
 
 add-ago-2 : tie.Need-add-ago-2
 add-ago-2 c =
-    let left = c .before .before .before .before .before .before .before .rest .ensures .1 in
     let room = there (c .before .before .is-at .ensures .1) (c .before .if1 .taken) in
     omega arith
 
@@ -60,14 +65,19 @@ unfolding durationTailOf
 returns-2 c =
     let rest = c .before .before .before .before .before .before .before .before .rest in
     let u = c .before .before .before .before .before .u in
-    let read = taken-read (durationOf (now (rest .result))) (c .before .before .before .before .before .before .before .read-duration .ensures .0) (u .given .1) in
-    rw (← (rest .ensures .0), read .reading, ← (c .before .before .before .is-at .ensures .0), c .before .before .if1 .taken, read .sub-daily ∙ c .before .if2 .left)
-    (c .ago .ensures (read .duration) (u .given .0 .0 + 1) (omega arith))
+    let read-duration = c .before .before .before .before .before .before .before .read-duration in
+    let read = taken-read (durationOf (now (rest .result))) (read-duration .ensures .0) (u .given .1) in
+    rw (
+      ← (rest .ensures .0),
+      read .reading,
+      ← (c .before .before .before .is-at .ensures .0),
+      c .before .before .if1 .taken,
+      read .sub-daily ∙ c .before .if2 .left,
+    ) (c .ago .ensures (read .duration) (u .given .0 .0 + 1) (omega arith))
 
 add-stray-2 : tie.Need-add-stray-2
 add-stray-2 c =
     let b = taken-found (c .before .before .before .u .given .1) (c .before .before .before .before .before .read-duration .ensures .1) in
-    let left = c .before .before .before .before .before .before .rest .ensures .1 in
     omega arith
 
 stray-requires-2 : tie.Need-stray-requires-2
@@ -87,7 +97,8 @@ unfolding durationTailOf
 returns-3 c =
     let rest = c .before .before .before .before .before .before .before .rest in
     let u = c .before .before .before .before .u in
-    let read = taken-read (durationOf (now (rest .result))) (c .before .before .before .before .before .before .read-duration .ensures .0) (u .given .1) in
+    let read-duration = c .before .before .before .before .before .before .read-duration in
+    let read = taken-read (durationOf (now (rest .result))) (read-duration .ensures .0) (u .given .1) in
     rw (← (rest .ensures .0), read .reading, ← (c .before .before .is-at .ensures .0), c .before .if1 .left)
     (c .stray2 .ensures (u .given .0 .0) (omega arith))
 
@@ -95,7 +106,8 @@ returns-4 : tie.Need-returns-4
 unfolding durationTailOf
 returns-4 c =
     let rest = c .before .before .before .before .rest in
-    let none = taken-none (durationOf (now (rest .result))) (c .before .before .before .read-duration .ensures .0) (c .before .enum-told .given .1) in
+    let read-duration = c .before .before .before .read-duration in
+    let none = taken-none (durationOf (now (rest .result))) (read-duration .ensures .0) (c .before .enum-told .given .1) in
     rw (← (rest .ensures .0), none, rest .ensures .0) (c .read-in-tail .ensures)
 
 returns-5 : tie.Need-returns-5

@@ -6,7 +6,6 @@ use Rattle.numbers.proofs.Places.{there}
 use Rattle.dates.specs.Durations.{durationOf}
 use Rattle.dates.proofs.Durations.{taken-found, taken-read, taken-none, taken-overflow}
 use Rattle.expressions.specs.DateExprs.{inTailOf}
-use Rattle.expressions.proofs.Own.{alone}
 use borrow.Author.Needs.{needs}
 use Rattle.expressions.proofs.expr.read_in_tail.Statement.{statement}
 use Rattle.expressions.proofs.expr.read_in_tail.Tie as tie
@@ -38,7 +37,8 @@ returns : tie.Need-returns
 unfolding inTailOf
 returns c =
     let rest2 = c .before .before .before .before .before .before .rest2 in
-    let read = taken-read (durationOf (now (rest2 .result))) (c .before .before .before .before .before .read-duration .ensures .0) (c .before .before .before .u .given .1) in
+    let read-duration = c .before .before .before .before .before .read-duration in
+    let read = taken-read (durationOf (now (rest2 .result))) (read-duration .ensures .0) (c .before .before .before .u .given .1) in
     rw (
       ← (c .before .before .before .before .before .before .before .before .before .rest .ensures .0),
       ← (c .before .before .before .before .before .before .before .before .is-at .ensures .0),
@@ -51,8 +51,6 @@ returns c =
 add-inside : tie.Need-add-inside
 add-inside c =
     let b = taken-found (c .before .before .u .given .1) (c .before .before .before .before .read-duration .ensures .1) in
-    let left = c .before .before .before .before .before .before .before .before .rest .ensures .1 in
-    let left2 = c .before .before .before .before .before .rest2 .ensures .1 in
     omega arith
 
 inside-requires : tie.Need-inside-requires
@@ -63,7 +61,8 @@ unfolding inTailOf
 returns-2 c =
     let rest2 = c .before .before .before .before .before .before .rest2 in
     let u = c .before .before .before .u in
-    let read = taken-read (durationOf (now (rest2 .result))) (c .before .before .before .before .before .read-duration .ensures .0) (u .given .1) in
+    let read-duration = c .before .before .before .before .before .read-duration in
+    let read = taken-read (durationOf (now (rest2 .result))) (read-duration .ensures .0) (u .given .1) in
     rw (
       ← (c .before .before .before .before .before .before .before .before .before .rest .ensures .0),
       ← (c .before .before .before .before .before .before .before .before .is-at .ensures .0),
@@ -83,9 +82,15 @@ returns-3 : tie.Need-returns-3
 unfolding inTailOf
 returns-3 c =
     let rest2 = c .before .before .before .before .rest2 in
-    let none = taken-none (durationOf (now (rest2 .result))) (c .before .before .before .read-duration .ensures .0) (c .before .enum-told .given .1) in
-    rw (← (c .before .before .before .before .before .before .before .rest .ensures .0), ← (c .before .before .before .before .before .before .is-at .ensures .0), c .before .before .before .before .before .if1 .taken, ← (rest2 .ensures .0), none)
-    (c .stray2 .ensures 1 (omega arith))
+    let read-duration = c .before .before .before .read-duration in
+    let none = taken-none (durationOf (now (rest2 .result))) (read-duration .ensures .0) (c .before .enum-told .given .1) in
+    rw (
+      ← (c .before .before .before .before .before .before .before .rest .ensures .0),
+      ← (c .before .before .before .before .before .before .is-at .ensures .0),
+      c .before .before .before .before .before .if1 .taken,
+      ← (rest2 .ensures .0),
+      none,
+    ) (c .stray2 .ensures 1 (omega arith))
 
 enum-told-2 : tie.Need-enum-told-2
 enum-told-2 c = search needs
@@ -95,7 +100,13 @@ unfolding inTailOf
 returns-4 c =
     let rest2 = c .before .before .before .rest2 in
     let over = taken-overflow (durationOf (now (rest2 .result))) (c .before .before .read-duration .ensures .0) (c .enum-told2 .given .1) in
-    rw (← (c .before .before .before .before .before .before .rest .ensures .0), ← (c .before .before .before .before .before .is-at .ensures .0), c .before .before .before .before .if1 .taken, ← (rest2 .ensures .0), over)
+    rw (
+      ← (c .before .before .before .before .before .before .rest .ensures .0),
+      ← (c .before .before .before .before .before .is-at .ensures .0),
+      c .before .before .before .before .if1 .taken,
+      ← (rest2 .ensures .0),
+      over,
+    )
 
 stray-requires-3 : tie.Need-stray-requires-3
 stray-requires-3 c κs = search needs
@@ -103,9 +114,8 @@ stray-requires-3 c κs = search needs
 returns-5 : tie.Need-returns-5
 unfolding inTailOf
 returns-5 c =
-    let args = c .before .before .before .before .before .args in
     rw (← (c .before .before .before .rest .ensures .0), ← (c .before .before .is-at .ensures .0), c .before .if1 .left)
-    (c .stray3 .ensures 0 (omega arith) ∙ alone (args .h) (args .t))
+    (c .stray3 .ensures 0 (omega arith))
 
 pub read-in-tail-spec : {M : Type 1} → statement M
 read-in-tail-spec =

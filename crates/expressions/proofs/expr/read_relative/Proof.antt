@@ -61,7 +61,8 @@ returns-3 : tie.Need-returns-3
 unfolding relativeExprOf
 returns-3 c =
     let read-weekday = c .before .before .before .before .before .read-weekday in
-    let none = weekday-none _ (read-weekday .ensures .0) (number-arm (read-weekday .result) (c .before .before .before .before .match2 .keys2)) in
+    let arm = number-arm (read-weekday .result) (c .before .before .before .before .match2 .keys2) in
+    let none = weekday-none _ (read-weekday .ensures .0) arm in
     rw (
       ← (c .before .before .before .before .before .before .before .before .before .before .read-specifier .ensures .0),
       c .before .before .before .before .before .before .before .before .spec .given .1,
@@ -75,7 +76,6 @@ returns-3 c =
 add-t12 : tie.Need-add-t12
 add-t12 c =
     let b = found (ap parsedNumber (c .before .w .given .1)) (c .before .before .before .read-weekday .ensures .1) in
-    let left = c .before .before .before .before .rest .ensures .1 in
     omega arith
 
 returns-4 : tie.Need-returns-4

@@ -1,10 +1,7 @@
-use mathlib.Core.Path.{_∙_, ap}
 use native.Mathlib.Omega.{arith}
 use denote.Ref.{now}
-use Rattle.dates.specs.Units.{parsedSpecifier}
-use Rattle.dates.proofs.Laws.{found}
 use Rattle.expressions.specs.DateExprs.{tailOf}
-use Rattle.expressions.proofs.Own.{alone, tail-none}
+use Rattle.expressions.proofs.Own.{tail-none}
 use borrow.Author.Needs.{needs}
 use Rattle.expressions.proofs.expr.read_tail.Statement.{statement}
 use Rattle.expressions.proofs.expr.read_tail.Tie as tie
@@ -15,7 +12,7 @@ stray-requires c κs = search needs
 returns : tie.Need-returns
 returns c =
     let args = c .before .before .before .args in
-    rw (tail-none (now (args .l)) (args .t) (c .before .if1 .taken)) (c .stray .ensures 0 (omega arith) ∙ alone (args .h) (args .t))
+    rw (tail-none (now (args .l)) (args .t) (c .before .if1 .taken)) (c .stray .ensures 0 (omega arith))
 
 rest-requires : tie.Need-rest-requires
 rest-requires c κs = search needs

@@ -30,19 +30,25 @@ enum-told-2 c = search needs
 returns : tie.Need-returns
 unfolding undatedOf
 returns c =
-    let read = taken-read (durationOf (now (c .before .before .before .before .before .before .args .l))) (c .before .before .before .before .read-duration .ensures .0) (c .before .before .t .given .1) in
+    let read-duration = c .before .before .before .before .read-duration in
+    let l = now (c .before .before .before .before .before .before .args .l) in
+    let read = taken-read (durationOf l) (read-duration .ensures .0) (c .before .before .t .given .1) in
     rw (read .reading) (c .with-duration .ensures (read .duration) (read .sub-daily))
 
 returns-2 : tie.Need-returns-2
 unfolding undatedOf
 returns-2 c =
-    let none = taken-none (durationOf (now (c .before .before .before .before .before .args .l))) (c .before .before .before .read-duration .ensures .0) (c .before .enum-told .given .1) in
+    let read-duration = c .before .before .before .read-duration in
+    let l = now (c .before .before .before .before .before .args .l) in
+    let none = taken-none (durationOf l) (read-duration .ensures .0) (c .before .enum-told .given .1) in
     rw (none) (c .read-weekday-expr .ensures)
 
 returns-3 : tie.Need-returns-3
 unfolding undatedOf
 returns-3 c =
-    let over = taken-overflow (durationOf (now (c .before .before .before .before .args .l))) (c .before .before .read-duration .ensures .0) (c .enum-told2 .given .1) in
+    let read-duration = c .before .before .read-duration in
+    let l = now (c .before .before .before .before .args .l) in
+    let over = taken-overflow (durationOf l) (read-duration .ensures .0) (c .enum-told2 .given .1) in
     rw (over)
 
 pub read-undated-spec : {M : Type 1} → statement M

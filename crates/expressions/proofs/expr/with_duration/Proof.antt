@@ -34,8 +34,13 @@ read-after-requires c κs =
 returns-3 : tie.Need-returns-3
 unfolding withDurationOf
 returns-3 c =
-    λ dur e. rw (e ∙ c .before .before .before .before .before .if1 .left, ← (c .before .before .before .before .is-at .ensures .0), c .before .before .before .if2 .left, ← (c .before .before .is-at2 .ensures .0), c .before .if3 .taken)
-    (c .read-after .ensures dur)
+    λ dur e. rw (
+      e ∙ c .before .before .before .before .before .if1 .left,
+      ← (c .before .before .before .before .is-at .ensures .0),
+      c .before .before .before .if2 .left,
+      ← (c .before .before .is-at2 .ensures .0),
+      c .before .if3 .taken,
+    ) (c .read-after .ensures dur)
 
 is-at-requires-3 : tie.Need-is-at-requires-3
 is-at-requires-3 c κs = search needs
@@ -51,8 +56,7 @@ read-after-requires-2 c κs =
 returns-4 : tie.Need-returns-4
 unfolding withDurationOf
 returns-4 c =
-    λ dur e.
-    rw (
+    λ dur e. rw (
       e ∙ c .before .before .before .before .before .before .before .if1 .left,
       ← (c .before .before .before .before .before .before .is-at .ensures .0),
       c .before .before .before .before .before .if2 .left,
@@ -65,8 +69,7 @@ returns-4 c =
 returns-5 : tie.Need-returns-5
 unfolding withDurationOf
 returns-5 c =
-    λ dur e.
-    rw (
+    λ dur e. rw (
       e ∙ c .before .before .before .before .before .before .if1 .left,
       ← (c .before .before .before .before .before .is-at .ensures .0),
       c .before .before .before .before .if2 .left,

@@ -1,24 +1,21 @@
-use mathlib.Core.Path.{_≡_, sym, _∙_}
-use Prim.Native.Nat.{_+_, _-_, _≤_}
+use mathlib.Core.Path.{sym, _∙_}
+use Prim.Native.Nat.{_-_}
 use native.Mathlib.Omega.{arith}
-use lib.ListN.{length, drop}
-use lib.Seq.{drop-drop}
+use lib.ListN.{length}
 use denote.Ref.{now}
 use borrow.Author.Needs.{needs}
-use Rattle.phrase.specs.DateTimes.{dateTimeOf}
-use Rattle.phrase.specs.Outlines.{outlineAnswer}
-use Rattle.phrase.proofs.Turns.{linked, unlinked, turn-learnt}
+use Rattle.phrase.proofs.Turns.{Turning, unlinked, turn-learnt}
 use Rattle.phrase.proofs.date_time.read_date_time.Statement.{statement}
 use Rattle.phrase.proofs.date_time.read_date_time.Tie as tie
 
 abbrev Inv-loop : tie.InvT-loop
-Inv-loop l at₀ m₀ at m = (outlineAnswer l (dateTimeOf l) ≡ linked m at (drop at l) (dateTimeOf (drop at l))) × (at ≤ length l) × (m ≤ at)
+Inv-loop l at₀ m₀ at m = Turning l at m
 
 abbrev μ-loop : tie.MeasureT-loop
 μ-loop l at₀ m₀ at m = length l - at
 
 loop-holds : tie.Need-loop-holds Inv-loop μ-loop
-loop-holds c = (unlinked _ (dateTimeOf (now (c .before .args .l))), omega arith, omega arith)
+loop-holds c = unlinked (now (c .before .args .l))
 
 rest-requires : tie.Need-rest-requires Inv-loop μ-loop
 rest-requires c κs = search needs
@@ -31,73 +28,51 @@ enum-known-turn c = search needs
 
 add-t12 : tie.Need-add-t12 Inv-loop μ-loop
 add-t12 c =
-    let loop = c .before .before .before .before .before .loop in
-    let said =
-    turn-learnt (now (c .before .before .before .before .before .before .before .args .l)) (loop .at) (loop .m) (loop .inv .1) (c .before .before .before .before .rest .ensures .0) (c .before .before .before .read-turn .ensures) (c .before .turn .given .1) in
-    let most = said .2 in omega arith
+    let said = turn-learnt (c .before .before .before .before .before .loop .inv) (c .before .before .before .before .rest .ensures .0) (c .before .before .before .read-turn .ensures) (c .before .turn .given .1) in
+    let most = said .1 in omega arith
 
 returns : tie.Need-returns Inv-loop μ-loop
 returns c =
-    let loop = c .before .before .before .before .before .loop in
-    let said =
-    turn-learnt (now (c .before .before .before .before .before .before .before .args .l)) (loop .at) (loop .m) (loop .inv .1) (c .before .before .before .before .rest .ensures .0) (c .before .before .before .read-turn .ensures) (c .before .turn .given .1) in
-    sym (loop .inv .0 ∙ said .0)
+    sym (turn-learnt (c .before .before .before .before .before .loop .inv) (c .before .before .before .before .rest .ensures .0) (c .before .before .before .read-turn .ensures) (c .before .turn .given .1) .0)
 
 enum-known-turn-2 : tie.Need-enum-known-turn-2 Inv-loop μ-loop
 enum-known-turn-2 c = search needs
 
 add-t14 : tie.Need-add-t14 Inv-loop μ-loop
 add-t14 c =
-    let loop = c .before .before .before .before .before .loop in
-    let said =
-    turn-learnt (now (c .before .before .before .before .before .before .before .args .l)) (loop .at) (loop .m) (loop .inv .1) (c .before .before .before .before .rest .ensures .0) (c .before .before .before .read-turn .ensures) (c .before .turn2 .given .1) in
-    let most = said .2 in omega arith
+    let said = turn-learnt (c .before .before .before .before .before .loop .inv) (c .before .before .before .before .rest .ensures .0) (c .before .before .before .read-turn .ensures) (c .before .turn2 .given .1) in
+    let most = said .1 in omega arith
 
 add-t18 : tie.Need-add-t18 Inv-loop μ-loop
 add-t18 c =
-    let loop = c .before .before .before .before .before .loop in
-    let said =
-    turn-learnt (now (c .before .before .before .before .before .before .before .args .l)) (loop .at) (loop .m) (loop .inv .1) (c .before .before .before .before .rest .ensures .0) (c .before .before .before .read-turn .ensures) (c .before .turn2 .given .1) in
-    let some = said .1 in let most = said .2 in omega arith
+    let said = turn-learnt (c .before .before .before .before .before .loop .inv) (c .before .before .before .before .rest .ensures .0) (c .before .before .before .read-turn .ensures) (c .before .turn2 .given .1) in
+    let more = said .2 in omega arith
 
 returns-2 : tie.Need-returns-2 Inv-loop μ-loop
 returns-2 c =
-    let loop = c .before .before .before .before .before .loop in
-    let said =
-    turn-learnt (now (c .before .before .before .before .before .before .before .args .l)) (loop .at) (loop .m) (loop .inv .1) (c .before .before .before .before .rest .ensures .0) (c .before .before .before .read-turn .ensures) (c .before .turn2 .given .1) in
-    sym (loop .inv .0 ∙ said .0)
+    sym (turn-learnt (c .before .before .before .before .before .loop .inv) (c .before .before .before .before .rest .ensures .0) (c .before .before .before .read-turn .ensures) (c .before .turn2 .given .1) .0)
 
 enum-known-turn-3 : tie.Need-enum-known-turn-3 Inv-loop μ-loop
 enum-known-turn-3 c = search needs
 
 add-at : tie.Need-add-at Inv-loop μ-loop
 add-at c =
-    let loop = c .before .before .before .before .before .loop in
-    let said =
-    turn-learnt (now (c .before .before .before .before .before .before .before .args .l)) (loop .at) (loop .m) (loop .inv .1) (c .before .before .before .before .rest .ensures .0) (c .before .before .before .read-turn .ensures) (c .before .turn3 .given .1) in
-    let most = said .2 in omega arith
+    let said = turn-learnt (c .before .before .before .before .before .loop .inv) (c .before .before .before .before .rest .ensures .0) (c .before .before .before .read-turn .ensures) (c .before .turn3 .given .1) in
+    let most = said .0 .within in omega arith
 
 add-m : tie.Need-add-m Inv-loop μ-loop
 add-m c =
-    let loop = c .before .before .before .before .before .loop in
-    let said =
-    turn-learnt (now (c .before .before .before .before .before .before .before .args .l)) (loop .at) (loop .m) (loop .inv .1) (c .before .before .before .before .rest .ensures .0) (c .before .before .before .read-turn .ensures) (c .before .turn3 .given .1) in
-    let most = said .2 in omega arith
+    let said = turn-learnt (c .before .before .before .before .before .loop .inv) (c .before .before .before .before .rest .ensures .0) (c .before .before .before .read-turn .ensures) (c .before .turn3 .given .1) in
+    let few = said .0 .few in omega arith
 
 loop-less : tie.Need-loop-less Inv-loop μ-loop
 loop-less c =
-    let loop = c .before .before .before .before .before .loop in
-    let said =
-    turn-learnt (now (c .before .before .before .before .before .before .before .args .l)) (loop .at) (loop .m) (loop .inv .1) (c .before .before .before .before .rest .ensures .0) (c .before .before .before .read-turn .ensures) (c .before .turn3 .given .1) in
-    let some = said .1 in let most = said .2 in omega arith
+    let said = turn-learnt (c .before .before .before .before .before .loop .inv) (c .before .before .before .before .rest .ensures .0) (c .before .before .before .read-turn .ensures) (c .before .turn3 .given .1) in
+    let most = said .0 .within in let one = said .1 in omega arith
 
 loop-again : tie.Need-loop-again Inv-loop μ-loop
 loop-again c =
-    let loop = c .before .before .before .before .before .loop in
-    let said =
-    turn-learnt (now (c .before .before .before .before .before .before .before .args .l)) (loop .at) (loop .m) (loop .inv .1) (c .before .before .before .before .rest .ensures .0) (c .before .before .before .read-turn .ensures) (c .before .turn3 .given .1) in
-    let some = said .1 in let most = said .2 in
-    (loop .inv .0 ∙ (rw (drop-drop (c .before .turn3 .given .0 .0) (loop .at) (now (c .before .before .before .before .before .before .before .args .l))) at (said .0)), omega arith, omega arith)
+    turn-learnt (c .before .before .before .before .before .loop .inv) (c .before .before .before .before .rest .ensures .0) (c .before .before .before .read-turn .ensures) (c .before .turn3 .given .1) .0
 
 enum-told : tie.Need-enum-told Inv-loop μ-loop
 enum-told c = search needs
@@ -107,10 +82,7 @@ ended-requires c κs = search needs
 
 returns-3 : tie.Need-returns-3 Inv-loop μ-loop
 returns-3 c =
-    let loop = c .before .before .before .before .before .loop in
-    let said =
-    turn-learnt (now (c .before .before .before .before .before .before .before .args .l)) (loop .at) (loop .m) (loop .inv .1) (c .before .before .before .before .rest .ensures .0) (c .before .before .before .read-turn .ensures) (c .before .enum-told .given .1) in
-    c .ended .ensures ∙ sym (loop .inv .0 ∙ said)
+    c .ended .ensures ∙ sym (turn-learnt (c .before .before .before .before .before .loop .inv) (c .before .before .before .before .rest .ensures .0) (c .before .before .before .read-turn .ensures) (c .before .enum-told .given .1))
 
 enum-told-2 : tie.Need-enum-told-2 Inv-loop μ-loop
 enum-told-2 c = search needs
@@ -120,10 +92,7 @@ ended-requires-2 c κs = search needs
 
 returns-4 : tie.Need-returns-4 Inv-loop μ-loop
 returns-4 c =
-    let loop = c .before .before .before .before .before .loop in
-    let said =
-    turn-learnt (now (c .before .before .before .before .before .before .before .args .l)) (loop .at) (loop .m) (loop .inv .1) (c .before .before .before .before .rest .ensures .0) (c .before .before .before .read-turn .ensures) (c .before .enum-told2 .given .1) in
-    c .ended2 .ensures ∙ sym (loop .inv .0 ∙ said)
+    c .ended2 .ensures ∙ sym (turn-learnt (c .before .before .before .before .before .loop .inv) (c .before .before .before .before .rest .ensures .0) (c .before .before .before .read-turn .ensures) (c .before .enum-told2 .given .1))
 
 pub read-date-time-spec : {M : Type 1} → statement M
 read-date-time-spec =

@@ -1,7 +1,6 @@
 use mathlib.Core.Path.{_≡_, refl}
 use Prim.Native.Nat.{_-_}
 use native.Mathlib.Omega.{arith}
-use lib.ListN.{length}
 use denote.Ref.{now}
 use borrow.Author.Needs.{needs}
 use Rattle.phrase.specs.DateTimes.{dateTimeOf}
@@ -14,23 +13,23 @@ use Rattle.phrase.proofs.gather.gather.Reads as reads
 use Rattle.phrase.proofs.gather.gather.Lts as lts
 use Rattle.dates.proofs.duration.with_parts.Reads as with-parts-reads
 use Rattle.numbers.proofs.slices.rest.Reads as rest-reads
-use Rattle.phrase.proofs.date_time.read_whole.Reads as read-whole-reads
+use Rattle.phrase.proofs.date_time.read_outline.Reads as read-outline-reads
 use Rattle.phrase.proofs.gather.is_back.Reads as is-back-reads
 use Rattle.phrase.proofs.gather.with_own.Reads as with-own-reads
 
 abbrev Inv-loop : tie.InvT-loop
-Inv-loop l o parts₀ links₀ m i₀ at₀ parts links i at =
-    let w = kept (length l) (dateTimeOf l) in Gathering l (countOf w) o (flat (treeIn w)) parts links i at
+Inv-loop l n o parts₀ links₀ m i₀ at₀ parts links i at =
+    let w = kept n (dateTimeOf l) in Gathering l (countOf w) o (flat (treeIn w)) parts links i at
 
 abbrev μ-loop : tie.MeasureT-loop
-μ-loop l o parts₀ links₀ m i₀ at₀ parts links i at = m - i
+μ-loop l n o parts₀ links₀ m i₀ at₀ parts links i at = m - i
 
 -- the link that was read at the end of a turn
 step :
     (c :
     lts.After-is-back (
-      read-whole-reads.Asked,
-      read-whole-reads.Learnt,
+      read-outline-reads.Asked,
+      read-outline-reads.Learnt,
       rest-reads.Asked,
       rest-reads.Learnt,
       with-parts-reads.Asked,
@@ -40,9 +39,10 @@ step :
       with-own-reads.Asked,
       with-own-reads.Learnt,
     ) reads.Pre reads.Post Inv-loop μ-loop) →
-    let l = now (c .before .before .before .before .before .before .before .before .args .l) in
-    let w = kept (length l) (dateTimeOf l) in
-    let o = c .before .before .before .before .before .before .read-whole .result in
+    let args = c .before .before .before .before .before .before .before .before .args in
+    let l = now (args .l) in
+    let w = kept (args .n) (dateTimeOf l) in
+    let o = c .before .before .before .before .before .before .read-outline .result in
     let loop = c .before .before .before .before .before .loop in
     Linked l (countOf w) o (flat (treeIn w)) (loop .parts) (loop .links) (loop .i) (loop .at) (c .before .before .with-parts .result) (c .is-back .result)
 step c =
@@ -51,11 +51,11 @@ step c =
     (c .before .before .with-parts .ensures)
     (c .is-back .ensures)
 
-read-whole-requires : tie.Need-read-whole-requires Inv-loop μ-loop
-read-whole-requires c κs = search needs
+read-outline-requires : tie.Need-read-outline-requires Inv-loop μ-loop
+read-outline-requires c κs = search needs
 
 loop-holds : tie.Need-loop-holds Inv-loop μ-loop
-loop-holds c = begin (now (c .before .before .args .l)) (c .before .before .pre) (c .read-whole .ensures)
+loop-holds c = begin (now (c .before .before .args .l)) (c .before .before .args .n) (c .before .before .pre) (c .read-outline .ensures)
 
 rest-requires : tie.Need-rest-requires Inv-loop μ-loop
 rest-requires c κs = search needs
@@ -102,8 +102,8 @@ with-own-requires c κs =
     let b = base-left (c .before .before .before .loop .inv) (c .before .before .loop-test .left) in
     omega arith
 
-cast-t29 : tie.Need-cast-t29 Inv-loop μ-loop
-cast-t29 c =
+cast-t30 : tie.Need-cast-t30 Inv-loop μ-loop
+cast-t30 c =
     let b = base-left (c .before .before .before .before .loop .inv) (c .before .before .before .loop-test .left) in
     let few = c .before .before .before .before .loop .inv .few in omega arith
 
@@ -116,7 +116,7 @@ gather-spec =
     (tie.spec
     Inv-loop
     μ-loop
-    read-whole-requires
+    read-outline-requires
     loop-holds
     rest-requires
     with-parts-requires
@@ -131,5 +131,5 @@ gather-spec =
     add-rest
     rest-requires-2
     with-own-requires
-    cast-t29
+    cast-t30
     returns)

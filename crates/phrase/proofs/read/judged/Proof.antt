@@ -1,12 +1,10 @@
-use native.Mathlib.Omega.{arith}
 use borrow.Author.Tests.{eq-eqb, ne-eqb, lt-ltb, le-ltb}
-use Rattle.phrase.proofs.Phrases.{count-ended}
 use borrow.Author.Needs.{needs}
 use Rattle.phrase.proofs.read.judged.Statement.{statement}
 use Rattle.phrase.proofs.read.judged.Tie as tie
 
 returns : tie.Need-returns
-returns c = λ w e. rw (ne-eqb _ _ (c .if1 .taken))
+returns c = rw (ne-eqb _ _ (c .if1 .taken))
 
 enum-known-taken : tie.Need-enum-known-taken
 enum-known-taken c = search needs
@@ -22,8 +20,7 @@ refuse-requires c κs = search needs
 
 returns-2 : tie.Need-returns-2
 returns-2 c =
-    let args = c .before .before .before .before .before .before .before .before .before .before .args in
-    λ w e. rw (eq-eqb _ _ (c .before .before .before .before .before .before .before .before .if1 .left), count-ended w (args .line .count) (args .starts .now) (args .n) e, c .before .before .before .before .before .before .taken .given .1, lt-ltb _ _ (c .before .before .before .if2 .taken), ← (c .before .wide .ensures)) (c .refuse .ensures)
+    rw (eq-eqb _ _ (c .before .before .before .before .before .before .before .before .if1 .left), c .before .before .before .before .before .before .taken .given .1, lt-ltb _ _ (c .before .before .before .if2 .taken), ← (c .before .wide .ensures)) (c .refuse .ensures)
 
 enum-told : tie.Need-enum-told
 enum-told c = search needs
@@ -39,18 +36,15 @@ refuse-requires-3 c κs = search needs
 
 returns-3 : tie.Need-returns-3
 returns-3 c =
-    let args = c .before .before .before .before .before .before .before .args in
-    λ w e. rw (eq-eqb _ _ (c .before .before .before .before .before .if1 .left), count-ended w (args .line .count) (args .starts .now) (args .n) e, c .before .before .before .taken .given .1, le-ltb _ _ (c .if2 .left))
+    rw (eq-eqb _ _ (c .before .before .before .before .before .if1 .left), c .before .before .before .taken .given .1, le-ltb _ _ (c .if2 .left))
 
 returns-4 : tie.Need-returns-4
 returns-4 c =
-    let args = c .before .before .before .before .before .args in
-    λ w e. rw (eq-eqb _ _ (c .before .before .before .if1 .left), count-ended w (args .line .count) (args .starts .now) (args .n) e, c .before .enum-told .given .1) (c .refuse2 .ensures)
+    rw (eq-eqb _ _ (c .before .before .before .if1 .left), c .before .enum-told .given .1) (c .refuse2 .ensures)
 
 returns-5 : tie.Need-returns-5
 returns-5 c =
-    let args = c .before .before .before .before .before .args in
-    λ w e. rw (eq-eqb _ _ (c .before .before .before .if1 .left), count-ended w (args .line .count) (args .starts .now) (args .n) e, c .before .enum-told2 .given .1) (c .refuse3 .ensures)
+    rw (eq-eqb _ _ (c .before .before .before .if1 .left), c .before .enum-told2 .given .1) (c .refuse3 .ensures)
 
 pub judged-spec : {M : Type 1} → statement M
 judged-spec =

@@ -1,14 +1,10 @@
 -- `replay::write_read` is safe and ends.
-use native.Mathlib.Omega.{arith}
 use borrow.Author.Needs.{needs}
 use Rattle.replay.proofs.read.write_read.Statement.{statement}
 use Rattle.replay.proofs.read.write_read.Tie as tie
 
-empty-requires : tie.Need-empty-requires
-empty-requires c κs = search needs
-
-read-date-time-requires : tie.Need-read-date-time-requires
-read-date-time-requires c κs = rw (c .empty .ensures) (record { parts = omega arith; links = omega arith })
+gather-requires : tie.Need-gather-requires
+gather-requires c κs = search needs
 
 enum-known-taken : tie.Need-enum-known-taken
 enum-known-taken c = search needs
@@ -38,8 +34,7 @@ pub write-read-spec : {M : Type 1} → statement M
 write-read-spec =
     tie.close
     (tie.spec
-    empty-requires
-    read-date-time-requires
+    gather-requires
     enum-known-taken
     returns
     write-reading-requires
