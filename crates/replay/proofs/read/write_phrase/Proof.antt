@@ -1,7 +1,8 @@
 -- `replay::write_phrase` is safe and ends.
 use mathlib.Core.Path.{sym}
 use native.Mathlib.Omega.{arith}
-use lib.Seq.{length-take-le}
+use denote.Ref.{now}
+use Rattle.phrase.proofs.Phrases.{codes-stored}
 use borrow.Author.Needs.{needs}
 use Rattle.replay.proofs.read.write_phrase.Statement.{statement}
 use Rattle.replay.proofs.read.write_phrase.Tie as tie
@@ -10,12 +11,14 @@ lex-requires : tie.Need-lex-requires
 lex-requires c κs = search needs
 
 array-share-prefix-codes : tie.Need-array-share-prefix-codes
-array-share-prefix-codes c = search needs
+array-share-prefix-codes c =
+    codes-stored (now (c .before .before .before .before .before .args .phrase)) (c .before .lex .ensures .0) (c .before .lex .ensures .1 .0) .0
 
 slice-aggregate-lexemes : tie.Need-slice-aggregate-lexemes
 slice-aggregate-lexemes c =
-    let line = c .before .before .before .before .lex .result in
-    sym (length-take-le (line .count) (line .codes) (omega arith))
+    let lex = c .before .before .lex in
+    let args = c .before .before .before .before .before .before .args in
+    sym (codes-stored (now (args .phrase)) (lex .ensures .0) (lex .ensures .1 .0) .1)
 
 write-lexemes-requires : tie.Need-write-lexemes-requires
 write-lexemes-requires c κs = search needs
@@ -28,8 +31,9 @@ text-requires c κs = search needs
 
 write-read-requires : tie.Need-write-read-requires
 write-read-requires c κs =
-    let line = c .before .before .before .before .before .before .before .lex .result in
-    let n = length-take-le (line .count) (line .codes) (omega arith) in
+    let lex = c .before .before .before .before .before .lex in
+    let args = c .before .before .before .before .before .before .before .before .before .args in
+    let b = codes-stored (now (args .phrase)) (lex .ensures .0) (lex .ensures .1 .0) in
     omega arith
 
 returns : tie.Need-returns
