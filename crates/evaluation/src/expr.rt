@@ -20,13 +20,12 @@ ghost use mathlib.Core.Bool.{true};
 ghost use Prim.Native.Nat.{_≤_, _<_, _%_};
 ghost use lib.Seq.{slice};
 ghost use Rattle.calendar.specs.Moments.{IsMoment, andThen};
-ghost use Rattle.expressions.specs.Shapes.{exprFrom};
+ghost use Rattle.expressions.specs.Shapes.{exprFrom, hasDuration};
 ghost use Rattle.phrase.specs.Flat.{rowDuration};
 ghost use Rattle.evaluation.specs.Steps.{reachedOf, Valid, durationStep};
 ghost use Rattle.evaluation.specs.Weekdays.{backTo};
 ghost use Rattle.evaluation.specs.Evaluate.{byYear, isYear, isWeek, isMonthAndDay};
 ghost use Rattle.evaluation.specs.Evaluate.{dateRelativeAt, unitRelativeAt, weekdayRelativeAt, dateExprAt};
-ghost use Rattle.evaluation.specs.Formed.{hasDuration};
 
 // A date moved by a year, by its specifier.
 fn by_year(specifier: RelativeSpecifier, x: Reached) -> Reached

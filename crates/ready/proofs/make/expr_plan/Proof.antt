@@ -4,7 +4,7 @@ use mathlib.Core.Path.{_≡_, refl, ap, _∙_}
 use mathlib.Core.Bool.{true}
 use lib.ListN.{length, length-map}
 use Rattle.expressions.specs.declared.expr.Expr.{Expr}
-use Rattle.evaluation.specs.Formed.{hasDuration}
+use Rattle.expressions.specs.Shapes.{hasDuration}
 use Rattle.steps.specs.declared.plan.Step.the-variants.{BackTo}
 use Rattle.ready.specs.Made.{exprSteps}
 use Rattle.ready.proofs.Rows.{row-size}
