@@ -4,10 +4,11 @@ use mathlib.Core.Bool.{Bool, true, false, cond}
 use mathlib.Core.List.{List, [], _∷_, _++_, map, append-assoc, map-append}
 use Prim.Native.Nat.{ℕ, zero, suc, _+_, _≤_, _<_}
 use native.Mathlib.Nat.{add-zero, zero-add}
+use native.Mathlib.Numerals.{add-one}
 use native.Mathlib.Omega.{arith}
 use lib.Dec.{leb}
 use lib.ListN.{length, getD, take, drop, set, length-map, List·getD-append}
-use lib.Seq.{take-at, sets, sets-eq}
+use lib.Seq.{take-at, take-suc, length-take-le, sets, sets-eq}
 use Rattle.lexer.specs.Words.{Word}
 use Rattle.lexer.specs.Refusals.{TooLong, TooMany}
 use Rattle.lexer.specs.Lex.{tokenAt, Item, item, Lexed, refused, whole, ahead, ifTaken, lexFrom, lexed, ifLexeme, frontFrom, front}
@@ -84,6 +85,12 @@ front-whole ws s l e = rw e at (leads ws s)
 pub sets-append : (l m a : List ℕ) (i : ℕ) → sets a i (l ++ m) ≡ sets (sets a i l) (i + length l) m
 sets-append [] m a i = ap (λ (k : ℕ). sets a k m) (sym (add-zero i))
 sets-append (x ∷ l) m a i = sets-append l m (set a i x) (suc i) ∙ ap (λ (k : ℕ). sets (sets (set a i x) (suc i) l) k m) (omega arith)
+
+-- one more of a list that is copied
+pub sets-take : (l a : List ℕ) (i : ℕ) → i < length l → set (sets a 0 (take i l)) i (getD l i 0) ≡ sets a 0 (take (i + 1) l)
+sets-take l a i h =
+    let n : 0 + length (take i l) ≡ i = omega (arith, length-take-le i l (omega arith)) in
+    rw (add-one, take-suc l i 0, sets-append (take i l) (getD l i 0 ∷ []), n)
 
 -- an array begins with what was stored from its front on: the codes that a reader takes, and each lexeme's place
 module _ (l a : List ℕ) (h : length l ≤ length a) where

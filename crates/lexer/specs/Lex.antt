@@ -1,5 +1,5 @@
 -- How a phrase is cut into lexemes. Assumes nothing.
-use Prim.Native.Nat.{ℕ, suc, zero, _+_, _-_, _*_, _≤_}
+use Prim.Native.Nat.{ℕ, suc, zero, _+_, _-_, _*_, _≤_, min}
 use Prim.Native.Char.{code}
 use mathlib.Core.Path.{_≡_}
 use mathlib.Core.Bool.{cond}
@@ -8,7 +8,8 @@ use lib.Dec.{ltb, leb, eqb}
 use lib.ListN.{length, getD, take, drop}
 use Rattle.lexer.specs.Lexemes.{NUM}
 use Rattle.lexer.specs.Words.{Word, meaning, folded}
-use Rattle.lexer.specs.Classes.{Gap, Letter, Digit, Mark, classOf, markOf}
+use Rattle.lexer.specs.Table.{fixed, bytesFrom, headOf, tailOf}
+use Rattle.lexer.specs.Classes.{Gap, Letter, Digit, Mark, letterOf, classOf, markOf}
 use Rattle.lexer.specs.Refusals.{TooLong, Meaningless, TooLarge, TooMany}
 use Rattle.lexer.specs.declared.find.Found.{Found}
 use Rattle.lexer.specs.declared.find.Found.the-variants.{Lexeme, Unknown}
@@ -17,6 +18,8 @@ use Rattle.lexer.specs.declared.lex.Digits.the-variants.{Value, Over}
 use Rattle.lexer.specs.declared.lex.Token.{Token}
 use Rattle.lexer.specs.declared.lex.Token.the-variants.{Finish, Taken, Refused}
 use Rattle.lexer.specs.declared.lex.Ended.{Ended}
+use Rattle.lexer.specs.declared.word.Block.{Block}
+use Rattle.lexer.specs.declared.word.Key.{Key}
 
 -- how many bytes at the front are of class k
 abbrev pub run : ℕ → List ℕ → ℕ
@@ -50,9 +53,25 @@ abbrev pub ofNumber : Digits → ℕ → ℕ → Token
 ofNumber (Value v) a e = Taken (NUM + v) a e
 ofNumber Over a e = Refused TooLarge a e
 
--- "a run of letters is one word"
+-- "a run of letters is one word": the one that begins at a, as it is looked up
+abbrev pub wordFrom : List ℕ → ℕ → List ℕ
+wordFrom s a = folded (between s a (runEnd Letter s a))
+
+-- its lexeme, or "a word that is no keyword"
 unfoldable pub wordAt : List Word → List ℕ → ℕ → Token
-wordAt ws s a = ofWord (meaning ws (folded (between s a (runEnd Letter s a)))) a (runEnd Letter s a)
+wordAt ws s a = ofWord (meaning ws (wordFrom s a)) a (runEnd Letter s a)
+
+-- the small letter at a place, 0 where there is none
+abbrev pub letterAt : List ℕ → ℕ → ℕ
+letterAt s a = cond (ltb a (length s)) (letterOf (getD s a 0)) 0
+
+-- the letters from a on, n of them at most, as the first n bytes of a word, and where they end
+abbrev pub blockOf : ℕ → List ℕ → ℕ → Block
+blockOf n s a = record { number = bytesFrom 0 (fixed n (wordFrom s a)); end = a + min n (run Letter (drop a s)) }
+
+-- the word that begins at a as two numbers, and where it ends
+abbrev pub keyOf : List ℕ → ℕ → Key
+keyOf s a = record { head = headOf (wordFrom s a); tail = tailOf (wordFrom s a); end = runEnd Letter s a }
 
 -- "a run of digits one number"
 unfoldable pub numberAt : List ℕ → ℕ → Token

@@ -12,14 +12,16 @@ use super::refusal::MEANINGLESS;
 use super::refusal::TOO_LARGE;
 use super::refusal::TOO_LONG;
 use super::refusal::TOO_MANY;
+use super::run::run_end;
 use super::table::rows;
+use super::word::key_at;
 ghost use mathlib.Core.Path.{_≡_};
 ghost use Prim.Native.Nat.{_-_, _≤_};
 ghost use lib.ListN.{length};
 ghost use lib.Seq.{sets};
 ghost use Rattle.lexer.specs.Keywords.{keywords};
 ghost use Rattle.lexer.specs.Table.{sorted, cells};
-ghost use Rattle.lexer.specs.Lex.{runEnd, numberOf, wordAt, numberAt, tokenAt};
+ghost use Rattle.lexer.specs.Lex.{numberOf, wordAt, numberAt, tokenAt};
 ghost use Rattle.lexer.specs.Lex.{refused, lexed, front, codesOf, startsOf, endedOf, Placed};
 
 // What a run of digits says.
@@ -52,20 +54,6 @@ pub struct Ended {
     pub count: usize,
 }
 
-// The end of the run of bytes of one class.
-fn run_end(s: &[u8], at: usize, k: u8) -> usize
-    ensures { λ r. ⌜ r ≡ runEnd k (now (s .entry)) at ⌝ }
-{
-    let mut e = at;
-    while e < s.len() {
-        if class(s[e]) != k {
-            return e;
-        }
-        e += 1;
-    }
-    e
-}
-
 // A digit's number, 0 for any byte below the digits.
 fn digit(b: u8) -> u64
     ensures { λ r. ⌜ r ≡ b - 48 ⌝ }
@@ -93,23 +81,23 @@ fn digits_value(s: &[u8]) -> Digits
 }
 
 // The word that begins at a.
-fn word_at(words: &[u8; 1862], s: &[u8], a: usize) -> Token
-    requires { ⌜ (now words ≡ cells (sorted keywords)) × (a ≤ length (now s)) ⌝ }
+fn word_at(words: &[u8; 2128], s: &[u8], a: usize) -> Token
+    requires { ⌜ now words ≡ cells (sorted keywords) ⌝ }
     ensures { λ r. ⌜ r ≡ wordAt keywords (now (s .entry)) a ⌝ }
 {
-    let e = run_end(s, a, LETTER);
-    let f = find(words, &s[a..e]);
+    let k = key_at(s, a);
+    let f = find(words, k.head, k.tail);
     let Found::Lexeme(code) = f else {
         return Token::Refused {
             number: MEANINGLESS,
             start: a,
-            end: e,
+            end: k.end,
         };
     };
     Token::Taken {
         code,
         start: a,
-        end: e,
+        end: k.end,
     }
 }
 
@@ -135,7 +123,7 @@ fn number_at(s: &[u8], a: usize) -> Token
 }
 
 // The first lexeme at or after a place, by the rows that are lent; past the last byte there is none.
-fn token_in(words: &[u8; 1862], s: &[u8], at: usize) -> Token
+fn token_in(words: &[u8; 2128], s: &[u8], at: usize) -> Token
     requires { ⌜ now words ≡ cells (sorted keywords) ⌝ }
     ensures { λ r. ⌜ r ≡ tokenAt keywords (now (s .entry)) at ⌝ }
 {

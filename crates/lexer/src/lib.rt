@@ -6,4 +6,6 @@ pub mod lex;
 pub mod lexeme;
 pub mod part;
 pub mod refusal;
+mod run;
 mod table;
+mod word;

@@ -2,7 +2,7 @@
 // lexing by a reader answers. An answer is the lexemes' codes with their places, or the refusal with its place, the end of its part and
 // the part's length.
 use bytes::scan;
-use lexer::lex::Line;
+use lexer::lex::Ended;
 use lexer::lex::lex;
 use lexer::part::offending;
 use libc::STDOUT_FILENO;
@@ -14,8 +14,13 @@ fn write_number(text: &[u8], n: u64) {
     io::print_decimal(STDOUT_FILENO, n);
 }
 
+// The place of a lexeme's first byte, `@5`.
+fn write_start(start: u8) {
+    write_number(b"@", start as u64);
+}
+
 // The lexemes, `118@0 123@5`.
-fn write_lexemes(codes: &[u64; 64], starts: &[u64; 64], count: usize)
+fn write_lexemes(codes: &[u64; 64], starts: &[u8; 64], count: usize)
     requires { ⌜ count ≤ 64 ⌝ }
 {
     let mut i: usize = 0;
@@ -24,7 +29,7 @@ fn write_lexemes(codes: &[u64; 64], starts: &[u64; 64], count: usize)
             io::write_all(STDOUT_FILENO, b" ");
         }
         io::print_decimal(STDOUT_FILENO, codes[i]);
-        write_number(b"@", starts[i]);
+        write_start(starts[i]);
         i += 1;
     }
 }
@@ -38,24 +43,26 @@ fn write_refusal(number: u8, place: usize, end: usize, part: &[u8]) {
 }
 
 // An answer to a phrase.
-fn write_line(phrase: &[u8], l: Line)
-    requires { ⌜ l .count ≤ 64 ⌝ }
+fn write_line(phrase: &[u8], r: Ended, codes: &[u64; 64], starts: &[u8; 64])
+    requires { ⌜ r .count ≤ 64 ⌝ }
 {
-    let number = l.number;
+    let number = r.number;
     if number == 0 {
-        let codes = l.codes;
-        let starts = l.starts;
-        write_lexemes(&codes, &starts, l.count);
+        write_lexemes(codes, starts, r.count);
     } else {
-        write_refusal(number, l.place, l.end, offending(phrase));
+        write_refusal(number, r.place, r.end, offending(phrase));
     }
     io::write_all(STDOUT_FILENO, b"\n");
 }
 
 // What lexing answers to a phrase, and what lexing by a reader does.
 fn write_answer(phrase: &[u8]) {
-    write_line(phrase, lex(phrase));
-    write_line(phrase, reader::lex(phrase));
+    let mut codes = [0u64; 64];
+    let mut starts = [0u8; 64];
+    let r = lex(phrase, &mut codes, &mut starts);
+    write_line(phrase, r, &codes, &starts);
+    let by_reader = reader::lex(phrase, &mut codes, &mut starts);
+    write_line(phrase, by_reader, &codes, &starts);
 }
 
 // Every single byte as a phrase.

@@ -5,10 +5,10 @@ use Rattle.lexer_cases.proofs.write_lexemes.Statement.{statement}
 use Rattle.lexer_cases.proofs.write_lexemes.Tie as tie
 
 abbrev Inv-loop : tie.InvT-loop
-Inv-loop codes starts count i₀ t5 t6 i = Unit {0}
+Inv-loop codes starts count i₀ t5 i = Unit {0}
 
 abbrev μ-loop : tie.MeasureT-loop
-μ-loop codes starts count i₀ t5 t6 i = count - i
+μ-loop codes starts count i₀ t5 i = count - i
 
 loop-holds : tie.Need-loop-holds Inv-loop μ-loop
 loop-holds c = search needs
@@ -28,17 +28,11 @@ element-copy-out-print-decimal c = search needs
 print-decimal-requires : tie.Need-print-decimal-requires Inv-loop μ-loop
 print-decimal-requires c κs = search needs
 
-slice-aggregate-write-number : tie.Need-slice-aggregate-write-number Inv-loop μ-loop
-slice-aggregate-write-number c = search needs
+element-copy-out-write-start : tie.Need-element-copy-out-write-start Inv-loop μ-loop
+element-copy-out-write-start c = search needs
 
-mul-write-number : tie.Need-mul-write-number Inv-loop μ-loop
-mul-write-number c = search needs
-
-element-copy-out-write-number : tie.Need-element-copy-out-write-number Inv-loop μ-loop
-element-copy-out-write-number c = search needs
-
-write-number-requires : tie.Need-write-number-requires Inv-loop μ-loop
-write-number-requires c κs = search needs
+write-start-requires : tie.Need-write-start-requires Inv-loop μ-loop
+write-start-requires c κs = search needs
 
 add-i : tie.Need-add-i Inv-loop μ-loop
 add-i c = search needs
@@ -64,10 +58,8 @@ write-lexemes-spec =
     mul-print-decimal
     element-copy-out-print-decimal
     print-decimal-requires
-    slice-aggregate-write-number
-    mul-write-number
-    element-copy-out-write-number
-    write-number-requires
+    element-copy-out-write-start
+    write-start-requires
     add-i
     loop-less
     loop-again

@@ -1,4 +1,4 @@
--- `lexer::lex::run_end` meets its contract. The loop's invariant: the run goes on at e. Assumes nothing.
+-- `lexer::run::run_end` meets its contract. The loop's invariant: the run goes on at e. Assumes nothing.
 use mathlib.Core.Path.{_≡_, refl, sym, _∙_}
 use Prim.Native.Nat.{_-_}
 use native.Mathlib.Omega.{arith}
@@ -6,8 +6,8 @@ use borrow.Author.Needs.{needs}
 use lib.ListN.{length}
 use Rattle.lexer.specs.Lex.{runEnd}
 use Rattle.lexer.proofs.Runs.{run-step, run-stop, run-over}
-use Rattle.lexer.proofs.lex.run_end.Statement.{statement}
-use Rattle.lexer.proofs.lex.run_end.Tie as tie
+use Rattle.lexer.proofs.run.run_end.Statement.{statement}
+use Rattle.lexer.proofs.run.run_end.Tie as tie
 
 abbrev Inv-loop : tie.InvT-loop
 Inv-loop s at k e₀ e = runEnd k s at ≡ runEnd k s e
