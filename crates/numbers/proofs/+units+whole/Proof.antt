@@ -1,25 +1,22 @@
--- `num` and `units` call each other: one proof for both, over the lexemes left.
-use mathlib.Core.Path.{sym, _∙_}
+-- `units` and `whole` call each other: one proof for both, over the lexemes left.
+use mathlib.Core.Path.{sym}
 use Prim.Native.Nat.{ℕ, _+_, _*_, _≤_, _<_}
 use native.Mathlib.Omega.{arith}
 use lib.ListN.{length}
 use denote.Ref.{now}
 use borrow.Author.Needs.{needs}
-use borrow.Author.Tests.{not-true}
 use borrow.Fn.Kinds.{In}
 use borrow.Fn.PlainCycle.{Measures, is, falls, and}
 use Rattle.numbers.specs.Numbers.{tailOf, unitsOf, numStep, numOf}
 use Rattle.numbers.proofs.Laws.{kept, none, found, most, wider, promised}
 use Rattle.numbers.proofs.Bounds.{product, units-read, num-read}
 use Rattle.numbers.proofs.Turns.{num-is}
-use Rattle.numbers.proofs.Begins.{no-num}
-use Rattle.numbers.proofs.num.Reads as num
-use Rattle.numbers.proofs.num.Kinds as num-kinds
-use Rattle.numbers.proofs.+num+units.Lts-num as num-lts
+use Rattle.numbers.proofs.whole.Reads as whole
+use Rattle.numbers.proofs.whole.Kinds as whole-kinds
+use Rattle.numbers.proofs.+units+whole.Lts-whole as whole-lts
 use Rattle.numbers.proofs.units.Reads as units
 use Rattle.numbers.proofs.units.Kinds as units-kinds
-use Rattle.numbers.proofs.+num+units.Lts-units as units-lts
-use Rattle.numbers.proofs.begins_number.Reads as begins-number-reads
+use Rattle.numbers.proofs.+units+whole.Lts-units as units-lts
 use Rattle.numbers.proofs.literal.Reads as literal-reads
 use Rattle.numbers.proofs.num_triple.Reads as num-triple-reads
 use Rattle.numbers.proofs.num_triple_unit.Reads as num-triple-unit-reads
@@ -27,28 +24,26 @@ use Rattle.numbers.proofs.slices.is_at.Reads as is-at-reads
 use Rattle.numbers.proofs.slices.one_if.Reads as one-if-reads
 use Rattle.numbers.proofs.slices.rest.Reads as rest-reads
 use Rattle.numbers.proofs.sum.Reads as sum-reads
-use Rattle.numbers.proofs.+num+units.{statement}
-use Rattle.numbers.proofs.+num+units.Tie.{close}
+use Rattle.numbers.proofs.+units+whole.{statement}
+use Rattle.numbers.proofs.+units+whole.Tie.{close}
 
--- the lexemes left fall at each turn: `units` passes fewer to `num`, and `num` all to `units`
-abbrev μ-num : Measures 1 num-kinds.ps ℕ
-μ-num κs a = 2 * length (a .0 .now) + 1
+-- the lexemes left fall at each turn: `units` passes fewer to `whole`, and `whole` all to `units`
+abbrev μ-whole : Measures 1 whole-kinds.ps ℕ
+μ-whole κs a = 2 * length (a .0 .now) + 1
 
 abbrev μ-units : Measures 1 units-kinds.ps ℕ
 μ-units κs a = 2 * length (a .0 .now)
 
 module _ (t : ℕ) where
-  abbrev num-at : In 1 num-kinds.ps
-  num-at = and 1 num-kinds.ps (is 1 num-kinds.ps μ-num t) num.Pre
+  abbrev whole-at : In 1 whole-kinds.ps
+  whole-at = and 1 whole-kinds.ps (is 1 whole-kinds.ps μ-whole t) whole.Pre
 
   abbrev units-at : In 1 units-kinds.ps
   units-at = and 1 units-kinds.ps (is 1 units-kinds.ps μ-units t) units.Pre
 
   -- what each asks of the functions that it calls, and learns from them
-  abbrev num-claims : num-lts.Claims
-  num-claims = (
-    begins-number-reads.Asked,
-    begins-number-reads.Learnt,
+  abbrev whole-claims : whole-lts.Claims
+  whole-claims = (
     num-triple-reads.Asked,
     num-triple-reads.Learnt,
     and 1 units-kinds.ps (falls 1 units-kinds.ps _<_ μ-units t) units.Pre,
@@ -67,48 +62,40 @@ module _ (t : ℕ) where
     is-at-reads.Learnt,
     one-if-reads.Asked,
     one-if-reads.Learnt,
-    and 1 num-kinds.ps (falls 1 num-kinds.ps _<_ μ-num t) num.Pre,
-    num.Post,
+    and 1 whole-kinds.ps (falls 1 whole-kinds.ps _<_ μ-whole t) whole.Pre,
+    whole.Post,
     sum-reads.Asked,
     sum-reads.Learnt,
   )
 
-  num-begins-number-requires : num-lts.Need-begins-number-requires num-claims num-at num.Post
-  num-begins-number-requires c κs = search needs
+  whole-num-triple-requires : whole-lts.Need-num-triple-requires whole-claims whole-at whole.Post
+  whole-num-triple-requires c κs = search needs
 
-  num-returns : num-lts.Need-returns num-claims num-at num.Post
-  num-returns c =
-      let begins-number = c .before .begins-number in
-      promised (sym (no-num _ (sym (begins-number .ensures) ∙ not-true _ (c .if1 .taken)))) (num-read _)
+  whole-units-requires : whole-lts.Need-units-requires whole-claims whole-at whole.Post
+  whole-units-requires c κs = (omega arith, wider (omega arith) (c .num-triple .ensures .1))
 
-  num-num-triple-requires : num-lts.Need-num-triple-requires num-claims num-at num.Post
-  num-num-triple-requires c κs = search needs
+  whole-enum-told : whole-lts.Need-enum-told whole-claims whole-at whole.Post
+  whole-enum-told c = search needs
 
-  num-units-requires : num-lts.Need-units-requires num-claims num-at num.Post
-  num-units-requires c κs = (omega arith, wider (omega arith) (c .num-triple .ensures .1))
-
-  num-enum-told : num-lts.Need-enum-told num-claims num-at num.Post
-  num-enum-told c = search needs
-
-  num-returns-2 : num-lts.Need-returns-2 num-claims num-at num.Post
+  whole-returns : whole-lts.Need-returns whole-claims whole-at whole.Post
   unfolding numStep
-  num-returns-2 c =
+  whole-returns c =
       let num-triple = c .before .before .num-triple in
       let units = c .before .units in
       let arm = c .match in
       promised
-      (rw (num-is (now (c .before .before .before .before .before .before .args .l)), ← (num-triple .ensures .0), ← (units .ensures .0)) (sym (kept _ _ (arm .keys2))))
+      (rw (num-is (now (c .before .before .before .before .args .l)), ← (num-triple .ensures .0), ← (units .ensures .0)) (sym (kept _ _ (arm .keys2))))
       (num-read _)
 
-  num-units-requires-2 : num-lts.Need-units-requires-2 num-claims num-at num.Post
-  num-units-requires-2 c κs = (omega arith, record { bounds = omega arith })
+  whole-units-requires-2 : whole-lts.Need-units-requires-2 whole-claims whole-at whole.Post
+  whole-units-requires-2 c κs = (omega arith, record { bounds = omega arith })
 
-  num-enum-told-2 : num-lts.Need-enum-told-2 num-claims num-at num.Post
-  num-enum-told-2 c = search needs
+  whole-enum-told-2 : whole-lts.Need-enum-told-2 whole-claims whole-at whole.Post
+  whole-enum-told-2 c = search needs
 
-  num-returns-3 : num-lts.Need-returns-3 num-claims num-at num.Post
+  whole-returns-2 : whole-lts.Need-returns-2 whole-claims whole-at whole.Post
   unfolding numStep
-  num-returns-3 c =
+  whole-returns-2 c =
       let num-triple = c .before .before .before .before .before .num-triple in
       let units = c .before .before .before .before .units in
       let enum-told = c .before .before .enum-told in
@@ -116,7 +103,7 @@ module _ (t : ℕ) where
       let arm2 = c .match2 in
       promised
       (rw (
-        num-is (now (c .before .before .before .before .before .before .before .before .before .args .l)),
+        num-is (now (c .before .before .before .before .before .before .before .args .l)),
         ← (num-triple .ensures .0),
         ← (units .ensures .0),
         enum-told .given .1,
@@ -124,12 +111,12 @@ module _ (t : ℕ) where
       ) (sym (kept _ _ (arm2 .keys2))))
       (num-read _)
 
-  num-enum-told-3 : num-lts.Need-enum-told-3 num-claims num-at num.Post
-  num-enum-told-3 c = search needs
+  whole-enum-told-3 : whole-lts.Need-enum-told-3 whole-claims whole-at whole.Post
+  whole-enum-told-3 c = search needs
 
-  num-returns-4 : num-lts.Need-returns-4 num-claims num-at num.Post
+  whole-returns-3 : whole-lts.Need-returns-3 whole-claims whole-at whole.Post
   unfolding numStep
-  num-returns-4 c =
+  whole-returns-3 c =
       let num-triple = c .before .before .before .before .before .before .before .num-triple in
       let units = c .before .before .before .before .before .before .units in
       let enum-told = c .before .before .before .before .enum-told in
@@ -138,7 +125,7 @@ module _ (t : ℕ) where
       let arm3 = c .match3 in
       promised
       (rw (
-        num-is (now (c .before .before .before .before .before .before .before .before .before .before .before .args .l)),
+        num-is (now (c .before .before .before .before .before .before .before .before .before .args .l)),
         ← (num-triple .ensures .0),
         ← (units .ensures .0),
         enum-told .given .1,
@@ -147,12 +134,12 @@ module _ (t : ℕ) where
       ) (sym (kept _ _ (arm3 .keys2))))
       (num-read _)
 
-  num-literal-requires : num-lts.Need-literal-requires num-claims num-at num.Post
-  num-literal-requires c κs = search needs
+  whole-literal-requires : whole-lts.Need-literal-requires whole-claims whole-at whole.Post
+  whole-literal-requires c κs = search needs
 
-  num-returns-5 : num-lts.Need-returns-5 num-claims num-at num.Post
+  whole-returns-4 : whole-lts.Need-returns-4 whole-claims whole-at whole.Post
   unfolding numStep
-  num-returns-5 c =
+  whole-returns-4 c =
       let num-triple = c .before .before .before .before .before .before .before .before .before .num-triple in
       let units = c .before .before .before .before .before .before .before .before .units in
       let enum-told = c .before .before .before .before .before .before .enum-told in
@@ -162,7 +149,7 @@ module _ (t : ℕ) where
       let literal = c .literal in
       promised
       (rw (
-        num-is (now (c .before .before .before .before .before .before .before .before .before .before .before .before .before .args .l)),
+        num-is (now (c .before .before .before .before .before .before .before .before .before .before .before .args .l)),
         ← (num-triple .ensures .0),
         ← (units .ensures .0),
         enum-told .given .1,
@@ -242,11 +229,11 @@ module _ (t : ℕ) where
   units-rest-requires-2 : units-lts.Need-rest-requires-2 units-claims units-at units.Post
   units-rest-requires-2 c κs = let b = read (c .before .before) in omega arith
 
-  units-num-requires : units-lts.Need-num-requires units-claims units-at units.Post
-  units-num-requires c κs = let b = read (c .before .before .before) in (omega arith, tt)
+  units-whole-requires : units-lts.Need-whole-requires units-claims units-at units.Post
+  units-whole-requires c κs = let b = read (c .before .before .before) in (omega arith, tt)
 
   units-sum-requires : units-lts.Need-sum-requires units-claims units-at units.Post
-  units-sum-requires c κs = let b = read (c .before .before .before .before) in let m = most (c .num .ensures .1) in omega arith
+  units-sum-requires c κs = let b = read (c .before .before .before .before) in let m = most (c .whole .ensures .1) in omega arith
 
   units-returns-3 : units-lts.Need-returns-3 units-claims units-at units.Post
   unfolding unitsOf tailOf
@@ -263,29 +250,14 @@ module _ (t : ℕ) where
         ← (c .before .before .before .before .is-at .ensures .0),
         ← (c .before .before .before .one-if .ensures .0),
         ← (c .before .before .rest2 .ensures .0),
-        ← (c .before .num .ensures .0),
+        ← (c .before .whole .ensures .0),
         ← (c .sum .ensures),
       ))
       (units-read numOf num-read _ _ (start .before .before .before .pre .1))
 
-pub +num+units-spec : {M : Type 1} → statement M
-+num+units-spec =
-    close μ-num μ-units
-    (λ t.
-    num-lts.spec (num-claims t) (num-at t) num.Post
-    (num-begins-number-requires t)
-    (num-returns t)
-    (num-num-triple-requires t)
-    (num-units-requires t)
-    (num-enum-told t)
-    (num-returns-2 t)
-    (num-units-requires-2 t)
-    (num-enum-told-2 t)
-    (num-returns-3 t)
-    (num-enum-told-3 t)
-    (num-returns-4 t)
-    (num-literal-requires t)
-    (num-returns-5 t))
+pub +units+whole-spec : {M : Type 1} → statement M
++units+whole-spec =
+    close μ-units μ-whole
     (λ t.
     units-lts.spec (units-claims t) (units-at t) units.Post
     (units-enum-known-triple t)
@@ -302,6 +274,19 @@ pub +num+units-spec : {M : Type 1} → statement M
     (units-one-if-requires t)
     (units-add-tokens t)
     (units-rest-requires-2 t)
-    (units-num-requires t)
+    (units-whole-requires t)
     (units-sum-requires t)
     (units-returns-3 t))
+    (λ t.
+    whole-lts.spec (whole-claims t) (whole-at t) whole.Post
+    (whole-num-triple-requires t)
+    (whole-units-requires t)
+    (whole-enum-told t)
+    (whole-returns t)
+    (whole-units-requires-2 t)
+    (whole-enum-told-2 t)
+    (whole-returns-2 t)
+    (whole-enum-told-3 t)
+    (whole-returns-3 t)
+    (whole-literal-requires t)
+    (whole-returns-4 t))
