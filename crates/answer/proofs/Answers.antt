@@ -6,7 +6,7 @@ use mathlib.Core.Bool.{Bool, true, false}
 use mathlib.Core.List.{List}
 use Rattle.lexer.specs.Keywords.{keywords}
 use Rattle.calendar.specs.Moments.{IsMoment, Outcome, isMoment}
-use Rattle.calendar.specs.declared.Moment.{Moment}
+use Rattle.calendar.specs.declared.moments.Moment.{Moment}
 use Rattle.calendar.proofs.Valid.{test-range, test-moment}
 use Rattle.dates.specs.declared.time.Time.the-variants.{Empty as NoTime}
 use Rattle.phrase.specs.Tree.{DateTime}
@@ -15,7 +15,7 @@ use Rattle.phrase.specs.Read.{ReadPhrase, refusal, tree, readOf, phraseAnswer}
 use Rattle.phrase.specs.declared.read.PhraseRead.{PhraseRead}
 use Rattle.phrase.proofs.Decoded.{decoded, tree-count}
 use Rattle.phrase.proofs.Phrases.{refusal-numbers, reads}
-use Rattle.evaluation.specs.Refusals.{NoNow}
+use Rattle.refusals.specs.Table.{NoNow}
 use Rattle.evaluation.specs.Evaluate.{evaluate}
 use Rattle.evaluation.specs.Formed.{Formed}
 use Rattle.answer.specs.Answer.{Answer, at, refusedAt, placed, answerFrom, answerOf}

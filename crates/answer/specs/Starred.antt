@@ -25,8 +25,8 @@ use Rattle.phrase.specs.Read.{readOf}
 use Rattle.calendar.specs.Gregorian.{leapYear, monthLength, daysBeforeMonth, daysOfYears, dayNumber}
 use Rattle.calendar.specs.Gregorian.{yearsBefore, yearOf, dayOfYear, monthOf, monthOfDay, dayOf}
 use Rattle.calendar.specs.Moments.{isDate, isTime, isMoment, withDate, withTime}
-use Rattle.calendar.specs.Moments.{onDay, later, earlier, monthsLater, monthsEarlier, yearsLater, yearsEarlier}
-use Rattle.calendar.specs.declared.Moment.{Moment}
+use Rattle.calendar.specs.Moments.{onDay, minutesStep, monthsStep, yearsStep}
+use Rattle.calendar.specs.declared.moments.Moment.{Moment}
 use Rattle.evaluation.specs.Weekdays.{daysBack}
 use Rattle.evaluation.specs.Evaluate.{evaluate}
 use Rattle.answer.specs.Answer.{Answer, at, refusedAt, answerOf}
@@ -77,6 +77,6 @@ unfolding starred keywords classOf markOf numberOf wordAt numberAt tokenAt lexed
     dayMonthYearOf monthDayOf isDelim threeNumbersOf twoNumbersOf behindSecondOf delimitedOf dateOf minuteOf halfOf clockOf timeOf
     inTailOf durationTailOf tailOf withDurationOf relativeExprOf weekdayExprOf undatedOf dateExprOf withExprOf durationTurnOf withTimeOf
     timedTurnOf undatedTurnOf turnOf dateTimeStep dateTimeOf readOf leapYear monthLength daysBeforeMonth daysOfYears dayNumber yearsBefore
-    yearOf dayOfYear monthOf monthOfDay dayOf isDate isTime isMoment onDay later earlier monthsLater monthsEarlier yearsLater yearsEarlier
+    yearOf dayOfYear monthOf monthOfDay dayOf isDate isTime isMoment onDay minutesStep monthsStep yearsStep
     daysBack evaluate answerOf
 starred-as-listed = refl

@@ -1,6 +1,6 @@
 // Prints days, dates and steps of the calendar, one a line. What it must print is made by another calendar (data/expected.py).
-use calendar::Moment;
-use calendar::Step;
+use calendar::moments::Moment;
+use calendar::moments::Reached;
 ghost use mathlib.Core.Path.{_≡_};
 ghost use Prim.Native.Nat.{_+_, _%_};
 ghost use Rattle.calendar.specs.Moments.{IsMoment};
@@ -47,13 +47,13 @@ fn day_line(t: Moment)
     text(b" is day ");
     io::print_decimal(1, n as u64);
     text(b", weekday ");
-    text(&[digit(calendar::weekday_of(n)), b'\n']);
+    text(&[digit(calendar::moments::weekday_of(n)), b'\n']);
 }
 
 // Day n: its date, and that date's number and weekday.
 fn day(n: u32) {
-    let s = Moment::from_day(n);
-    let Step::At(t) = s else {
+    let s = Moment::first().on_day(n);
+    let Reached::At(t) = s else {
         text(b"refused 12\n");
         return;
     };
@@ -72,15 +72,17 @@ fn leap_day(y: u32) {
 }
 
 // A step of size k from t, with the refusal's number.
-fn step(t: Moment, k: u64, words: &[u8], s: Step) {
+fn step(t: Moment, k: u64, words: &[u8], s: Reached) {
     moment(t);
     text(b", ");
     io::print_decimal(1, k);
     text(words);
     match s {
-        Step::At(u) => moment(u),
-        Step::Outside => text(b"refused 12"),
-        Step::NoDay => text(b"refused 13"),
+        Reached::At(u) => moment(u),
+        Reached::Refused(number) => {
+            text(b"refused ");
+            io::print_decimal(1, number as u64);
+        }
     }
     text(b"\n");
 }
@@ -89,12 +91,12 @@ fn step(t: Moment, k: u64, words: &[u8], s: Step) {
 fn six(t: Moment, k: u64)
     requires { ⌜ IsMoment t ⌝ }
 {
-    step(t, k, b" minutes later: ", t.later(k));
-    step(t, k, b" minutes earlier: ", t.earlier(k));
-    step(t, k, b" months later: ", t.months_later(k));
-    step(t, k, b" months earlier: ", t.months_earlier(k));
-    step(t, k, b" years later: ", t.years_later(k));
-    step(t, k, b" years earlier: ", t.years_earlier(k));
+    step(t, k, b" minutes later: ", t.minutes_step(false, k));
+    step(t, k, b" minutes earlier: ", t.minutes_step(true, k));
+    step(t, k, b" months later: ", t.months_step(false, k));
+    step(t, k, b" months earlier: ", t.months_step(true, k));
+    step(t, k, b" years later: ", t.years_step(false, k));
+    step(t, k, b" years earlier: ", t.years_step(true, k));
 }
 
 // Small steps, those on both sides of each limit, and the largest.

@@ -8,13 +8,13 @@ use borrow.Author.Tests.{leb-true}
 use lib.Dec.{leb}
 use lib.ListN.{length}
 use Rattle.calendar.specs.Moments.{Outcome, moment, refused, isMoment}
-use Rattle.calendar.specs.declared.Moment.{Moment}
+use Rattle.calendar.specs.declared.moments.Moment.{Moment}
 use Rattle.lexer.specs.Keywords.{keywords}
 use Rattle.lexer.specs.Lex.{lexed}
 use Rattle.phrase.specs.Read.{ReadPhrase, refusal, tree, readOf, phraseAnswer}
 use Rattle.phrase.proofs.Phrases.{part-within}
 use Rattle.evaluation.specs.Evaluate.{evaluate}
-use Rattle.evaluation.specs.Refusals.{NoNow}
+use Rattle.refusals.specs.Table.{NoNow}
 use Rattle.answer.specs.Answer.{refusedAt, placed, answerRead, answerOf}
 
 -- a part that begins at a and ends at e

@@ -4,7 +4,7 @@ use mathlib.Core.Path.{_≡_}
 use mathlib.Core.List.{List, [], _∷_}
 use lib.ListN.{length}
 use lib.Seq.{sets}
-use Rattle.calendar.specs.declared.Moment.{Moment}
+use Rattle.calendar.specs.declared.moments.Moment.{Moment}
 use Rattle.answer.specs.Answer.{Answer, at, refusedAt}
 use Rattle.ready.specs.Ready.{ReadyPhrase, refusedReady, steps}
 use Rattle.records.specs.Records.{encodeOf, decodeOf}

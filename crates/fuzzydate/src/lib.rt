@@ -1,8 +1,8 @@
 // What apps call: phrases, nows and ready phrases as numbers and byte slices.
 use answer::Answered;
 use answer::answer;
-use calendar::Moment;
-use evaluation::step::Reached;
+use calendar::moments::Moment;
+use calendar::moments::Reached;
 use ready::make_ready;
 use records::record::encode;
 use records::run::run_ready;

@@ -6,7 +6,7 @@ use mathlib.Core.Bool.{true}
 use mathlib.Core.List.{List}
 use borrow.Author.Tests.{le-leb}
 use lib.ListN.{length}
-use Rattle.calendar.specs.declared.Moment.{Moment}
+use Rattle.calendar.specs.declared.moments.Moment.{Moment}
 use Rattle.lexer.specs.Keywords.{keywords}
 use Rattle.phrase.specs.Flat.{blank, sizeTree}
 use Rattle.phrase.specs.Read.{ReadPhrase, refusal, tree, readOf, phraseAnswer}

@@ -4,7 +4,7 @@ use mathlib.Core.Path.{_≡_, refl, ap, _∙_}
 use mathlib.Core.Bool.{Bool, true, false, cond, _&&_}
 use mathlib.Core.List.{List, [], _∷_}
 use Rattle.calendar.specs.Moments.{Outcome, andThen}
-use Rattle.calendar.specs.declared.Moment.{Moment}
+use Rattle.calendar.specs.declared.moments.Moment.{Moment}
 use Rattle.dates.specs.Durations.{Duration, part, concat, isSubDailyUnit}
 use Rattle.dates.specs.declared.date.Date.{Date}
 use Rattle.dates.specs.declared.date.Date.the-variants.{Today}
@@ -22,7 +22,7 @@ use Rattle.evaluation.specs.Steps.{unitStep, partStep, durationStep}
 use Rattle.evaluation.specs.Dates.{dateAt}
 use Rattle.evaluation.specs.Times.{timeAt}
 use Rattle.evaluation.specs.Evaluate.{isYear, isWeek, isMonthAndDay, byYear, byUnit, dateExprAt, evaluate}
-use Rattle.evaluation.proofs.Laws.{then-same, then-moment}
+use Rattle.calendar.proofs.Outcomes.{then-same, then-moment}
 use Rattle.steps.specs.Joining.{addStep}
 use Rattle.steps.specs.Running.{actOf, walkOf}
 use Rattle.steps.specs.declared.plan.Step.{Step}

@@ -3,8 +3,8 @@
 use answer::Answered;
 use answer::answer;
 use bytes::scan;
-use calendar::Moment;
-use evaluation::step::Reached;
+use calendar::moments::Moment;
+use calendar::moments::Reached;
 use libc::STDOUT_FILENO;
 use ready::make_ready;
 use steps::run::run;

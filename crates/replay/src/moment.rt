@@ -1,5 +1,5 @@
 // A moment, `2026-02-11 09:30:15`.
-use calendar::Moment;
+use calendar::moments::Moment;
 use shown::out::text;
 ghost use mathlib.Core.Path.{_≡_};
 ghost use Prim.Native.Nat.{_+_, _%_};

@@ -6,11 +6,10 @@ use mathlib.Core.Bool.{Bool, true, false, cond}
 use mathlib.Core.List.{List, [], _∷_}
 use lib.ListN.{length}
 use Rattle.calendar.specs.Moments.{Outcome, moment, refused, andThen}
-use Rattle.calendar.specs.declared.Moment.{Moment}
-use Rattle.calendar.proofs.Steps.{later-later, earlier-earlier}
+use Rattle.calendar.specs.declared.moments.Moment.{Moment}
+use Rattle.calendar.proofs.Steps.{minutes-twice}
 use Rattle.numbers.specs.Slices.{oneIf}
-use Rattle.evaluation.specs.Steps.{minutesStep}
-use Rattle.evaluation.proofs.Laws.{then-same, then-moment}
+use Rattle.calendar.proofs.Outcomes.{then-same, then-moment}
 use Rattle.steps.specs.Joining.{joinOf, joined, addStep, areApart, allApart}
 use Rattle.steps.specs.Running.{actOf, walkOf, isStart, isTimeStep, countOf, starts, times}
 use Rattle.steps.specs.declared.plan.Step.{Step}
@@ -55,11 +54,6 @@ meeting (AtTime time) s = apart refl
 pub then-assoc : (o : Outcome) (f g : Moment → Outcome) → andThen (andThen o f) g ≡ andThen o (λ t. andThen (f t) g)
 then-assoc (moment t) f g = refl
 then-assoc (refused k) f g = refl
-
--- two fixed lengths of one direction are one, with the same refusal
-minutes-twice : (back : Bool) (a b : ℕ) (t : Moment) → minutesStep back (a + b) t ≡ andThen (minutesStep back a t) (minutesStep back b)
-minutes-twice true a b t = sym (earlier-earlier a b t)
-minutes-twice false a b t = sym (later-later a b t)
 
 -- the last step and one behind it
 pair : {x s : Step} → Meeting x s → (n t : Moment) → walkOf (joined (joinOf x s) x s) n t ≡ andThen (actOf x n t) (actOf s n)

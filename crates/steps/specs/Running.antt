@@ -4,11 +4,10 @@ use mathlib.Core.Bool.{Bool, true, false, cond, _&&_}
 use mathlib.Core.List.{List, [], _∷_}
 use lib.Dec.{leb, eqb}
 use lib.ListN.{length}
-use Rattle.calendar.specs.Moments.{Outcome, moment, refused, isMoment, andThen}
-use Rattle.calendar.specs.declared.Moment.{Moment}
+use Rattle.calendar.specs.Moments.{Outcome, moment, refused, isMoment, andThen, minutesStep, monthsStep, yearsStep}
+use Rattle.calendar.specs.declared.moments.Moment.{Moment}
 use Rattle.numbers.specs.Slices.{oneIf}
-use Rattle.evaluation.specs.Refusals.{NoNow, NoSense}
-use Rattle.evaluation.specs.Steps.{minutesStep, monthsStep, yearsStep}
+use Rattle.refusals.specs.Table as refusal
 use Rattle.evaluation.specs.Weekdays.{inWeek, fromToday, backTo}
 use Rattle.evaluation.specs.Dates.{dateAt}
 use Rattle.evaluation.specs.Times.{timeAt}
@@ -18,7 +17,7 @@ use Rattle.steps.specs.declared.plan.Step.the-variants.{Now, Senseless, 
 -- "start (now, a date rule, or refusal 9), fixed length, months, years, back to a weekday, time of day": a step from t, at the now n
 abbrev pub actOf : Step → Moment → Moment → Outcome
 actOf Now n t = moment t
-actOf Senseless n t = refused NoSense
+actOf Senseless n t = refused refusal.NoSense
 actOf (OnDate d) n t = dateAt d t
 actOf (InWeek s w) n t = inWeek s (w % 7) t
 actOf (FromToday w) n t = fromToday (w % 7) t
@@ -97,4 +96,4 @@ isList ss = leb (length ss) 24 && isFormed ss
 
 -- 8, then 9, then the steps
 unfoldable pub runOf : List Step → Moment → Outcome
-runOf ss n = cond (isMoment n) (cond (isList ss) (walkOf ss n n) (refused NoSense)) (refused NoNow)
+runOf ss n = cond (isMoment n) (cond (isList ss) (walkOf ss n n) (refused refusal.NoSense)) (refused refusal.NoNow)

@@ -1,26 +1,22 @@
 // A list of steps at a now.
 use super::plan::Plan;
 use super::plan::Step;
-use calendar::Moment;
+use calendar::moments::Moment;
+use calendar::moments::Reached;
 use evaluation::date::date_at;
-use evaluation::refusal::NO_NOW;
-use evaluation::refusal::NO_SENSE;
-use evaluation::step::Reached;
-use evaluation::step::minutes_step;
-use evaluation::step::months_step;
-use evaluation::step::years_step;
 use evaluation::time::time_at;
 use evaluation::weekday::back_to;
 use evaluation::weekday::from_today;
 use evaluation::weekday::in_week;
+use refusals::NO_NOW;
+use refusals::NO_SENSE;
 ghost use mathlib.Core.Path.{_≡_};
 ghost use Prim.Native.Nat.{_<_, _≤_};
 ghost use mathlib.Core.Bool.{_&&_};
 ghost use lib.Dec.{eqb};
 ghost use lib.ListN.{drop};
-ghost use Rattle.calendar.specs.Moments.{IsMoment};
+ghost use Rattle.calendar.specs.Moments.{IsMoment, reachedOf, Valid};
 ghost use Rattle.numbers.specs.Slices.{oneIf};
-ghost use Rattle.evaluation.specs.Steps.{reachedOf, Valid};
 ghost use Rattle.steps.specs.Running.{actOf, walkOf, isStart, isTimeStep, timesDue, starts, times, isFormed, runOf};
 ghost use Rattle.steps.specs.Plans.{stepsIn};
 
@@ -36,9 +32,9 @@ pub fn act(step: Step, now: Moment, t: Moment) -> Reached
         Step::OnDate(date) => date_at(date, t),
         Step::InWeek(s, w) => in_week(s, w % 7, t),
         Step::FromToday(w) => from_today(w % 7, t),
-        Step::Minutes { back, count } => minutes_step(back, count, t),
-        Step::Months { back, count } => months_step(back, count as u64, t),
-        Step::Years { back, count } => years_step(back, count as u64, t),
+        Step::Minutes { back, count } => t.minutes_step(back, count),
+        Step::Months { back, count } => t.months_step(back, count as u64),
+        Step::Years { back, count } => t.years_step(back, count as u64),
         Step::BackTo(w) => back_to(w % 7, t),
         Step::AtTime(time) => time_at(time, now, t),
     }

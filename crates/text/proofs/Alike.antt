@@ -11,7 +11,7 @@ use borrow.Author.Tests.{leb-true, leb-false, lt-leb}
 use Rattle.lexer.specs.Keywords.{keywords}
 use Rattle.lexer.specs.Lex.{lexed}
 use Rattle.lexer.specs.Refusals.{TooLong}
-use Rattle.calendar.specs.declared.Moment.{Moment}
+use Rattle.calendar.specs.declared.moments.Moment.{Moment}
 use Rattle.phrase.specs.Read.{readOf}
 use Rattle.text.specs.Answers.{refusedAt, answerOf}
 use Rattle.text.specs.Nows.{ofForm, nowForm, noNow, nowOf}

@@ -8,7 +8,7 @@ use lib.Seq.{sets}
 use borrow.Author.Tests.{le-leb, lt-leb}
 use Rattle.lexer.specs.Words.{bytesOf}
 use Rattle.lexer.specs.Keywords.{keywords}
-use Rattle.calendar.specs.declared.Moment.{Moment}
+use Rattle.calendar.specs.declared.moments.Moment.{Moment}
 use Rattle.text.specs.Answers.{Answer, at, refusedAt, answerOf}
 use Rattle.text.specs.Digits.{widthOf, decimalOf}
 use Rattle.text.specs.Texts.{refusalText, textOf, fitting, Written}

@@ -4,7 +4,7 @@ use mathlib.Core.Path.{_≡_}
 use mathlib.Core.List.{List, [], _∷_, _++_}
 use lib.ListN.{length, take, drop}
 use Rattle.lexer.specs.Keywords.{keywords}
-use Rattle.calendar.specs.declared.Moment.{Moment}
+use Rattle.calendar.specs.declared.moments.Moment.{Moment}
 use Rattle.text.specs.Answers.{answerOf}
 use Rattle.text.specs.Nows.{nowOf}
 use Rattle.text.specs.Lines.{feed, wholeOf, restOf, lastOf, linesOf}

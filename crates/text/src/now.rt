@@ -1,5 +1,5 @@
 // The first line of the input as a now.
-use calendar::Moment;
+use calendar::moments::Moment;
 ghost use mathlib.Core.Path.{_≡_};
 ghost use Prim.Native.Nat.{_+_, _-_, _≤_, _<_};
 ghost use lib.ListN.{length};

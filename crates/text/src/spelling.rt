@@ -4,7 +4,7 @@ use super::digits::put_number;
 use super::digits::width;
 use answer::Answered;
 use answer::answer;
-use calendar::Moment;
+use calendar::moments::Moment;
 ghost use mathlib.Core.Path.{_≡_};
 ghost use Prim.Native.Nat.{_+_, _≤_};
 ghost use lib.ListN.{length};

@@ -2,7 +2,7 @@
 use super::line::line_at;
 use super::now::now_of;
 use super::spelling::write_line;
-use calendar::Moment;
+use calendar::moments::Moment;
 ghost use mathlib.Core.Path.{_≡_};
 ghost use Prim.Native.Nat.{_+_, _*_, _-_, _≤_, min};
 ghost use lib.ListN.{length, drop, take};

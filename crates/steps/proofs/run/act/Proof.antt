@@ -1,5 +1,5 @@
 use mathlib.Core.Path.{refl}
-use Rattle.evaluation.proofs.Laws.{moment-valid, refused-valid}
+use Rattle.calendar.proofs.Outcomes.{moment-valid, refused-valid}
 use borrow.Author.Needs.{needs}
 use Rattle.steps.proofs.run.act.Statement.{statement}
 use Rattle.steps.proofs.run.act.Tie as tie

@@ -2,10 +2,10 @@ use native.Mathlib.Omega.{arith}
 use mathlib.Core.Path.{_≡_, sym, _∙_}
 use mathlib.Core.Bool.{Bool, cond}
 use borrow.Author.Tests.{le-leb}
+use Rattle.refusals.specs.Table as refusal
 use Rattle.calendar.specs.Moments.{refused}
 use Rattle.calendar.proofs.Valid.{test-moment}
-use Rattle.evaluation.specs.Refusals.{NoSense}
-use Rattle.evaluation.proofs.Laws.{refused-valid}
+use Rattle.calendar.proofs.Outcomes.{refused-valid}
 use Rattle.steps.specs.Plans.{stepsIn}
 use Rattle.steps.specs.Running.{walkOf, runOf}
 use Rattle.steps.proofs.Listed.{no-list, few-steps}
@@ -17,7 +17,7 @@ use Rattle.steps.proofs.run.run.Tie as tie
 listed :
     (c : tie.After-is-formed) {b : Bool} → c .is-formed .result ≡ b →
     let args = c .before .before .before .before .before .args in
-    runOf (stepsIn (args .p)) (args .now) ≡ cond b (walkOf (stepsIn (args .p)) (args .now) (args .now)) (refused NoSense)
+    runOf (stepsIn (args .p)) (args .now) ≡ cond b (walkOf (stepsIn (args .p)) (args .now) (args .now)) (refused refusal.NoSense)
 unfolding runOf
 listed c e =
     let valid = c .before .before .before .before in

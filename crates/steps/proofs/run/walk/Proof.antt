@@ -3,11 +3,10 @@ use native.Mathlib.Omega.{arith}
 use mathlib.Core.Path.{_≡_, refl, ap, sym, _∙_}
 use mathlib.Core.List.{List}
 use lib.ListN.{length, length-map}
-use Rattle.calendar.specs.Moments.{IsMoment, Outcome, andThen}
-use Rattle.calendar.specs.declared.Moment.{Moment}
-use Rattle.evaluation.specs.Steps.{reachedOf}
-use Rattle.evaluation.specs.declared.step.Reached.{Reached}
-use Rattle.evaluation.proofs.Laws.{at-moment, moment-valid, refused-valid}
+use Rattle.calendar.specs.Moments.{IsMoment, Outcome, andThen, reachedOf}
+use Rattle.calendar.specs.declared.moments.Moment.{Moment}
+use Rattle.calendar.specs.declared.moments.Reached.{Reached}
+use Rattle.calendar.proofs.Outcomes.{at-moment, moment-valid, refused-valid}
 use Rattle.steps.specs.Plans.{stepsIn}
 use Rattle.steps.specs.Running.{walkOf}
 use Rattle.steps.specs.declared.plan.Step.{Step}
