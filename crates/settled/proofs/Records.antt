@@ -5,7 +5,6 @@ use Rattle.records.proofs.endian.put.Reads as put'
 use Rattle.records.proofs.record.encode.Reads as encode'
 use Rattle.records.proofs.record.words_at.Reads as words-at'
 use Rattle.records.proofs.record.is_record.Reads as is-record'
-use Rattle.records.proofs.record.decode.Reads as decode'
 use Rattle.records.proofs.run.run_ready.Reads as run-ready'
 use Rattle.records.proofs.words.words_of.Reads as words-of'
 use Rattle.records.proofs.words.step_from.Reads as step-from'
@@ -21,9 +20,6 @@ words-at = same words-at'.Post _ _ (λ κs a z e p. p)
 
 pub is-record : Settled is-record'.Post
 is-record = same is-record'.Post _ _ (λ κs a z e p. p)
-
-pub decode : Settled decode'.Post
-decode = same decode'.Post _ _ (λ κs a z e p. p)
 
 pub words-of : Settled words-of'.Post
 words-of = same words-of'.Post _ _ (λ κs a z e p. p)

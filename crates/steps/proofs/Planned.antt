@@ -3,7 +3,6 @@ use Prim.Native.Nat.{ℕ, zero, suc, _+_, _-_, _≤_, _<_}
 use native.Mathlib.Omega.{arith}
 use mathlib.Core.Path.{_≡_, refl, ap, _∙_}
 use mathlib.Core.List.{List, [], _∷_, _++_, map}
-use borrow.Author.Tests.{le-leb}
 use lib.ListN.{length, set, getD, take}
 use Rattle.steps.specs.Joining.{joinOf, joined, addStep}
 use Rattle.steps.specs.Plans.{slot, stepIn, blankSlot, stepsIn, slotsOf, planOf, pushed, lastOf, addedBy, addTo}
@@ -23,7 +22,7 @@ taken (suc k) (s ∷ ss) h = ap (λ (l : List Step). s ∷ l) (taken k ss (omega
 -- a plan's list
 pub steps-in : (ss : List Step) → length ss ≤ 24 → stepsIn (planOf ss) ≡ ss
 unfolding planOf
-steps-in ss h = rw (le-leb (length ss) 24 h) (taken 24 ss h)
+steps-in ss h = taken 24 ss h
 
 -- the last step of a list that has one
 abbrev last : Step → List Step → Step

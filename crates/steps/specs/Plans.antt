@@ -1,8 +1,6 @@
 -- The struct that holds a list of steps.
 use Prim.Native.Nat.{ℕ, zero, suc, _+_, _-_}
-use mathlib.Core.Bool.{cond}
 use mathlib.Core.List.{List, [], _∷_, map}
-use lib.Dec.{leb}
 use lib.ListN.{length, set, getD, take, replicate}
 use Rattle.steps.specs.Joining.{joinOf}
 use Rattle.steps.specs.declared.plan.Join.{Join}
@@ -28,9 +26,9 @@ blankSlot = slot Now
 abbrev pub blankPlan : Plan
 blankPlan = record { n = 0; slots = replicate 24 blankSlot }
 
--- the list of a plan; a count that 24 slots cannot have stands for no list, which is 9 as well
+-- the list of a plan
 abbrev pub stepsIn : Plan → List Step
-stepsIn p = cond (leb (p .n) 24) (map stepIn (take (p .n) (p .slots))) []
+stepsIn p = map stepIn (take (p .n) (p .slots))
 
 -- the steps of a list, and blank slots behind them
 abbrev pub slotsOf : ℕ → List Step → List Slot

@@ -1,9 +1,7 @@
-// A list of steps at a now.
-use super::plan::Plan;
+// What a step does at a now, and what a list of steps asks of it.
 use super::plan::Step;
 use calendar::Moment;
 use evaluation::date::date_at;
-use evaluation::refusal::NO_NOW;
 use evaluation::refusal::NO_SENSE;
 use evaluation::step::Reached;
 use evaluation::step::minutes_step;
@@ -14,15 +12,11 @@ use evaluation::weekday::back_to;
 use evaluation::weekday::from_today;
 use evaluation::weekday::in_week;
 ghost use mathlib.Core.Path.{_≡_};
-ghost use Prim.Native.Nat.{_<_, _≤_};
-ghost use mathlib.Core.Bool.{_&&_};
-ghost use lib.Dec.{eqb};
-ghost use lib.ListN.{drop};
+ghost use Prim.Native.Nat.{_≤_};
 ghost use Rattle.calendar.specs.Moments.{IsMoment};
 ghost use Rattle.numbers.specs.Slices.{oneIf};
 ghost use Rattle.evaluation.specs.Steps.{reachedOf, Valid};
-ghost use Rattle.steps.specs.Running.{actOf, walkOf, isStart, isTimeStep, timesDue, starts, times, isFormed, runOf};
-ghost use Rattle.steps.specs.Plans.{stepsIn};
+ghost use Rattle.steps.specs.Running.{actOf, isStart, isTimeStep, timesDue};
 
 // One step from t, at a now.
 pub fn act(step: Step, now: Moment, t: Moment) -> Reached
@@ -42,31 +36,6 @@ pub fn act(step: Step, now: Moment, t: Moment) -> Reached
         Step::BackTo(w) => back_to(w % 7, t),
         Step::AtTime(time) => time_at(time, now, t),
     }
-}
-
-// The steps in order, up to the first refusal.
-fn walk(p: Plan, now: Moment) -> Reached
-    requires { ⌜ (p .n ≤ 24) × IsMoment now ⌝ }
-    ensures { λ r. ⌜ reachedOf r ≡ walkOf (stepsIn p) now now ⌝ }
-    ensures { λ r. ⌜ Valid (reachedOf r) ⌝ }
-{
-    let n = p.n;
-    let mut t = now;
-    let mut at = 0;
-    while at < n {
-        let slot = p.slots[at];
-        let step = slot.step;
-        match act(step, now, t) {
-            Reached::At(u) => {
-                t = u;
-            }
-            Reached::Refused(k) => {
-                return Reached::Refused(k);
-            }
-        }
-        at += 1;
-    }
-    Reached::At(t)
 }
 
 // Is a step a start? Here and below every step is named, so that a new one has to be placed.
@@ -121,58 +90,4 @@ pub fn times_due(step: Step) -> u32
         Step::BackTo(_) => 0,
         Step::AtTime(_) => 0,
     }
-}
-
-// Behind the first step: is there no start, and are the time steps as many as are due?
-fn is_followed(p: Plan, due: u32) -> bool
-    requires { ⌜ (0 < p .n) × (p .n ≤ 24) ⌝ }
-    ensures { λ r. ⌜ r ≡ (eqb (starts (drop 1 (stepsIn p))) 0 && eqb (times (drop 1 (stepsIn p))) due) ⌝ }
-{
-    let n = p.n;
-    let mut found = 0;
-    let mut i = 1;
-    while i < n {
-        let slot = p.slots[i];
-        let step = slot.step;
-        if is_start(step) {
-            return false;
-        }
-        found += one_if_time(step);
-        i += 1;
-    }
-    found == due
-}
-
-// Is the first step the only start, with as many time steps as it needs?
-fn is_formed(p: Plan) -> bool
-    requires { ⌜ p .n ≤ 24 ⌝ }
-    ensures { λ r. ⌜ r ≡ isFormed (stepsIn p) ⌝ }
-{
-    let n = p.n;
-    if n == 0 {
-        return false;
-    }
-    let first = p.slots[0];
-    let start = first.step;
-    if is_start(start) {
-        return is_followed(p, times_due(start));
-    }
-    false
-}
-
-// A list of steps at a now: 8, then 9 for a list in another form, then the steps in order.
-pub fn run(p: Plan, now: Moment) -> Reached
-    ensures { λ r. ⌜ reachedOf r ≡ runOf (stepsIn p) now ⌝ }
-    ensures { λ r. ⌜ Valid (reachedOf r) ⌝ }
-{
-    if now.valid() {
-        if p.n > 24 {
-            return Reached::Refused(NO_SENSE);
-        }
-        if is_formed(p) {
-            return walk(p, now);
-        }
-        return Reached::Refused(NO_SENSE);
-    }
-    Reached::Refused(NO_NOW)
 }
