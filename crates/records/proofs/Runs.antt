@@ -15,6 +15,10 @@ use Rattle.records.specs.Words.{stepFrom}
 use Rattle.records.specs.Records.{wordsAt, isRecord, areRecords, stepsAt, decodeOf, mayFollow}
 use Rattle.records.proofs.Lists.{by-records, length-steps, are-next, steps-next}
 
+-- one start is more than none
+one-more : (k : ℕ) → eqb (1 + k) 0 ≡ false
+one-more k = ne-eqb (1 + k) 0 (λ z. omega arith)
+
 -- the records from record i on may follow, k time steps before them counted
 unfoldable pub followFrom : ℕ → ℕ → ℕ → ℕ → List ℕ → Bool
 followFrom due k n i l =
@@ -31,10 +35,6 @@ pub follow-damaged :
     (due k n i : ℕ) (l : List ℕ) → i < n → isRecord (wordsAt l (16 * i)) ≡ false → followFrom due k n i l ≡ false
 unfolding followFrom
 follow-damaged due k n i l h e = rw (are-next n i l h, e)
-
--- one start is more than none
-one-more : (k : ℕ) → eqb (1 + k) 0 ≡ false
-one-more k = ne-eqb (1 + k) 0 (λ z. omega arith)
 
 -- so does a start
 pub follow-start :

@@ -12,7 +12,7 @@ ghost use Rattle.steps.specs.Plans.{stepsIn};
 ghost use Rattle.records.specs.Records.{bytesOfWords, encodeOf, wordAt, wordsAt, sameWords, isRecord, decodeOf};
 
 // The bytes of one record.
-pub const SIZE: usize = 16;
+pub(crate) const SIZE: usize = 16;
 
 // A record at a place.
 fn put_words(b: &mut [u8], at: usize, w: Words)
@@ -61,7 +61,7 @@ fn word_at(b: &[u8], at: usize) -> u32
 }
 
 // The numbers of the record at a place.
-pub fn words_at(b: &[u8], at: usize) -> Words
+pub(crate) fn words_at(b: &[u8], at: usize) -> Words
     requires { ⌜ at + 16 ≤ length (now b) ⌝ }
     ensures { λ r. ⌜ r ≡ wordsAt (now (b .entry)) at ⌝ }
 {
@@ -95,7 +95,7 @@ fn same_words(v: Words, w: Words) -> bool
 }
 
 // Does a step encode to these numbers?
-pub fn is_record(w: Words) -> bool
+pub(crate) fn is_record(w: Words) -> bool
     ensures { λ r. ⌜ r ≡ isRecord w ⌝ }
 {
     same_words(words_of(step_from(w)), w)

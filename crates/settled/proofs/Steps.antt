@@ -3,7 +3,6 @@ use Rattle.settled.proofs.Settled.{Settled, same, through}
 use Rattle.settled.proofs.Values.{reached-one}
 use Rattle.steps.proofs.plan.none.Reads as none'
 use Rattle.steps.proofs.plan.single.Reads as single'
-use Rattle.steps.proofs.plan.push.Reads as push'
 use Rattle.steps.proofs.plan.add.Reads as add'
 use Rattle.steps.proofs.run.act.Reads as act'
 use Rattle.steps.proofs.run.is_start.Reads as is-start'
@@ -15,9 +14,6 @@ none = same none'.Post _ _ (λ κs a z e p. p)
 
 pub single : Settled single'.Post
 single = same single'.Post _ _ (λ κs a z e p. p)
-
-pub push : Settled push'.Post
-push = same push'.Post _ _ (λ κs a z e p. p)
 
 pub add : Settled add'.Post
 add = same add'.Post _ _ (λ κs a z e p. p)

@@ -6,7 +6,7 @@ use mathlib.Core.Path.{_≡_}
 use mathlib.Core.List.{List, [], _∷_, map}
 use lib.ListN.{length, getD, length-map, length-take}
 use lib.Seq.{slice, slice-cons, slice-empty}
-use Rattle.steps.specs.Plans.{stepsIn, stepIn, blankSlot}
+use Rattle.steps.specs.Plans.{stepsIn, stepIn, blankHeld}
 use Rattle.steps.specs.declared.plan.Plan.{Plan}
 use Rattle.steps.specs.declared.plan.Step.{Step}
 
@@ -16,7 +16,7 @@ stepsFrom p i = map stepIn (slice i (p .n) (p .slots))
 
 -- the step in slot i
 abbrev pub stepAt : Plan → ℕ → Step
-stepAt p i = stepIn (getD (p .slots) i blankSlot)
+stepAt p i = stepIn (getD (p .slots) i blankHeld)
 
 -- never more than a plan has room for
 pub few-steps : (p : Plan) → p .n ≤ 24 → length (stepsIn p) ≤ 24
@@ -28,4 +28,4 @@ no-step p e = rw (e, slice-empty)
 
 -- the step in a slot, and those from the next one on
 pub next-step : (p : Plan) (i : ℕ) → i < p .n → p .n ≤ length (p .slots) → stepsFrom p i ≡ stepAt p i ∷ stepsFrom p (i + 1)
-next-step p i h k = rw (add-one, slice-cons i (p .n) (p .slots) blankSlot h k)
+next-step p i h k = rw (add-one, slice-cons i (p .n) (p .slots) blankHeld h k)

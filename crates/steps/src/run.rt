@@ -1,4 +1,6 @@
 // What a step does at a now, and what a list of steps asks of it.
+use super::plan::Move;
+use super::plan::Start;
 use super::plan::Step;
 use calendar::Moment;
 use evaluation::date::date_at;
@@ -16,7 +18,34 @@ ghost use Prim.Native.Nat.{_≤_};
 ghost use Rattle.calendar.specs.Moments.{IsMoment};
 ghost use Rattle.numbers.specs.Slices.{oneIf};
 ghost use Rattle.evaluation.specs.Steps.{reachedOf, Valid};
-ghost use Rattle.steps.specs.Running.{actOf, isStart, isTimeStep, timesDue};
+ghost use Rattle.steps.specs.Running.{startAt, moveBy, actOf, isStart, isTimeStep, timesFrom, timesDue};
+
+// A start from t. Here and below every start and every move is named, so that a new one has to be placed.
+fn start_at(start: Start, t: Moment) -> Reached
+    requires { ⌜ IsMoment t ⌝ }
+    ensures { λ r. ⌜ (reachedOf r ≡ startAt start t) × Valid (reachedOf r) ⌝ }
+{
+    match start {
+        Start::Now => Reached::At(t),
+        Start::Senseless => Reached::Refused(NO_SENSE),
+        Start::OnDate(date) => date_at(date, t),
+        Start::InWeek(s, w) => in_week(s, w % 7, t),
+        Start::FromToday(w) => from_today(w % 7, t),
+    }
+}
+
+// A move from t.
+fn move_by(way: Move, t: Moment) -> Reached
+    requires { ⌜ IsMoment t ⌝ }
+    ensures { λ r. ⌜ (reachedOf r ≡ moveBy way t) × Valid (reachedOf r) ⌝ }
+{
+    match way {
+        Move::Minutes { back, count } => minutes_step(back, count, t),
+        Move::Months { back, count } => months_step(back, count as u64, t),
+        Move::Years { back, count } => years_step(back, count as u64, t),
+        Move::BackTo(w) => back_to(w % 7, t),
+    }
+}
 
 // One step from t, at a now.
 pub fn act(step: Step, now: Moment, t: Moment) -> Reached
@@ -25,33 +54,19 @@ pub fn act(step: Step, now: Moment, t: Moment) -> Reached
     ensures { λ r. ⌜ Valid (reachedOf r) ⌝ }
 {
     match step {
-        Step::Now => Reached::At(t),
-        Step::Senseless => Reached::Refused(NO_SENSE),
-        Step::OnDate(date) => date_at(date, t),
-        Step::InWeek(s, w) => in_week(s, w % 7, t),
-        Step::FromToday(w) => from_today(w % 7, t),
-        Step::Minutes { back, count } => minutes_step(back, count, t),
-        Step::Months { back, count } => months_step(back, count as u64, t),
-        Step::Years { back, count } => years_step(back, count as u64, t),
-        Step::BackTo(w) => back_to(w % 7, t),
+        Step::From(start) => start_at(start, t),
+        Step::By(way) => move_by(way, t),
         Step::AtTime(time) => time_at(time, now, t),
     }
 }
 
-// Is a step a start? Here and below every step is named, so that a new one has to be placed.
+// Is a step a start?
 pub fn is_start(step: Step) -> bool
     ensures { λ r. ⌜ r ≡ isStart step ⌝ }
 {
     match step {
-        Step::Now => true,
-        Step::Senseless => true,
-        Step::OnDate(_) => true,
-        Step::InWeek(_, _) => true,
-        Step::FromToday(_) => true,
-        Step::Minutes { back: _, count: _ } => false,
-        Step::Months { back: _, count: _ } => false,
-        Step::Years { back: _, count: _ } => false,
-        Step::BackTo(_) => false,
+        Step::From(_) => true,
+        Step::By(_) => false,
         Step::AtTime(_) => false,
     }
 }
@@ -61,33 +76,32 @@ pub fn one_if_time(step: Step) -> u32
     ensures { λ r. ⌜ (r ≡ oneIf (isTimeStep step)) × (r ≤ 1) ⌝ }
 {
     match step {
-        Step::Now => 0,
-        Step::Senseless => 0,
-        Step::OnDate(_) => 0,
-        Step::InWeek(_, _) => 0,
-        Step::FromToday(_) => 0,
-        Step::Minutes { back: _, count: _ } => 0,
-        Step::Months { back: _, count: _ } => 0,
-        Step::Years { back: _, count: _ } => 0,
-        Step::BackTo(_) => 0,
+        Step::From(_) => 0,
+        Step::By(_) => 0,
         Step::AtTime(_) => 1,
     }
 }
 
 // The time steps that a start needs.
+fn times_from(start: Start) -> u32
+    ensures { λ r. ⌜ r ≡ timesFrom start ⌝ }
+{
+    match start {
+        Start::Now => 0,
+        Start::Senseless => 0,
+        Start::OnDate(_) => 1,
+        Start::InWeek(_, _) => 1,
+        Start::FromToday(_) => 1,
+    }
+}
+
+// The time steps that a first step needs.
 pub fn times_due(step: Step) -> u32
     ensures { λ r. ⌜ r ≡ timesDue step ⌝ }
 {
     match step {
-        Step::Now => 0,
-        Step::Senseless => 0,
-        Step::OnDate(_) => 1,
-        Step::InWeek(_, _) => 1,
-        Step::FromToday(_) => 1,
-        Step::Minutes { back: _, count: _ } => 0,
-        Step::Months { back: _, count: _ } => 0,
-        Step::Years { back: _, count: _ } => 0,
-        Step::BackTo(_) => 0,
+        Step::From(start) => times_from(start),
+        Step::By(_) => 0,
         Step::AtTime(_) => 0,
     }
 }

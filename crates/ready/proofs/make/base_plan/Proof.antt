@@ -43,7 +43,7 @@ add-requires-2 c κs =
 
 returns : tie.Need-returns
 unfolding treeSteps
-returns c = rw (c .before .enum-told .given .1) (started _ (c .single .ensures) refl (omega arith))
+returns c = rw (c .before .enum-told .given .1) (started _ (c .single .ensures) (omega arith))
 
 returns-2 : tie.Need-returns-2
 unfolding treeSteps
