@@ -1,5 +1,4 @@
 use native.Mathlib.Omega.{arith}
-use mathlib.Core.Path.{refl}
 use Rattle.steps.specs.declared.plan.Step.the-variants.{AtTime}
 use Rattle.ready.specs.Made.{treeSteps}
 use Rattle.ready.proofs.Within.{may-add, started, behind}

@@ -1,5 +1,5 @@
 use native.Mathlib.Omega.{arith}
-use mathlib.Core.Path.{_≡_, refl}
+use mathlib.Core.Path.{_≡_}
 use mathlib.Core.Bool.{true, false}
 use Rattle.steps.specs.Plans.{begun}
 use Rattle.steps.specs.declared.plan.Start.the-variants.{OnDate}

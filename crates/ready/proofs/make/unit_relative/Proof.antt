@@ -1,5 +1,5 @@
 use native.Mathlib.Omega.{arith}
-use mathlib.Core.Path.{_≡_, refl, sym, _∙_}
+use mathlib.Core.Path.{_≡_, sym, _∙_}
 use mathlib.Core.Bool.{false}
 use Rattle.dates.specs.Durations.{isSubDailyUnit}
 use Rattle.dates.specs.declared.date.Date.the-variants.{Today}

@@ -1,5 +1,4 @@
 use native.Mathlib.Omega.{arith}
-use mathlib.Core.Path.{refl}
 use Rattle.ready.proofs.Within.{started}
 use borrow.Author.Needs.{needs}
 use Rattle.ready.proofs.make.weekday_relative.Statement.{statement}
