@@ -22,7 +22,7 @@ codeOf (refusedAt k a e) = code k a e
 abbrev pub six : Moment → List ℕ
 six t = t .year ∷ t .month ∷ t .day ∷ t .hour ∷ t .minute ∷ t .second ∷ []
 
--- "nothing written on a refusal"
+-- what they are written over; on a refusal it stays
 abbrev pub momentAfter : Answer → List ℕ → List ℕ
 momentAfter (at t) lent = six t
 momentAfter (refusedAt k a e) lent = lent

@@ -36,12 +36,12 @@ unfolding runOf
 run-read s (refusal k a e) n h = refl
 run-read s (tree x t) n h = rw (made-list x (few-parts s h), tree-runs x n)
 
--- "for every phrase and every now, valid or not, running what was made equals `answerOf`"
+-- for every phrase and every now, valid or not, running what was made equals `answerOf`
 pub ready-answers : (s : List ℕ) (n : Moment) → runReady (readyOf keywords s) n ≡ answerOf keywords s n
 unfolding readyOf answerOf
 ready-answers s n = run-read s (readOf keywords s) n refl
 
--- "making ready refuses exactly when reading refuses, with the same number, place and part"
+-- making ready refuses exactly when reading refuses, with the same number, place and part
 refuses : (w : ReadPhrase) {k a e : ℕ} → readyRead w ≡ refusedReady k a e → w ≡ refusal k a e
 refuses (refusal k a e) h = cc
 refuses (tree x t) h = cc
@@ -67,7 +67,7 @@ made-read s (tree x t) {ss} h g =
     let few = few-parts s h in
     rw (← (same)) (record { most = at-most-24 x few; apart = neighbours-apart x; list = made-list x few })
 
--- "at most 24 calendar steps, no two fixed lengths of one direction side by side", and the form that running asks for
+-- at most 24 steps, no two fixed lengths of one direction side by side, and the form that running asks for
 pub made-ready : (s : List ℕ) {ss : List Step} → readyOf keywords s ≡ steps ss → MadeReady ss
 unfolding readyOf
 made-ready s h = made-read s (readOf keywords s) refl h

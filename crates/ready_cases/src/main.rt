@@ -1,5 +1,5 @@
-// Reads lines `YYYY-MM-DD HH:MM:SS|PHRASE` on standard input and writes for each the answer to the phrase at that now, the answer of what
-// it is made ready as, run at that now, and how many steps that has.
+// Reads lines `YYYY-MM-DD HH:MM:SS|PHRASE` on standard input and writes for each the answer to the phrase at that now, the answer of the
+// records that it is made ready as, run at that now, and how many they are.
 use answer::Answered;
 use answer::answer;
 use bytes::scan;
@@ -7,7 +7,9 @@ use calendar::moments::Moment;
 use calendar::moments::Reached;
 use libc::STDOUT_FILENO;
 use ready::make_ready;
-use steps::run::run;
+use records::record::encode;
+use records::run::run_ready;
+use steps::plan::Plan;
 ghost use mathlib.Core.Path.{_≡_};
 ghost use Prim.Native.Nat.{_+_, _-_, _%_, _≤_};
 
@@ -94,16 +96,35 @@ fn write_answer(phrase: &[u8], t: Moment) {
     }
 }
 
+// The first bytes of a buffer as a ready phrase, run at a now.
+fn write_records(ready: &[u8], size: usize, t: Moment) {
+    if ready.len() < size {
+        return;
+    }
+    match run_ready(&ready[0..size], t) {
+        Reached::At(u) => write_moment(u),
+        Reached::Refused(k) => write_refusal(k, 0, 0),
+    }
+}
+
+// The records of a plan, run at a now, and how many there are: a phrase that was made ready has at most 24.
+fn write_run(plan: Plan, t: Moment) {
+    let n = plan.n;
+    if n > 24 {
+        return;
+    }
+    let mut ready = [0u8; 384];
+    encode(plan, &mut ready);
+    write_records(&ready, 16 * n, t);
+    number(b"|", n as u64);
+}
+
 // The phrase made ready, run at a now, and the count of its steps.
 fn write_ready(phrase: &[u8], t: Moment) {
     let made = make_ready(phrase);
     if made.number == 0 {
         let plan = made.plan;
-        match run(plan, t) {
-            Reached::At(u) => write_moment(u),
-            Reached::Refused(n) => write_refusal(n, 0, 0),
-        }
-        number(b"|", plan.n as u64);
+        write_run(plan, t);
     } else {
         write_refusal(made.number, made.place, made.end);
         text(b"|0");

@@ -1,14 +1,13 @@
 -- Encoding then decoding gives the steps back, and nothing but what encodes is decoded.
 use Prim.Native.Nat.{ℕ, zero, suc, _+_, _-_, _*_, _/_, _%_, _^_, _≤_, _<_}
 use native.Mathlib.Omega.{arith}
-use native.Mathlib.Nat.{sub-zero, sub-self}
 use mathlib.Core.Path.{_≡_, refl, ap, sym, _∙_}
 use mathlib.Core.Bool.{Bool, true, false, cond, _&&_, and-false, false≢true}
-use mathlib.Core.List.{List, [], _∷_, _++_, append-nil}
+use mathlib.Core.List.{List, [], _∷_, _++_}
 use borrow.Author.Tests.{le-leb, lt-leb, eq-eqb, ne-eqb, eqb-true}
 use lib.Dec.{leb, eqb}
 use lib.ListN.{length, drop, length-drop, take-append-drop, drop-of-length-le}
-use lib.Seq.{append-snoc, drop-drop, getD-drop}
+use lib.Seq.{drop-drop, getD-drop}
 use Rattle.steps.specs.declared.plan.Step.{Step}
 use Rattle.records.specs.Bytes.{bytesOf}
 use Rattle.records.specs.Words.{words, wordsOf, stepFrom}
@@ -171,29 +170,3 @@ pub steps-next :
     (n i : ℕ) (l : List ℕ) → i < n →
     stepsAt (n - i) l (16 * i) ≡ stepFrom (wordsAt l (16 * i)) ∷ stepsAt (n - (i + 1)) l (16 * (i + 1))
 steps-next n i l h = rw (one-less n i h, next-place i)
-
--- the steps that were decoded, and those of the records from record i on
-unfoldable pub withRest : ℕ → ℕ → List ℕ → List Step → List Step
-withRest n i l done = cond (areRecords (n - i) l (16 * i)) (done ++ stepsAt (n - i) l (16 * i)) []
-
--- before the first record
-pub at-first : (l : List ℕ) → length l ≤ 384 → length l % 16 ≡ 0 → decodeOf l ≡ withRest (length l / 16) 0 l []
-unfolding withRest
-at-first l h e = by-records l h e ∙ rw sub-zero
-
--- a record of a step
-pub next-is :
-    (n i : ℕ) (l : List ℕ) (done : List Step) → i < n → isRecord (wordsAt l (16 * i)) ≡ true →
-    withRest n i l done ≡ withRest n (i + 1) l (done ++ (stepFrom (wordsAt l (16 * i)) ∷ []))
-unfolding withRest
-next-is n i l done h e = rw (are-next n i l h, steps-next n i l h, e, append-snoc)
-
--- a record that no step encodes to
-pub next-is-not : (n i : ℕ) (l : List ℕ) (done : List Step) → i < n → isRecord (wordsAt l (16 * i)) ≡ false → withRest n i l done ≡ []
-unfolding withRest
-next-is-not n i l done h e = rw (are-next n i l h, e)
-
--- behind the last record
-pub at-last : (l : List ℕ) (done : List Step) {n i : ℕ} → i ≡ n → withRest n i l done ≡ done
-unfolding withRest
-at-last l done e = rw (e, sub-self, append-nil)

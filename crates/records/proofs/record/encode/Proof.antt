@@ -6,7 +6,7 @@ use lib.ListN.{length, length-map}
 use lib.Seq.{sets}
 use Rattle.steps.specs.Plans.{stepsIn}
 use Rattle.steps.specs.declared.plan.Plan.{Plan}
-use Rattle.steps.proofs.Listed.{stepsFrom, stepAt, all-steps, few-steps, no-step, next-step}
+use Rattle.steps.proofs.Listed.{stepsFrom, stepAt, few-steps, no-step, next-step}
 use Rattle.records.specs.Words.{wordsOf}
 use Rattle.records.specs.Records.{bytesOfWords, encodeOf}
 use Rattle.records.proofs.Numbers.{sets-append}
@@ -89,10 +89,9 @@ returns c =
     let l = c .before .loop in
     let s = c .before .before .before in
     let p = s .args .t1 in
-    let all = all-steps p (s .pre .0) in
     let last : l .i ≡ p .n = omega arith in
     let end = no-step p last in
-    (rw (all, ← (l .inv .bytes), end), decoded-back (stepsIn p) (few-steps p (s .pre .0)) (rw all (l .inv .fit (rw end none))))
+    (rw (← (l .inv .bytes), end), decoded-back (stepsIn p) (few-steps p (s .pre .0)) (l .inv .fit (rw end none)))
 
 pub encode-spec : {M : Type 1} → statement M
 encode-spec =

@@ -1,8 +1,8 @@
 use native.Mathlib.Omega.{arith}
 use mathlib.Core.Path.{refl}
 use borrow.Author.Needs.{needs}
-use Rattle.ready.proofs.make.length_step.Statement.{statement}
-use Rattle.ready.proofs.make.length_step.Tie as tie
+use Rattle.ready.proofs.make.length_move.Statement.{statement}
+use Rattle.ready.proofs.make.length_move.Tie as tie
 
 enum-told : tie.Need-enum-told
 enum-told c = search needs
@@ -49,8 +49,8 @@ returns-5 c = rw (c .enum-told5 .given .1) (refl, omega arith)
 returns-6 : tie.Need-returns-6
 returns-6 c = rw (c .enum-told6 .given .1) (refl, omega arith)
 
-pub length-step-spec : {M : Type 1} → statement M
-length-step-spec =
+pub length-move-spec : {M : Type 1} → statement M
+length-move-spec =
     tie.close
     (tie.spec
     enum-told
