@@ -1,18 +1,18 @@
--- Words as numbers: the order of two words is that of their first 8 bytes and then of their next 4, each read as one number. Assumes nothing.
+-- Words as numbers: the order of two words is that of their first 8 bytes, then of their next 4, each read as a number. Assumes nothing.
 use mathlib.Core.Path.{_≡_, refl, sym, ap, _∙_}
-use mathlib.Core.Bool.{Bool, true, false, _&&_, cond}
+use mathlib.Core.Bool.{Bool, true, false, cond}
 use mathlib.Core.List.{List, [], _∷_}
 use Prim.Native.Nat.{ℕ, zero, suc, _+_, _*_, _%_, _≤_, _<_}
 use native.Mathlib.Nat.{not-suc-le-zero, le-of-suc-le-suc}
 use native.Mathlib.Omega.{arith}
-use lib.Dec.{T, eqb, leb, leb→le, ltb}
+use lib.Dec.{T, eqb, leb, leb→le}
 use lib.Ieee.Fits.{and-l, and-r}
 use lib.ListN.{length, drop, length-drop}
 use borrow.Author.Tests.{lt-ltb, le-ltb}
 use Rattle.lexer.specs.declared.find.Order.{Order}
 use Rattle.lexer.specs.declared.find.Order.the-variants.{Less, Same, More}
 use Rattle.lexer.specs.Words.{ordered, isSmall, small}
-use Rattle.lexer.specs.Table.{filler, fixed, bytesFrom, headOf, tailOf, byNumber, Stands}
+use Rattle.lexer.specs.Table.{filler, fixed, bytesFrom, headOf, tailOf, byNumber, byKey, Stands}
 use Rattle.lexer.proofs.Order.{Tri, below, equal, above, tri}
 
 -- a word of small letters: its first, and the rest
@@ -123,8 +123,8 @@ ordered-all (suc n) (x ∷ xs) (y ∷ ys) s t h =
     ap (byNumber x y) (ordered-all n xs ys (rest-small x xs s) (rest-small y ys t) (le-of-suc-le-suc h))
 
 -- the order of a word of at most 11 letters and any word, by the two numbers of both
-pub key-ordered : (a w : List ℕ) → T (small a) → T (small w) → length a < 12
-    → ordered a w ≡ byNumber (headOf a) (headOf w) (byNumber (tailOf a) (tailOf w) Same)
+key-ordered : (a w : List ℕ) → T (small a) → T (small w) → length a < 12
+    → ordered a w ≡ byKey a (headOf w) (tailOf w)
 unfolding headOf tailOf
 key-ordered a w s t h =
     let sa = small-drop 8 a s in
@@ -136,5 +136,5 @@ key-ordered a w s t h =
 
 -- and so the order of a row's word and the word that two numbers stand for
 pub stands-ordered : (a : List ℕ) → T (small a) → length a < 12 → (head tail : ℕ) (w : List ℕ) → Stands head tail w
-    → ordered a w ≡ byNumber (headOf a) head (byNumber (tailOf a) tail Same)
+    → ordered a w ≡ byKey a head tail
 stands-ordered a s h head tail w k = rw (← (k .head-is), ← (k .tail-is)) (key-ordered a w s (k .letters) h)

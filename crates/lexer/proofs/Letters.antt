@@ -1,7 +1,7 @@
 -- The letters of a word, one after the other. Assumes nothing.
 use mathlib.Core.Path.{_≡_, refl, sym, ap, _∙_}
-use mathlib.Core.Bool.{Bool, true, false, _&&_, cond, false≢true}
-use mathlib.Core.List.{List, [], _∷_, map}
+use mathlib.Core.Bool.{Bool, true, false, cond, false≢true}
+use mathlib.Core.List.{List, [], _∷_}
 use Prim.Native.Nat.{ℕ, zero, suc, _+_, _-_, _≤_, _<_}
 use native.Mathlib.Nat.{not-suc-le-zero, le-of-suc-le-suc}
 use native.Mathlib.Numerals.{add-one}
@@ -11,7 +11,7 @@ use lib.Ieee.Fits.{and-i, and-l, and-r}
 use lib.ListN.{length, getD, take, drop, drop-of-length-le, length-map}
 use lib.Seq.{drop-cons, drop-drop, length-take-le}
 use borrow.Author.Tests.{eqb-true, ne-eqb, ltb-true, ltb-false}
-use Rattle.lexer.specs.Words.{lowerOf, isSmall, small, folded}
+use Rattle.lexer.specs.Words.{lowerOf, small, folded}
 use Rattle.lexer.specs.Classes.{Letter, isLetter, isDigit, letterOf, classOf, markOf}
 use Rattle.lexer.specs.Table.{fixed, bytesFrom, tailOf}
 use Rattle.lexer.specs.Lex.{run, wordFrom, letterAt}
@@ -78,7 +78,7 @@ module _ (s : List ℕ) (a : ℕ) where
 abbrev lettersOf : List ℕ → List ℕ
 lettersOf l = folded (take (run Letter l) l)
 
-pub word-is : (s : List ℕ) (a : ℕ) → wordFrom s a ≡ lettersOf (drop a s)
+word-is : (s : List ℕ) (a : ℕ) → wordFrom s a ≡ lettersOf (drop a s)
 word-is s a = let e : a + run Letter (drop a s) - a ≡ run Letter (drop a s) = omega arith in rw e
 
 pub word-none : (s : List ℕ) (a : ℕ) → run Letter (drop a s) ≡ 0 → wordFrom s a ≡ []
@@ -89,7 +89,7 @@ word-step s a c t =
     let h = t .within in
     word-is s a ∙ rw (run-step Letter s a h (t .class), drop-cons s a 0 h, ← (t .is), ← (add-one a), ← (word-is s (a + 1)))
 
-pub word-length : (s : List ℕ) (a : ℕ) → length (wordFrom s a) ≡ run Letter (drop a s)
+word-length : (s : List ℕ) (a : ℕ) → length (wordFrom s a) ≡ run Letter (drop a s)
 word-length s a =
     let l = drop a s in
     rw (word-is s a) (length-map (take (run Letter l) l) lowerOf ∙ length-take-le (run Letter l) l (run-most Letter l))
@@ -121,7 +121,8 @@ behind zero l h = record { count = omega arith; letters = refl }
 behind (suc k) [] h = absurd (not-suc-le-zero h)
 behind (suc k) (b ∷ l) h = go (eqb (classOf b) Letter) refl h (behind k l)
   where
-    go : (x : Bool) → eqb (classOf b) Letter ≡ x → suc k ≤ cond x (suc (run Letter l)) 0 → (k ≤ run Letter l → Behind l k) → Behind (b ∷ l) (suc k)
+    go : (x : Bool) → eqb (classOf b) Letter ≡ x → suc k ≤ cond x (suc (run Letter l)) 0 → (k ≤ run Letter l → Behind l k)
+        → Behind (b ∷ l) (suc k)
     go true e m f = let r = f (le-of-suc-le-suc m) in record { count = simp e (omega (arith, r .count)); letters = simp e (r .letters) }
     go false e m f = absurd (not-suc-le-zero m)
 

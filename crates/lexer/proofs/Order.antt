@@ -1,4 +1,4 @@
--- How two numbers stand to each other, and byte order: it turns round, it is transitive, and only equal lists are the same. Assumes nothing.
+-- How two numbers stand to each other, and byte order: it turns round, is transitive, and only equal lists are the same. Assumes nothing.
 use mathlib.Core.Path.{_≡_, refl, sym, ap, _∙_}
 use mathlib.Core.Bool.{Bool, true, false, not, cond}
 use mathlib.Core.List.{List, [], _∷_}
@@ -41,13 +41,13 @@ clash {p = p} {q = q} e f t = absurd (T-not (eqb (rank p) (rank q)) t (rw (sym e
 
 -- the first bytes decide, or what follows them
 module _ (x y : ℕ) (xs ys : List ℕ) where
-  pub head-less : x < y → ordered (x ∷ xs) (y ∷ ys) ≡ Less
+  head-less : x < y → ordered (x ∷ xs) (y ∷ ys) ≡ Less
   head-less h = simp (lt-ltb x y h)
 
-  pub head-more : y < x → ordered (x ∷ xs) (y ∷ ys) ≡ More
+  head-more : y < x → ordered (x ∷ xs) (y ∷ ys) ≡ More
   head-more h = let l : y ≤ x = omega arith in simp (le-ltb x y l, lt-ltb y x h)
 
-  pub head-same : x ≡ y → ordered (x ∷ xs) (y ∷ ys) ≡ ordered xs ys
+  head-same : x ≡ y → ordered (x ∷ xs) (y ∷ ys) ≡ ordered xs ys
   head-same e = let h : y ≤ x = omega arith in let l : x ≤ y = omega arith in simp (le-ltb x y h, le-ltb y x l)
 
 pub same-equal : (a b : List ℕ) → ordered a b ≡ Same → a ≡ b

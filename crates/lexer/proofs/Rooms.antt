@@ -1,5 +1,5 @@
 -- Bytes as one number, one after the other, and the room that a u64 has for them. Assumes nothing.
-use mathlib.Core.Path.{_≡_, refl, sym, ap, _∙_}
+use mathlib.Core.Path.{_≡_, sym, ap, _∙_}
 use mathlib.Core.List.{List, [], _∷_}
 use Prim.Native.Nat.{ℕ, zero, suc, _+_, _*_, _^_, _≤_, _<_}
 use native.Mathlib.Nat.{le-trans, lt-of-lt-of-le, pow-succ', pow-le-pow-right, one-mul, add-mul, mul-assoc, mul-le-mul-right}

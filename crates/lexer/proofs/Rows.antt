@@ -39,7 +39,8 @@ pub rows-increasing : T (increasing (sorted keywords))
 unfolding keywords
 rows-increasing = tt
 
-spelled-at : (ws : List Word) → T (all-spelled ws) → (i : ℕ) → i < length ws → T (ltb (length (spellingAt ws i)) 12 && small (spellingAt ws i))
+spelled-at : (ws : List Word) → T (all-spelled ws) → (i : ℕ) → i < length ws
+    → T (ltb (length (spellingAt ws i)) 12 && small (spellingAt ws i))
 spelled-at [] t i h = absurd (not-suc-le-zero h)
 spelled-at (w ∷ ws) t zero h = and-l (spelled w) (all-spelled ws) t
 spelled-at (w ∷ ws) t (suc i) h = spelled-at ws (and-r (spelled w) (all-spelled ws) t) i (le-of-suc-le-suc h)
@@ -52,11 +53,14 @@ module _ (i : ℕ) (h : i < 133) where
   abbrev spelling : List ℕ
   spelling = spellingAt (sorted keywords) i
 
+  row-spelled : T (ltb (length spelling) 12 && small spelling)
+  row-spelled = spelled-at (sorted keywords) rows-spelled i in-table
+
   pub row-short : length spelling < 12
-  row-short = ltb→lt (length spelling) 12 (and-l (ltb (length spelling) 12) (small spelling) (spelled-at (sorted keywords) rows-spelled i in-table))
+  row-short = ltb→lt (length spelling) 12 (and-l (ltb (length spelling) 12) (small spelling) row-spelled)
 
   pub row-small : T (small spelling)
-  row-small = and-r (ltb (length spelling) 12) (small spelling) (spelled-at (sorted keywords) rows-spelled i in-table)
+  row-small = and-r (ltb (length spelling) 12) (small spelling) row-spelled
 
   pub row-head : bytesFrom 0 (take 8 (drop (i * 16) (cells (sorted keywords)))) ≡ headOf spelling
   unfolding headOf

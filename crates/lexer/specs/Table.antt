@@ -81,6 +81,10 @@ tailOf w = bytesFrom 0 (fixed 4 (drop 8 w))
 abbrev pub byNumber : ℕ → ℕ → Order → Order
 byNumber x y o = cond (ltb x y) Less (cond (ltb y x) More o)
 
+-- the order of a word and the one that two numbers stand for
+abbrev pub byKey : List ℕ → ℕ → ℕ → Order
+byKey w head tail = byNumber (headOf w) head (byNumber (tailOf w) tail Same)
+
 -- two numbers that stand for a word of small letters
 pub record Stands (head tail : ℕ) (w : List ℕ) : Type 0 where
   pub letters : T (small w)

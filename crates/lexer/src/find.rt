@@ -7,8 +7,7 @@ ghost use mathlib.Core.List.{List};
 ghost use Prim.Native.Nat.{ℕ, _<_};
 ghost use Rattle.lexer.specs.Keywords.{keywords};
 ghost use Rattle.lexer.specs.Words.{meaning};
-ghost use Rattle.lexer.specs.Table.{sorted, cells, spellingAt, headOf, tailOf, byNumber, Stands};
-ghost use Rattle.lexer.specs.declared.find.Order.the-variants.{Same};
+ghost use Rattle.lexer.specs.Table.{sorted, cells, spellingAt, byKey, Stands};
 
 // How one word stands to another in byte order.
 enum Order {
@@ -26,7 +25,7 @@ pub enum Found {
 // The order of row i's word and the word that two numbers stand for.
 fn compare(words: &[u8; 2128], i: usize, head: u64, tail: u64) -> Order
     requires { ⌜ (now words ≡ cells (sorted keywords)) × (i < 133) ⌝ }
-    ensures { λ r. ⌜ r ≡ byNumber (headOf (spellingAt (sorted keywords) i)) head (byNumber (tailOf (spellingAt (sorted keywords) i)) tail Same) ⌝ }
+    ensures { λ r. ⌜ r ≡ byKey (spellingAt (sorted keywords) i) head tail ⌝ }
 {
     let x = head_at(words, i);
     if x < head {

@@ -14,10 +14,12 @@ use Rattle.lexer.proofs.find.compare.Tie as tie
 same-heads : (d : tie.After-tail-at) {o : Order} →
     let args = d .before .before .before .before .args in
     let row = spellingAt (sorted keywords) (args .i) in
-    o ≡ byNumber (d .tail-at .result) (args .tail) Same → o ≡ byNumber (headOf row) (args .head) (byNumber (tailOf row) (args .tail) Same)
+    o ≡ byNumber (d .tail-at .result) (args .tail) Same
+    → o ≡ byNumber (headOf row) (args .head) (byNumber (tailOf row) (args .tail) Same)
 same-heads d e =
     let if1 = d .before .before .if1 in
-    rw (← (d .before .before .before .head-at .ensures), ← (d .tail-at .ensures), le-ltb _ _ (if1 .left), le-ltb _ _ (d .before .if2 .left)) e
+    let head = d .before .before .before .head-at .ensures in
+    rw (← head, ← (d .tail-at .ensures), le-ltb _ _ (if1 .left), le-ltb _ _ (d .before .if2 .left)) e
 
 head-at-requires : tie.Need-head-at-requires
 head-at-requires c κs = search needs

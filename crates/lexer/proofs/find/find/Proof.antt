@@ -1,5 +1,5 @@
--- `lexer::find::find` meets its contract. The loop's invariant: each row before `lo` is less than the word that the numbers stand for, and each
--- from `hi` on is more. Assumes nothing.
+-- `lexer::find::find` meets its contract. The loop's invariant: each row before `lo` is less than the word that the numbers stand for,
+-- and each from `hi` on is more. Assumes nothing.
 use mathlib.Core.Path.{_≡_, sym, ap, _∙_}
 use mathlib.Core.List.{List}
 use Prim.Native.Nat.{ℕ, _+_, _-_, _/_, _≤_, _<_}
@@ -52,8 +52,8 @@ module _ (c : tie.After-compare Inv-loop μ-loop) where
   abbrev at : tie.At-loop Inv-loop μ-loop
   at = c .before .before
 
-  abbrev args : tie.Start Inv-loop μ-loop
-  args = at .before
+  abbrev start : tie.Start Inv-loop μ-loop
+  start = at .before
 
   abbrev mid : ℕ
   mid = (at .loop .lo + at .loop .hi - 1) / 2
@@ -64,9 +64,11 @@ module _ (c : tie.After-compare Inv-loop μ-loop) where
   mid-in : mid < length (sorted keywords)
   mid-in = in-table mid mid-below
 
-  compared : (w : List ℕ) → Stands (args .args .head) (args .args .tail) w → ordered (spellingAt (sorted keywords) mid) w ≡ c .compare .result
+  compared : (w : List ℕ) → Stands (start .args .head) (start .args .tail) w
+      → ordered (spellingAt (sorted keywords) mid) w ≡ c .compare .result
   compared w k =
-      stands-ordered (spellingAt (sorted keywords) mid) (row-small mid mid-below) (row-short mid mid-below) (args .args .head) (args .args .tail) w k
+      stands-ordered (spellingAt (sorted keywords) mid) (row-small mid mid-below) (row-short mid mid-below)
+      (start .args .head) (start .args .tail) w k
       ∙ sym (c .compare .ensures)
 
 loop-holds : tie.Need-loop-holds Inv-loop μ-loop

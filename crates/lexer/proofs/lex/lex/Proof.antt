@@ -8,7 +8,7 @@ use borrow.Author.Tests.{le-leb, lt-leb}
 use lib.ListN.{length, length-append}
 use lib.Seq.{sets}
 use Rattle.lexer.specs.Keywords.{keywords}
-use Rattle.lexer.specs.Lex.{tokenAt, Item, item, Lexed, refused, whole, ahead, lexFrom, lexed, frontFrom, front}
+use Rattle.lexer.specs.Lex.{tokenAt, Item, item, Lexed, ahead, lexFrom, lexed, frontFrom, front}
 use Rattle.lexer.specs.Lex.{codesOf, startsOf, endedOf, Placed}
 use Rattle.lexer.specs.declared.lex.Ended.{Ended}
 use Rattle.lexer.specs.declared.lex.Token.the-variants.{Finish, Taken, Refused}

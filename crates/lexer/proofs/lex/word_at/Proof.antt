@@ -1,5 +1,6 @@
 -- `lexer::lex::word_at` meets its contract. Assumes nothing.
 use mathlib.Core.Path.{_≡_, sym, ap}
+use mathlib.Core.List.{List}
 use Prim.Native.Nat.{ℕ}
 use borrow.Author.Needs.{needs}
 use Rattle.lexer.specs.Keywords.{keywords}
@@ -15,19 +16,24 @@ use Rattle.lexer.proofs.lex.word_at.Statement.{statement}
 use Rattle.lexer.proofs.lex.word_at.Tie as tie
 
 module _ (d : tie.After-find) where
+  abbrev s : List ℕ
+  s = d .before .before .before .args .s .now
+
+  abbrev a : ℕ
+  a = d .before .before .before .args .a
+
   -- what is found is what the word means
-  found : d .find .result ≡ meaning keywords (wordFrom (d .before .before .before .args .s .now) (d .before .before .before .args .a))
+  found : d .find .result ≡ meaning keywords (wordFrom s a)
   found =
-      let args = d .before .before .before .args in
       let k = d .before .key-at .ensures in
-      d .find .ensures (wordFrom (args .s .now) (args .a)) (record {
-        letters = word-small (args .s .now) (args .a);
+      d .find .ensures (wordFrom s a) (record {
+        letters = word-small s a;
         head-is = sym (ap (λ (x : Key). x .head) k);
         tail-is = sym (ap (λ (x : Key). x .tail) k);
       })
 
   -- up to its end
-  ends : (f : ℕ → Token) → f (d .before .key-at .result .end) ≡ f (runEnd Letter (d .before .before .before .args .s .now) (d .before .before .before .args .a))
+  ends : (f : ℕ → Token) → f (d .before .key-at .result .end) ≡ f (runEnd Letter s a)
   ends f = ap (λ (x : Key). f (x .end)) (d .before .key-at .ensures)
 
 key-at-requires : tie.Need-key-at-requires
@@ -46,13 +52,13 @@ returns : tie.Need-returns
 unfolding wordAt
 returns c =
     let d = c .before .before in
-    rw (← (found d), c .enum-told .given .1) (ends d (λ (e : ℕ). Refused Meaningless (d .before .before .before .args .a) e))
+    rw (← (found d), c .enum-told .given .1) (ends d (λ (e : ℕ). Refused Meaningless (a d) e))
 
 returns-2 : tie.Need-returns-2
 unfolding wordAt
 returns-2 c =
     let d = c .before .before .before in
-    rw (← (found d), c .before .f .given .1) (ends d (λ (e : ℕ). Taken (c .before .f .given .0 .0) (d .before .before .before .args .a) e))
+    rw (← (found d), c .before .f .given .1) (ends d (λ (e : ℕ). Taken (c .before .f .given .0 .0) (a d) e))
 
 pub word-at-spec : {M : Type 1} → statement M
 word-at-spec =

@@ -1,4 +1,4 @@
--- `lexer::word::block_at` meets its contract. The loop's invariant: what was read stands in front of the letters from e on. Assumes nothing.
+-- `lexer::word::block_at` meets its contract. The loop's invariant: v was read, and the letters from e on follow it. Assumes nothing.
 use mathlib.Core.Path.{_≡_, refl, sym, ap, _∙_}
 use mathlib.Core.List.{List}
 use Prim.Native.Nat.{ℕ, suc, _+_, _*_, _-_, _≤_, min}
@@ -71,7 +71,8 @@ returns c =
     let args = at .before .before .args in
     let s = args .s .now in
     let none = letter-none s (l .e) (sym (c .before .before .letter-at .ensures) ∙ c .before .if1 .taken) in
-    let number = c .filled .ensures ∙ sym (l .inv .number ∙ ap (λ (w : List ℕ). bytesFrom (l .v) (fixed (l .places) w)) (word-none s (l .e) none)) in
+    let over = ap (λ (w : List ℕ). bytesFrom (l .v) (fixed (l .places) w)) (word-none s (l .e) none) in
+    let number = c .filled .ensures ∙ sym (l .inv .number ∙ over) in
     let end : l .e ≡ args .at + min (args .n) (run Letter (drop (args .at) s)) = omega (arith, l .inv .end, none) in
     λ i. record { number = number i; end = end i }
 

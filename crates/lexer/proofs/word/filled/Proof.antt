@@ -1,5 +1,5 @@
 -- `lexer::word::filled` meets its contract. Assumes nothing.
-use mathlib.Core.Path.{_≡_, _∙_}
+use mathlib.Core.Path.{_≡_}
 use mathlib.Core.List.{[]}
 use Prim.Native.Nat.{_+_, _*_}
 use Rattle.lexer.specs.Table.{fixed, bytesFrom}

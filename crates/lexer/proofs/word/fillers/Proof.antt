@@ -33,7 +33,11 @@ returns-8 c = search needs
 returns-9 : tie.Need-returns-9
 returns-9 c =
     let r = c .match .rest in
-    let e : c .before .args .places ≡ 8 = omega (arith, past-eight _ (r .0 .0 .0 .0 .0 .0 .0 .1) (r .0 .0 .0 .0 .0 .0 .1) (r .0 .0 .0 .0 .0 .1) (r .0 .0 .0 .0 .1) (r .0 .0 .0 .1) (r .0 .0 .1) (r .0 .1) (r .1)) in
+    let e : c .before .args .places ≡ 8 = omega (
+      arith,
+      past-eight _ (r .0 .0 .0 .0 .0 .0 .0 .1) (r .0 .0 .0 .0 .0 .0 .1) (r .0 .0 .0 .0 .0 .1) (r .0 .0 .0 .0 .1)
+          (r .0 .0 .0 .1) (r .0 .0 .1) (r .0 .1) (r .1),
+    ) in
     rw e
 
 pub fillers-spec : {M : Type 1} → statement M

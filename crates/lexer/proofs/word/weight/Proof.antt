@@ -33,7 +33,8 @@ returns-8 c = sym (ap weightOf (c .match .keys8))
 returns-9 : tie.Need-returns-9
 returns-9 c =
     let r = c .match .rest in
-    sym (simp (le-ltb _ _ (past-eight _ (r .0 .0 .0 .0 .0 .0 .0 .1) (r .0 .0 .0 .0 .0 .0 .1) (r .0 .0 .0 .0 .0 .1) (r .0 .0 .0 .0 .1) (r .0 .0 .0 .1) (r .0 .0 .1) (r .0 .1) (r .1))))
+    sym (simp (le-ltb _ _ (past-eight _ (r .0 .0 .0 .0 .0 .0 .0 .1) (r .0 .0 .0 .0 .0 .0 .1) (r .0 .0 .0 .0 .0 .1) (r .0 .0 .0 .0 .1)
+    (r .0 .0 .0 .1) (r .0 .0 .1) (r .0 .1) (r .1))))
 
 pub weight-spec : {M : Type 1} → statement M
 weight-spec =
