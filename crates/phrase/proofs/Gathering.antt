@@ -1,14 +1,14 @@
 -- What is gathered, link after link, is the flat reading of the tree.
 use Prim.Native.Nat.{ℕ, _+_, _*_, _≤_, _<_}
 use native.Mathlib.Omega.{arith}
-use mathlib.Core.Path.{_≡_, refl, ap, _∙_}
+use mathlib.Core.Path.{_≡_, refl}
 use mathlib.Core.Bool.{Bool, true, false, cond}
-use mathlib.Core.List.{List, [], _∷_}
+use mathlib.Core.List.{List}
 use lib.Dec.{ltb}
 use lib.ListN.{length, drop, set, length-drop}
 use lib.Seq.{drop-drop}
 use Rattle.dates.specs.Parsed.{Parsed, is, nothing, overflow}
-use Rattle.dates.specs.Durations.{Duration, part, concat, into, size, durationOf, rowed}
+use Rattle.dates.specs.Durations.{Duration, into, durationOf, rowed}
 use Rattle.dates.specs.declared.duration.Parts.{Parts}
 use Rattle.dates.specs.declared.duration.Rowed.{Rowed}
 use Rattle.dates.specs.declared.time.Time.the-variants.{Empty}
@@ -27,7 +27,7 @@ use Rattle.phrase.specs.declared.gather.Gathered.{Gathered}
 use Rattle.phrase.specs.declared.date_time.Count.{Count}
 use Rattle.phrase.specs.declared.date_time.Outline.{Outline}
 use Rattle.dates.proofs.Each.{Each}
-use Rattle.phrase.proofs.Stands.{LinkStands, TreeStands, TreeHolds, link-taken, date-time-holds}
+use Rattle.phrase.proofs.Stands.{LinkStands, TreeStands, TreeHolds, date-time-holds}
 use Rattle.phrase.proofs.Turns.{around-outline}
 use Rattle.phrase.proofs.Decoded.{some}
 

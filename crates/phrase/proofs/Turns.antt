@@ -1,15 +1,15 @@
 -- Turn after turn: `dateTimeOf` is what it says it is, and what one turn of the code says of the outline.
 use Prim.Native.Nat.{ℕ, _+_, _≤_, _<_}
 use native.Mathlib.Omega.{arith}
-use mathlib.Core.Path.{_≡_, refl, ap, _∙_}
-use mathlib.Core.Bool.{Bool, true, false}
+use mathlib.Core.Path.{_≡_, refl, ap, sym, _∙_}
+use mathlib.Core.Bool.{Bool, true, false, _||_}
 use mathlib.Core.List.{List, [], _∷_}
 use lib.ListN.{length, drop, length-drop}
 use lib.Seq.{drop-drop}
 use types.Run.{OneOf}
 use denote.Enum.Declared.{tagOf}
 use Rattle.lexer.specs.Lexemes as lexeme
-use Rattle.numbers.specs.Slices.{isAt}
+use Rattle.numbers.specs.Slices.{isAt, oneIf}
 use Rattle.numbers.proofs.Again.{again-is}
 use Rattle.dates.specs.Parsed.{Parsed, is, nothing, overflow, ifLet, andThen, stopped}
 use Rattle.dates.specs.Durations.{Duration}
@@ -190,10 +190,6 @@ time-arm (IsTime time t) k = record { tags = k }
 time-arm NoTime k = record { tags = k }
 time-arm TimeOverflow k = record { tags = k }
 
--- the time that a code's answer says
-pub time-at : (l : List ℕ) {r : TimeFound} {time : Time} {t : ℕ} → parsedTime r ≡ timeOf l → r ≡ IsTime time t → timeOf l ≡ is time t
-time-at l answer e = rw (← answer, e)
-
 -- where no overflow stopped a time, nothing is left to say
 pub time-dropped : (w : TimeFound) → OneOf (0 ∷ 1 ∷ []) (tagOf time-type w) → NoTurn ≡ turnAnswer [] (stopped (parsedTime w))
 time-dropped w k = rw (dropped (time-arm w k))
@@ -214,10 +210,10 @@ timedAnswer time s (IsExpr x u p) = Whole (Timed x) time (s + p) (s + u)
 timedAnswer time s NoExpr = Whole (Timed NoDate) time s s
 timedAnswer time s ExprOverflow = TurnOverflow
 
-pub timed-turn : (l m : List ℕ) {time : Time} {t : ℕ} → timeOf l ≡ is time t → m ≡ drop (commaOr l t lexeme.On) l →
+timed-is : (l m : List ℕ) {time : Time} {t : ℕ} → timeOf l ≡ is time t → m ≡ drop (commaOr l t lexeme.On) l →
     turnAnswer l (timedTurnOf l) ≡ timedAnswer time (commaOr l t lexeme.On) (exprAnswer m (dateExprOf m))
 unfolding timedTurnOf
-timed-turn l m {time} {t} e same = rw (same, e) (go (dateExprOf (drop (commaOr l t lexeme.On) l)))
+timed-is l m {time} {t} e same = rw (same, e) (go (dateExprOf (drop (commaOr l t lexeme.On) l)))
   where
     go : (w : Parsed DateExpr) →
         turnAnswer l (ifLet w (λ x u. is (whole (timeDate time x)) (commaOr l t lexeme.On + u)) (is (whole (timeDate time empty)) (commaOr l t lexeme.On)))
@@ -226,26 +222,38 @@ timed-turn l m {time} {t} e same = rw (same, e) (go (dateExprOf (drop (commaOr l
     go nothing = let z : commaOr l t lexeme.On + 0 ≡ commaOr l t lexeme.On = omega arith in rw (e, z)
     go overflow = refl
 
+-- the same by what the code learns on its way
+pub timed-turn : (l : List ℕ) {w : TimeFound} {time : Time} {t c : ℕ} {m : List ℕ} {r z : ExprTaken} →
+    parsedTime w ≡ timeOf l → w ≡ IsTime time t → c ≡ oneIf (isAt l t lexeme.Comma || isAt l t lexeme.On) → m ≡ drop (t + c) l →
+    r ≡ exprAnswer m (dateExprOf m) → r ≡ z → timedAnswer time (t + c) z ≡ turnAnswer l (timedTurnOf l)
+timed-turn l {m = m} answer e comma here expr f =
+    let time = rw (e) at (sym answer) in
+    rw (← f, expr, comma) (sym (timed-is l m time (rw comma at here)))
+
 -- a date expression at the place p, and the time behind it
 abbrev timeAnswer : Expr → ℕ → Parsed Time → TurnTaken
 timeAnswer x p (is time n) = Whole (Dated x) time p n
 timeAnswer x p nothing = NoTurn
 timeAnswer x p overflow = TurnOverflow
 
-pub time-stopped : (x : Expr) (p : ℕ) (w : TimeFound) → OneOf (1 ∷ 2 ∷ []) (tagOf time-type w) →
-    turnAnswer [] (stopped (parsedTime w)) ≡ timeAnswer x p (parsedTime w)
-time-stopped x p (IsTime time t) k = neither 0 1 2 (eqb-false 0 1 refl) (eqb-false 0 2 refl) k
-time-stopped x p NoTime k = refl
-time-stopped x p TimeOverflow k = refl
+pub time-stopped : (x : Expr) (p : ℕ) (w : TimeFound) {v : Parsed Time} → OneOf (1 ∷ 2 ∷ []) (tagOf time-type w) → parsedTime w ≡ v →
+    turnAnswer [] (stopped (parsedTime w)) ≡ timeAnswer x p v
+time-stopped x p w k e = rw (← e) (go w k)
+  where
+    go : (w : TimeFound) → OneOf (1 ∷ 2 ∷ []) (tagOf time-type w) → turnAnswer [] (stopped (parsedTime w)) ≡ timeAnswer x p (parsedTime w)
+    go (IsTime time t) k = neither 0 1 2 (eqb-false 0 1 refl) (eqb-false 0 2 refl) k
+    go NoTime k = refl
+    go TimeOverflow k = refl
 
 abbrev datedAnswer : List ℕ → ExprTaken → TurnTaken
 datedAnswer l (IsExpr x t p) = timeAnswer x p (timeBehindOf t l)
 datedAnswer l NoExpr = turnAnswer l (undatedTurnOf l)
 datedAnswer l ExprOverflow = TurnOverflow
 
-pub dated-turn : (l : List ℕ) → isAt l 0 lexeme.Now ≡ false → turnAnswer l (turnOf l) ≡ datedAnswer l (exprAnswer l (dateExprOf l))
+pub dated-turn : (l : List ℕ) {b : Bool} {r z : ExprTaken} → b ≡ isAt l 0 lexeme.Now → b ≡ false → r ≡ exprAnswer l (dateExprOf l) →
+    r ≡ z → datedAnswer l z ≡ turnAnswer l (turnOf l)
 unfolding turnOf
-dated-turn l e = rw e (go (dateExprOf l))
+dated-turn l test e expr f = rw (← f, expr, ← test, e) (sym (go (dateExprOf l)))
   where
     dated : (x : DateExpr) (w : Parsed Time) → turnAnswer l (andThen w (λ time n. is (whole (dateTime x time)) n)) ≡ timeAnswer (shape x) (ownPlace l x) w
     dated x (is time n) = refl

@@ -28,51 +28,60 @@ enum-known-turn c = search needs
 
 add-t12 : tie.Need-add-t12 Inv-loop μ-loop
 add-t12 c =
-    let said = turn-learnt (c .before .before .before .before .before .loop .inv) (c .before .before .before .before .rest .ensures .0) (c .before .before .before .read-turn .ensures) (c .before .turn .given .1) in
+    let d = c .before .before .before in
+    let said = turn-learnt (d .before .before .loop .inv) (d .before .rest .ensures .0) (d .read-turn .ensures) (c .before .turn .given .1) in
     let most = said .1 in omega arith
 
 returns : tie.Need-returns Inv-loop μ-loop
 returns c =
-    sym (turn-learnt (c .before .before .before .before .before .loop .inv) (c .before .before .before .before .rest .ensures .0) (c .before .before .before .read-turn .ensures) (c .before .turn .given .1) .0)
+    let d = c .before .before .before in
+    sym (turn-learnt (d .before .before .loop .inv) (d .before .rest .ensures .0) (d .read-turn .ensures) (c .before .turn .given .1) .0)
 
 enum-known-turn-2 : tie.Need-enum-known-turn-2 Inv-loop μ-loop
 enum-known-turn-2 c = search needs
 
 add-t14 : tie.Need-add-t14 Inv-loop μ-loop
 add-t14 c =
-    let said = turn-learnt (c .before .before .before .before .before .loop .inv) (c .before .before .before .before .rest .ensures .0) (c .before .before .before .read-turn .ensures) (c .before .turn2 .given .1) in
+    let d = c .before .before .before in
+    let said = turn-learnt (d .before .before .loop .inv) (d .before .rest .ensures .0) (d .read-turn .ensures) (c .before .turn2 .given .1) in
     let most = said .1 in omega arith
 
 add-t18 : tie.Need-add-t18 Inv-loop μ-loop
 add-t18 c =
-    let said = turn-learnt (c .before .before .before .before .before .loop .inv) (c .before .before .before .before .rest .ensures .0) (c .before .before .before .read-turn .ensures) (c .before .turn2 .given .1) in
+    let d = c .before .before .before in
+    let said = turn-learnt (d .before .before .loop .inv) (d .before .rest .ensures .0) (d .read-turn .ensures) (c .before .turn2 .given .1) in
     let more = said .2 in omega arith
 
 returns-2 : tie.Need-returns-2 Inv-loop μ-loop
 returns-2 c =
-    sym (turn-learnt (c .before .before .before .before .before .loop .inv) (c .before .before .before .before .rest .ensures .0) (c .before .before .before .read-turn .ensures) (c .before .turn2 .given .1) .0)
+    let d = c .before .before .before in
+    sym (turn-learnt (d .before .before .loop .inv) (d .before .rest .ensures .0) (d .read-turn .ensures) (c .before .turn2 .given .1) .0)
 
 enum-known-turn-3 : tie.Need-enum-known-turn-3 Inv-loop μ-loop
 enum-known-turn-3 c = search needs
 
 add-at : tie.Need-add-at Inv-loop μ-loop
 add-at c =
-    let said = turn-learnt (c .before .before .before .before .before .loop .inv) (c .before .before .before .before .rest .ensures .0) (c .before .before .before .read-turn .ensures) (c .before .turn3 .given .1) in
+    let d = c .before .before .before in
+    let said = turn-learnt (d .before .before .loop .inv) (d .before .rest .ensures .0) (d .read-turn .ensures) (c .before .turn3 .given .1) in
     let most = said .0 .within in omega arith
 
 add-m : tie.Need-add-m Inv-loop μ-loop
 add-m c =
-    let said = turn-learnt (c .before .before .before .before .before .loop .inv) (c .before .before .before .before .rest .ensures .0) (c .before .before .before .read-turn .ensures) (c .before .turn3 .given .1) in
+    let d = c .before .before .before in
+    let said = turn-learnt (d .before .before .loop .inv) (d .before .rest .ensures .0) (d .read-turn .ensures) (c .before .turn3 .given .1) in
     let few = said .0 .few in omega arith
 
 loop-less : tie.Need-loop-less Inv-loop μ-loop
 loop-less c =
-    let said = turn-learnt (c .before .before .before .before .before .loop .inv) (c .before .before .before .before .rest .ensures .0) (c .before .before .before .read-turn .ensures) (c .before .turn3 .given .1) in
+    let d = c .before .before .before in
+    let said = turn-learnt (d .before .before .loop .inv) (d .before .rest .ensures .0) (d .read-turn .ensures) (c .before .turn3 .given .1) in
     let most = said .0 .within in let one = said .1 in omega arith
 
 loop-again : tie.Need-loop-again Inv-loop μ-loop
 loop-again c =
-    turn-learnt (c .before .before .before .before .before .loop .inv) (c .before .before .before .before .rest .ensures .0) (c .before .before .before .read-turn .ensures) (c .before .turn3 .given .1) .0
+    let d = c .before .before .before in
+    turn-learnt (d .before .before .loop .inv) (d .before .rest .ensures .0) (d .read-turn .ensures) (c .before .turn3 .given .1) .0
 
 enum-told : tie.Need-enum-told Inv-loop μ-loop
 enum-told c = search needs
@@ -82,7 +91,8 @@ ended-requires c κs = search needs
 
 returns-3 : tie.Need-returns-3 Inv-loop μ-loop
 returns-3 c =
-    c .ended .ensures ∙ sym (turn-learnt (c .before .before .before .before .before .loop .inv) (c .before .before .before .before .rest .ensures .0) (c .before .before .before .read-turn .ensures) (c .before .enum-told .given .1))
+    let d = c .before .before .before in
+    c .ended .ensures ∙ sym (turn-learnt (d .before .before .loop .inv) (d .before .rest .ensures .0) (d .read-turn .ensures) (c .before .enum-told .given .1))
 
 enum-told-2 : tie.Need-enum-told-2 Inv-loop μ-loop
 enum-told-2 c = search needs
@@ -92,7 +102,8 @@ ended-requires-2 c κs = search needs
 
 returns-4 : tie.Need-returns-4 Inv-loop μ-loop
 returns-4 c =
-    c .ended2 .ensures ∙ sym (turn-learnt (c .before .before .before .before .before .loop .inv) (c .before .before .before .before .rest .ensures .0) (c .before .before .before .read-turn .ensures) (c .before .enum-told2 .given .1))
+    let d = c .before .before .before in
+    c .ended2 .ensures ∙ sym (turn-learnt (d .before .before .loop .inv) (d .before .rest .ensures .0) (d .read-turn .ensures) (c .before .enum-told2 .given .1))
 
 pub read-date-time-spec : {M : Type 1} → statement M
 read-date-time-spec =

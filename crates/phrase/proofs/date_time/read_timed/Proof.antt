@@ -4,7 +4,7 @@ use denote.Ref.{now}
 use Rattle.dates.specs.Times.{parsedTime}
 use Rattle.dates.proofs.Laws.{found}
 use Rattle.phrase.specs.DateTimes.{timedTurnOf}
-use Rattle.phrase.proofs.Turns.{time-at, time-unread, timed-turn}
+use Rattle.phrase.proofs.Turns.{time-unread, timed-turn}
 use borrow.Author.Needs.{needs}
 use Rattle.phrase.proofs.date_time.read_timed.Statement.{statement}
 use Rattle.phrase.proofs.date_time.read_timed.Tie as tie
@@ -62,30 +62,33 @@ enum-told-2 c = search needs
 
 returns-2 : tie.Need-returns-2
 returns-2 c =
-    let l = now (c .before .before .before .before .before .before .before .before .before .before .before .args .l) in
-    let read-time = c .before .before .before .before .before .before .before .before .before .read-time in
-    let comma = c .before .before .before .before .before .take-comma-or in
-    let rest = c .before .before .before .before .rest in
-    let time = time-at l (read-time .ensures .0) (c .before .before .before .before .before .before .before .a .given .1) in
-    rw (timed-turn l (now (rest .result)) time (rw (← (comma .ensures .0)) (rest .ensures .0)), ← (comma .ensures .0), ← (c .before .before .before .read-expr .ensures .0), c .before .e .given .1)
+    let d = c .before .before .before in
+    let read-time = d .before .before .before .before .before .before .read-time in
+    let comma = d .before .before .take-comma-or in
+    let l = now (d .before .before .before .before .before .before .before .before .args .l) in
+    timed-turn l (read-time .ensures .0) (d .before .before .before .before .a .given .1) (comma .ensures .0) (d .before .rest .ensures .0)
+    (d .read-expr .ensures .0)
+    (c .before .e .given .1)
 
 returns-3 : tie.Need-returns-3
 returns-3 c =
-    let l = now (c .before .before .before .before .before .before .before .before .before .before .args .l) in
-    let read-time = c .before .before .before .before .before .before .before .before .read-time in
-    let comma = c .before .before .before .before .take-comma-or in
-    let rest = c .before .before .before .rest in
-    let time = time-at l (read-time .ensures .0) (c .before .before .before .before .before .before .a .given .1) in
-    rw (timed-turn l (now (rest .result)) time (rw (← (comma .ensures .0)) (rest .ensures .0)), ← (comma .ensures .0), ← (c .before .before .read-expr .ensures .0), c .enum-told .given .1)
+    let d = c .before .before in
+    let read-time = d .before .before .before .before .before .before .read-time in
+    let comma = d .before .before .take-comma-or in
+    let l = now (d .before .before .before .before .before .before .before .before .args .l) in
+    timed-turn l (read-time .ensures .0) (d .before .before .before .before .a .given .1) (comma .ensures .0) (d .before .rest .ensures .0)
+    (d .read-expr .ensures .0)
+    (c .enum-told .given .1)
 
 returns-4 : tie.Need-returns-4
 returns-4 c =
-    let l = now (c .before .before .before .before .before .before .before .before .before .before .args .l) in
-    let read-time = c .before .before .before .before .before .before .before .before .read-time in
-    let comma = c .before .before .before .before .take-comma-or in
-    let rest = c .before .before .before .rest in
-    let time = time-at l (read-time .ensures .0) (c .before .before .before .before .before .before .a .given .1) in
-    rw (timed-turn l (now (rest .result)) time (rw (← (comma .ensures .0)) (rest .ensures .0)), ← (comma .ensures .0), ← (c .before .before .read-expr .ensures .0), c .enum-told2 .given .1)
+    let d = c .before .before in
+    let read-time = d .before .before .before .before .before .before .read-time in
+    let comma = d .before .before .take-comma-or in
+    let l = now (d .before .before .before .before .before .before .before .before .args .l) in
+    timed-turn l (read-time .ensures .0) (d .before .before .before .before .a .given .1) (comma .ensures .0) (d .before .rest .ensures .0)
+    (d .read-expr .ensures .0)
+    (c .enum-told2 .given .1)
 
 pub read-timed-spec : {M : Type 1} → statement M
 read-timed-spec =

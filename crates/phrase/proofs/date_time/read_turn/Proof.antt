@@ -1,9 +1,6 @@
 use native.Mathlib.Omega.{arith}
-use mathlib.Core.Path.{_≡_, _∙_}
-use mathlib.Core.Bool.{false}
+use mathlib.Core.Path.{_∙_}
 use denote.Ref.{now}
-use Rattle.lexer.specs.Lexemes as lexeme
-use Rattle.numbers.specs.Slices.{isAt}
 use Rattle.phrase.specs.DateTimes.{turnOf}
 use Rattle.phrase.proofs.Turns.{time-stopped, dated-turn}
 use borrow.Author.Needs.{needs}
@@ -36,10 +33,13 @@ turn-stopped-requires c κs = search needs
 
 returns-2 : tie.Need-returns-2
 returns-2 c =
-    let l = now (c .before .before .before .before .before .before .before .before .before .before .args .l) in
-    let none : isAt l 0 lexeme.Now ≡ false = rw (← (c .before .before .before .before .before .before .before .before .is-at .ensures .0)) (c .before .before .before .before .before .before .before .if1 .left) in
+    let d = c .before .before .before .before .before .before in
     let e = c .before .before .before .before .e in
-    rw (dated-turn l none, ← (c .before .before .before .before .before .before .read-expr .ensures .0), e .given .1, ← (c .before .before .time-behind .ensures)) (c .turn-stopped .ensures ∙ time-stopped (e .given .0 .0) (e .given .0 .1 .1 .0) (c .before .before .time-behind .result) (c .before .match2 .keys2))
+    let behind = c .before .before .time-behind in
+    let l = now (d .before .before .before .before .args .l) in
+    let dated = dated-turn l (d .before .before .is-at .ensures .0) (d .before .if1 .left) (d .read-expr .ensures .0) (e .given .1) in
+    let stopped = time-stopped (e .given .0 .0) (e .given .0 .1 .1 .0) (behind .result) (c .before .match2 .keys2) (behind .ensures) in
+    c .turn-stopped .ensures ∙ stopped ∙ dated
 
 enum-told : tie.Need-enum-told
 enum-told c = search needs
@@ -52,21 +52,25 @@ enum-told-2 c = search needs
 
 returns-3 : tie.Need-returns-3
 returns-3 c =
-    let l = now (c .before .before .before .before .before .before .before .before .before .before .before .args .l) in
-    let none : isAt l 0 lexeme.Now ≡ false = rw (← (c .before .before .before .before .before .before .before .before .before .is-at .ensures .0)) (c .before .before .before .before .before .before .before .before .if1 .left) in
-    rw (dated-turn l none, ← (c .before .before .before .before .before .before .before .read-expr .ensures .0), c .before .before .before .before .before .e .given .1, ← (c .before .before .before .time-behind .ensures), c .before .a .given .1)
+    let d = c .before .before .before .before .before .before .before in
+    let e = c .before .before .before .before .before .e in
+    let l = now (d .before .before .before .before .args .l) in
+    let dated = dated-turn l (d .before .before .is-at .ensures .0) (d .before .if1 .left) (d .read-expr .ensures .0) (e .given .1) in
+    rw (← (c .before .before .before .time-behind .ensures), c .before .a .given .1) at dated
 
 returns-4 : tie.Need-returns-4
 returns-4 c =
-    let l = now (c .before .before .before .before .before .before .before .args .l) in
-    let none : isAt l 0 lexeme.Now ≡ false = rw (← (c .before .before .before .before .before .is-at .ensures .0)) (c .before .before .before .before .if1 .left) in
-    rw (dated-turn l none, ← (c .before .before .before .read-expr .ensures .0), c .before .enum-told .given .1) (c .read-undated .ensures)
+    let d = c .before .before .before in
+    let l = now (d .before .before .before .before .args .l) in
+    let dated = dated-turn l (d .before .before .is-at .ensures .0) (d .before .if1 .left) (d .read-expr .ensures .0) (c .before .enum-told .given .1) in
+    c .read-undated .ensures ∙ dated
 
 returns-5 : tie.Need-returns-5
 returns-5 c =
-    let l = now (c .before .before .before .before .before .before .args .l) in
-    let none : isAt l 0 lexeme.Now ≡ false = rw (← (c .before .before .before .before .is-at .ensures .0)) (c .before .before .before .if1 .left) in
-    rw (dated-turn l none, ← (c .before .before .read-expr .ensures .0), c .enum-told2 .given .1)
+    let d = c .before .before in
+    let l = now (d .before .before .before .before .args .l) in
+    let dated = dated-turn l (d .before .before .is-at .ensures .0) (d .before .if1 .left) (d .read-expr .ensures .0) (c .enum-told2 .given .1) in
+    dated
 
 pub read-turn-spec : {M : Type 1} → statement M
 read-turn-spec =

@@ -20,7 +20,10 @@ refuse-requires c κs = search needs
 
 returns-2 : tie.Need-returns-2
 returns-2 c =
-    rw (eq-eqb _ _ (c .before .before .before .before .before .before .before .before .if1 .left), c .before .before .before .before .before .before .taken .given .1, lt-ltb _ _ (c .before .before .before .if2 .taken), ← (c .before .wide .ensures)) (c .refuse .ensures)
+    let d = c .before .before .before in
+    let taken = d .before .before .before .taken in
+    let if1 = d .before .before .before .before .before .if1 in
+    rw (eq-eqb _ _ (if1 .left), taken .given .1, lt-ltb _ _ (d .if2 .taken), ← (c .before .wide .ensures)) (c .refuse .ensures)
 
 enum-told : tie.Need-enum-told
 enum-told c = search needs
