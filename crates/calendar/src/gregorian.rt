@@ -6,7 +6,7 @@ ghost use Rattle.calendar.specs.Gregorian.{leapYear, leapDay, monthLengt
 ghost use Rattle.calendar.specs.Gregorian.{yearsBefore, monthOf, InYear, InMonth};
 
 // True where y divides by 4 and not by 100, or by 400.
-pub fn leap_year(y: u32) -> bool
+pub(crate) fn leap_year(y: u32) -> bool
     ensures { λ r. ⌜ r ≡ leapYear y ⌝ }
 {
     if y % 400 == 0 {
@@ -26,7 +26,7 @@ fn leap_day(leap: bool) -> u32
 }
 
 // The days of month m.
-pub fn month_length(leap: bool, m: u32) -> u32
+pub(crate) fn month_length(leap: bool, m: u32) -> u32
     requires { ⌜ (1 ≤ m) × (m ≤ 12) ⌝ }
     ensures { λ r. ⌜ r ≡ monthLength leap m ⌝ }
 {
@@ -38,7 +38,7 @@ pub fn month_length(leap: bool, m: u32) -> u32
 }
 
 // The days of the year before month m. The months from March on begin two days earlier than on the line, or one in a leap year.
-pub fn days_before_month(leap: bool, m: u32) -> u32
+pub(crate) fn days_before_month(leap: bool, m: u32) -> u32
     requires { ⌜ (1 ≤ m) × (m ≤ 12) ⌝ }
     ensures { λ r. ⌜ (r ≡ daysBeforeMonth leap m) × (r ≤ 335) ⌝ }
 {
@@ -51,7 +51,7 @@ pub fn days_before_month(leap: bool, m: u32) -> u32
 }
 
 // The days of the first x years.
-pub fn days_of_years(x: u32) -> u32
+pub(crate) fn days_of_years(x: u32) -> u32
     requires { ⌜ x ≤ 9999 ⌝ }
     ensures { λ r. ⌜ (r ≡ daysOfYears x) × (r ≤ days) ⌝ }
 {
@@ -59,7 +59,7 @@ pub fn days_of_years(x: u32) -> u32
 }
 
 // The day number of a date.
-pub fn day_number(y: u32, m: u32, d: u32) -> u32
+pub(crate) fn day_number(y: u32, m: u32, d: u32) -> u32
     requires { ⌜ IsDate y m d ⌝ }
     ensures { λ r. ⌜ (r ≡ dayNumber y m d) × (r < days) ⌝ }
 {
@@ -67,14 +67,14 @@ pub fn day_number(y: u32, m: u32, d: u32) -> u32
 }
 
 // The smaller of two numbers.
-pub fn least(a: u32, b: u32) -> u32
+pub(crate) fn least(a: u32, b: u32) -> u32
     ensures { λ r. ⌜ r ≡ min a b ⌝ }
 {
     if a < b { a } else { b }
 }
 
 // The whole years before day n: cycles of 400 years, centuries, fours and single years.
-pub fn years_before(n: u32) -> u32
+pub(crate) fn years_before(n: u32) -> u32
     requires { ⌜ n < days ⌝ }
     ensures { λ r. ⌜ (r ≡ yearsBefore n) × (r < 9999) × InYear n r ⌝ }
 {
@@ -86,7 +86,7 @@ pub fn years_before(n: u32) -> u32
 }
 
 // The month of day k of a year, counted from 0: the line of `days_before_month` the other way.
-pub fn month_of(leap: bool, k: u32) -> u32
+pub(crate) fn month_of(leap: bool, k: u32) -> u32
     requires { ⌜ k < 365 + leapDay leap ⌝ }
     ensures { λ r. ⌜ (r ≡ monthOf leap k) × InMonth leap k r ⌝ }
 {

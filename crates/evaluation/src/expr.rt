@@ -136,7 +136,7 @@ fn weekday_before(w: u32, parts: Parts, own: u8, t: Moment) -> Reached
 }
 
 // DateExpr::to_chrono, at the time of day of t.
-pub fn expr_at(expr: Expr, parts: Parts, own: u8, t: Moment) -> Reached
+pub(crate) fn expr_at(expr: Expr, parts: Parts, own: u8, t: Moment) -> Reached
     requires { ⌜ IsMoment t × (parts .n ≤ 21) × (hasDuration expr ≡ true → own < parts .n) ⌝ }
     ensures { λ r. ⌜ reachedOf r ≡ dateExprAt (exprFrom expr (rowDuration (slice own (parts .n) (parts .items)))) t ⌝ }
     ensures { λ r. ⌜ Valid (reachedOf r) ⌝ }

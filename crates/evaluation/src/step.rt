@@ -12,7 +12,7 @@ ghost use Rattle.evaluation.specs.Steps.{unitStep, partStep, durationSte
 ghost use Rattle.phrase.specs.Flat.{rowDuration};
 
 // So many units, back or on: days, weeks, hours and minutes are fixed lengths.
-pub fn unit_step(back: bool, k: u32, unit: Unit, t: Moment) -> Reached
+pub(crate) fn unit_step(back: bool, k: u32, unit: Unit, t: Moment) -> Reached
     requires { ⌜ IsMoment t ⌝ }
     ensures { λ r. ⌜ reachedOf r ≡ unitStep back k unit t ⌝ }
     ensures { λ r. ⌜ Valid (reachedOf r) ⌝ }
@@ -41,7 +41,7 @@ fn part_step(back: bool, part: Part, t: Moment) -> Reached
 }
 
 // The parts from one place up to another, first to last: each one's own result is tested.
-pub fn duration_step(back: bool, parts: Parts, from: u8, to: u8, begin: Moment) -> Reached
+pub(crate) fn duration_step(back: bool, parts: Parts, from: u8, to: u8, begin: Moment) -> Reached
     requires { ⌜ (from < to) × (to ≤ 21) × IsMoment begin ⌝ }
     ensures { λ r. ⌜ reachedOf r ≡ durationStep back (rowDuration (slice from to (parts .items))) begin ⌝ }
     ensures { λ r. ⌜ Valid (reachedOf r) ⌝ }

@@ -45,7 +45,7 @@ fn compare(words: &[u8; 2128], i: usize, head: u64, tail: u64) -> Order
 }
 
 // What the word means that two numbers stand for: a search by halves, the lower of two middles first.
-pub fn find(words: &[u8; 2128], head: u64, tail: u64) -> Found
+pub(crate) fn find(words: &[u8; 2128], head: u64, tail: u64) -> Found
     requires { ⌜ now words ≡ cells (sorted keywords) ⌝ }
     ensures { λ r. ⌜ ((w : List ℕ) → Stands head tail w → r ≡ meaning keywords w) ⌝ }
 {

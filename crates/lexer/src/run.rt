@@ -4,7 +4,7 @@ ghost use mathlib.Core.Path.{_≡_};
 ghost use Rattle.lexer.specs.Lex.{runEnd};
 
 // The end of the run of bytes of one class.
-pub fn run_end(s: &[u8], at: usize, k: u8) -> usize
+pub(crate) fn run_end(s: &[u8], at: usize, k: u8) -> usize
     ensures { λ r. ⌜ r ≡ runEnd k (now (s .entry)) at ⌝ }
 {
     let mut e = at;

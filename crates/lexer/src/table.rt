@@ -143,7 +143,7 @@ const WORDS: [u8; 2128] = *b"\
 ";
 
 // All rows. A constant is made anew wherever it stands in the code, so this is done once a phrase, and the rows are lent.
-pub fn rows() -> [u8; 2128]
+pub(crate) fn rows() -> [u8; 2128]
     ensures { λ r. ⌜ r ≡ cells (sorted keywords) ⌝ }
 {
     WORDS
@@ -172,7 +172,7 @@ fn bytes_at(words: &[u8; 2128], p: usize, n: usize) -> u64
 }
 
 // The first 8 bytes of row i's word.
-pub fn head_at(words: &[u8; 2128], i: usize) -> u64
+pub(crate) fn head_at(words: &[u8; 2128], i: usize) -> u64
     requires { ⌜ (now words ≡ cells (sorted keywords)) × (i < 133) ⌝ }
     ensures { λ r. ⌜ r ≡ headOf (spellingAt (sorted keywords) i) ⌝ }
 {
@@ -180,7 +180,7 @@ pub fn head_at(words: &[u8; 2128], i: usize) -> u64
 }
 
 // Its next 4 bytes.
-pub fn tail_at(words: &[u8; 2128], i: usize) -> u64
+pub(crate) fn tail_at(words: &[u8; 2128], i: usize) -> u64
     requires { ⌜ (now words ≡ cells (sorted keywords)) × (i < 133) ⌝ }
     ensures { λ r. ⌜ r ≡ tailOf (spellingAt (sorted keywords) i) ⌝ }
 {
@@ -188,7 +188,7 @@ pub fn tail_at(words: &[u8; 2128], i: usize) -> u64
 }
 
 // What it means.
-pub fn lexeme_at(words: &[u8; 2128], i: usize) -> u64
+pub(crate) fn lexeme_at(words: &[u8; 2128], i: usize) -> u64
     requires { ⌜ (now words ≡ cells (sorted keywords)) × (i < 133) ⌝ }
     ensures { λ r. ⌜ r ≡ lexemeAt (sorted keywords) i ⌝ }
 {

@@ -120,7 +120,7 @@ fn block_at(s: &[u8], at: usize, n: usize) -> Block
 }
 
 // The word that begins at a.
-pub fn key_at(s: &[u8], a: usize) -> Key
+pub(crate) fn key_at(s: &[u8], a: usize) -> Key
     ensures { λ r. ⌜ r ≡ keyOf (now (s .entry)) a ⌝ }
 {
     let h = block_at(s, a, 8);

@@ -220,7 +220,7 @@ fn read_date_time(l: &[u64]) -> Outline
 }
 
 // The same, kept only where at least n lexemes are taken.
-pub fn read_outline(l: &[u64], n: usize) -> Outline
+pub(crate) fn read_outline(l: &[u64], n: usize) -> Outline
     ensures { λ r. ⌜ r ≡ outlineAnswer (now (l .entry)) (kept n (dateTimeOf (now (l .entry)))) ⌝ }
 {
     let o = read_date_time(l);

@@ -17,7 +17,7 @@ pub struct Gathered {
 }
 
 // Nothing is read yet.
-pub fn begun() -> Gathered
+pub(crate) fn begun() -> Gathered
     ensures { λ r. ⌜ r ≡ nothing ⌝ }
 {
     Gathered {
@@ -45,7 +45,7 @@ fn stopped(g: Gathered, ended: Ended) -> Gathered
 }
 
 // One token more: the end and a refusal end the reading, and so does a lexeme for which there is no room.
-pub fn joined(g: Gathered, t: Token) -> Gathered
+pub(crate) fn joined(g: Gathered, t: Token) -> Gathered
     ensures { λ r. ⌜ r ≡ joinedTo g t ⌝ }
 {
     let n = g.count;

@@ -1,12 +1,8 @@
 -- The promises of `phrase`. Assumes nothing.
 use Rattle.settled.proofs.Settled.{Same, Settled, same}
-use Rattle.phrase.proofs.date_time.read_outline.Reads as read-outline'
 use Rattle.phrase.proofs.gather.gather.Reads as gather'
 use Rattle.phrase.proofs.read.read.Reads as read'
 use Rattle.phrase.proofs.read.offending.Reads as offending'
-
-pub read-outline : Settled read-outline'.Post
-read-outline = same read-outline'.Post _ _ (λ κs a z e p. p)
 
 pub gather : Settled gather'.Post
 gather = same gather'.Post _ _ (λ κs a z e p. p)
