@@ -10,7 +10,7 @@ use lib.Dec.{leb}
 use lib.ListN.{length, getD, take, drop, set, length-map, List·getD-append}
 use lib.Seq.{take-at, take-suc, length-take-le, sets, sets-eq}
 use Rattle.lexer.specs.Words.{Word}
-use Rattle.lexer.specs.Refusals.{TooLong, TooMany}
+use Rattle.refusals.specs.Table as refusal
 use Rattle.lexer.specs.Lex.{tokenAt, Item, item, Lexed, refused, whole, ahead, ifTaken, lexFrom, lexed, ifLexeme, frontFrom, front}
 use Rattle.lexer.specs.declared.lex.Token.{Token}
 use Rattle.lexer.specs.declared.lex.Token.the-variants.{Finish, Taken, Refused}
@@ -27,7 +27,7 @@ module _ (ws : List Word) (s : List ℕ) (at : ℕ) where
   lex-refused (suc room) n a e h = (rw h, rw h)
 
   pub lex-full : (room k a e : ℕ) → room ≡ 0 → tokenAt ws s at ≡ Taken k a e
-      → (lexFrom ws room s at ≡ refused TooMany a e) × (frontFrom ws room s at ≡ [])
+      → (lexFrom ws room s at ≡ refused refusal.TooMany a e) × (frontFrom ws room s at ≡ [])
   lex-full room k a e z h = (rw (z, h), rw z)
 
   pub lex-taken : (room left k a e : ℕ) → room ≡ suc left → tokenAt ws s at ≡ Taken k a e
@@ -58,7 +58,7 @@ leads-token Finish g f h = refl
 leads-token (Refused n a e) g f h = tt
 leads-token (Taken k a e) g f h = h k a e
 
-full : (t : Token) → Leads (ifTaken t (λ k a e. refused TooMany a e)) []
+full : (t : Token) → Leads (ifTaken t (λ k a e. refused refusal.TooMany a e)) []
 full Finish = refl
 full (Refused n a e) = tt
 full (Taken k a e) = tt
@@ -73,7 +73,7 @@ leads : (ws : List Word) (s : List ℕ) → Leads (lexed ws s) (front ws s)
 unfolding lexed front
 leads ws s = go (leb (length s) 256)
   where
-    go : (b : Bool) → Leads (cond b (lexFrom ws 64 s 0) (refused TooLong 0 0)) (cond b (frontFrom ws 64 s 0) [])
+    go : (b : Bool) → Leads (cond b (lexFrom ws 64 s 0) (refused refusal.TooLong 0 0)) (cond b (frontFrom ws 64 s 0) [])
     go true = leads-from ws 64 s 0
     go false = tt
 

@@ -10,7 +10,7 @@ use borrow.Author.Tests.{ltb-true}
 use lib.ListN.{length, getD}
 use Rattle.lexer.specs.Words.{Word, meaning, folded}
 use Rattle.lexer.specs.Classes.{Gap, Letter, Digit, Mark, classOf, markOf}
-use Rattle.lexer.specs.Refusals.{TooLong, Meaningless, TooMany}
+use Rattle.refusals.specs.Table as refusal
 use Rattle.lexer.specs.Lex.{runEnd, between, numberOf, ofWord, ofNumber, wordAt, numberAt, tokenOf, tokenFrom, tokenAt}
 use Rattle.lexer.specs.Lex.{Item, item, Lexed, refused, whole, ahead, ifTaken, lexFrom, lexed, ifLexeme, frontFrom, front}
 use Rattle.lexer.specs.Lex.{startsOf, endedOf, Placed, placeOf, offendingOf}
@@ -64,7 +64,7 @@ module _ (ws : List Word) (s : List ℕ) (a : ℕ) (h : a < length s) where
   token-of-within k = go (eqb k Letter) (eqb k Digit) (eqb k Mark)
     where
       go : (l d m : Bool) → Within (length s)
-          (cond l (wordAt ws s a) (cond d (numberAt s a) (cond m (Taken (markOf (getD s a 0)) a (a + 1)) (Refused Meaningless a (a + 1)))))
+          (cond l (wordAt ws s a) (cond d (numberAt s a) (cond m (Taken (markOf (getD s a 0)) a (a + 1)) (Refused refusal.Unknown a (a + 1)))))
       go true d m = word-within
       go false true m = number-within
       go false false true = byte-part
@@ -141,7 +141,7 @@ fits-token n (Refused m a e) g p h = (p .start-end, p .end-most)
 
 fits-from : (ws : List Word) (room : ℕ) (s : List ℕ) (at : ℕ) → Fits (length s) (lexFrom ws room s at)
 fits-from ws zero s at =
-    fits-token (length s) (tokenAt ws s at) (λ k a e. refused TooMany a e) (token-within ws s at) (λ k a e p. (p .start-end, p .end-most))
+    fits-token (length s) (tokenAt ws s at) (λ k a e. refused refusal.TooMany a e) (token-within ws s at) (λ k a e p. (p .start-end, p .end-most))
 fits-from ws (suc room) s at =
     fits-token (length s) (tokenAt ws s at) (λ k a e. ahead (item k a ∷ []) (lexFrom ws room s e)) (token-within ws s at)
     (λ k a e p. fits-ahead (length s) (item k a ∷ []) (lexFrom ws room s e) (fits-from ws room s e))
@@ -150,7 +150,7 @@ fits : (ws : List Word) (s : List ℕ) → Fits (length s) (lexed ws s)
 unfolding lexed
 fits ws s = go (leb (length s) 256)
   where
-    go : (b : Bool) → Fits (length s) (cond b (lexFrom ws 64 s 0) (refused TooLong 0 0))
+    go : (b : Bool) → Fits (length s) (cond b (lexFrom ws 64 s 0) (refused refusal.TooLong 0 0))
     go true = fits-from ws 64 s 0
     go false = (zero-le, zero-le)
 

@@ -9,7 +9,7 @@ use Rattle.lexer.specs.Lexemes.{NUM}
 use Rattle.lexer.specs.Words.{Word, meaning, folded}
 use Rattle.lexer.specs.Table.{fixed, bytesFrom, headOf, tailOf}
 use Rattle.lexer.specs.Classes.{Gap, Letter, Digit, Mark, letterOf, classOf, markOf}
-use Rattle.lexer.specs.Refusals.{TooLong, Meaningless, TooLarge, TooMany}
+use Rattle.refusals.specs.Table as refusal
 use Rattle.lexer.specs.declared.find.Found.{Found}
 use Rattle.lexer.specs.declared.find.Found.the-variants.{Lexeme, Unknown}
 use Rattle.lexer.specs.declared.lex.Digits.{Digits}
@@ -45,12 +45,12 @@ numberOf s = cond (leb (valueFrom 0 s) 4294967295) (Value (valueFrom 0 s)) Over
 -- a word from a to e by its meaning
 abbrev pub ofWord : Found → ℕ → ℕ → Token
 ofWord (Lexeme l) a e = Taken l a e
-ofWord Unknown a e = Refused Meaningless a e
+ofWord Unknown a e = Refused refusal.Unknown a e
 
 -- a number from a to e by its value
 abbrev pub ofNumber : Digits → ℕ → ℕ → Token
 ofNumber (Value v) a e = Taken (NUM + v) a e
-ofNumber Over a e = Refused TooLarge a e
+ofNumber Over a e = Refused refusal.LargeDigits a e
 
 -- "a run of letters is one word": the one that begins at a, as it is looked up
 abbrev pub wordFrom : List ℕ → ℕ → List ℕ
@@ -82,7 +82,7 @@ tokenOf ws k s a =
     cond (eqb k Letter) (wordAt ws s a)
     (cond (eqb k Digit) (numberAt s a)
     (cond (eqb k Mark) (Taken (markOf (getD s a 0)) a (a + 1))
-    (Refused Meaningless a (a + 1))))
+    (Refused refusal.Unknown a (a + 1))))
 
 -- what begins at a, or the end of the phrase
 abbrev pub tokenFrom : List Word → List ℕ → ℕ → Token
@@ -119,12 +119,12 @@ ifTaken (Taken k a e) g = g k a e
 
 -- the lexemes from a place on, left to right, with room for so many: a word or number is judged before it is counted
 abbrev pub lexFrom : List Word → ℕ → List ℕ → ℕ → Lexed
-lexFrom ws zero s at = ifTaken (tokenAt ws s at) (λ k a e. refused TooMany a e)
+lexFrom ws zero s at = ifTaken (tokenAt ws s at) (λ k a e. refused refusal.TooMany a e)
 lexFrom ws (suc room) s at = ifTaken (tokenAt ws s at) (λ k a e. ahead (item k a ∷ []) (lexFrom ws room s e))
 
 -- `lex_line`: a phrase of at most 256 bytes and 64 lexemes
 unfoldable pub lexed : List Word → List ℕ → Lexed
-lexed ws s = cond (leb (length s) 256) (lexFrom ws 64 s 0) (refused TooLong 0 0)
+lexed ws s = cond (leb (length s) 256) (lexFrom ws 64 s 0) (refused refusal.TooLong 0 0)
 
 -- a lexeme is handed on; neither the end nor a refusal has lexemes behind it
 abbrev pub ifLexeme : Token → (ℕ → ℕ → ℕ → List Item) → List Item

@@ -8,13 +8,13 @@ use super::class::mark;
 use super::find::Found;
 use super::find::find;
 use super::lexeme::NUM;
-use super::refusal::MEANINGLESS;
-use super::refusal::TOO_LARGE;
-use super::refusal::TOO_LONG;
-use super::refusal::TOO_MANY;
 use super::run::run_end;
 use super::table::rows;
 use super::word::key_at;
+use refusals::LARGE_DIGITS;
+use refusals::TOO_LONG;
+use refusals::TOO_MANY;
+use refusals::UNKNOWN;
 ghost use mathlib.Core.Path.{_≡_};
 ghost use Prim.Native.Nat.{_-_, _≤_};
 ghost use lib.ListN.{length};
@@ -89,7 +89,7 @@ fn word_at(words: &[u8; 2128], s: &[u8], a: usize) -> Token
     let f = find(words, k.head, k.tail);
     let Found::Lexeme(code) = f else {
         return Token::Refused {
-            number: MEANINGLESS,
+            number: UNKNOWN,
             start: a,
             end: k.end,
         };
@@ -110,7 +110,7 @@ fn number_at(s: &[u8], a: usize) -> Token
     let d = digits_value(&s[a..e]);
     let Digits::Value(v) = d else {
         return Token::Refused {
-            number: TOO_LARGE,
+            number: LARGE_DIGITS,
             start: a,
             end: e,
         };
@@ -146,7 +146,7 @@ fn token_in(words: &[u8; 2128], s: &[u8], at: usize) -> Token
         };
     }
     Token::Refused {
-        number: MEANINGLESS,
+        number: UNKNOWN,
         start: a,
         end: a + 1,
     }

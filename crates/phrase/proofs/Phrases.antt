@@ -19,7 +19,7 @@ use Rattle.phrase.specs.Tree.{DateTime, now}
 use Rattle.phrase.specs.DateTimes.{dateTimeOf}
 use Rattle.phrase.specs.Flat.{flat, blank, treeOf, sizeTree}
 use Rattle.phrase.specs.Outlines.{countOf, treeIn, kept, gathered}
-use Rattle.phrase.specs.Refusals.{LexemesLeft}
+use Rattle.refusals.specs.Table as table
 use Rattle.phrase.specs.Read.{ReadPhrase, refusal, tree, readCodes, readLexed, readOf, refusedEnd, countEnded, judgedOf, phraseAnswer, placeOf, offendingOf}
 use Rattle.phrase.specs.declared.gather.Gathered.{Gathered}
 use Rattle.phrase.specs.declared.reading.Reading.{Reading}
@@ -38,8 +38,8 @@ codes-answer : (w : Parsed DateTime) (count n : ℕ) (starts : List ℕ) →
 codes-answer (is x t) count n starts = go (ltb t count)
   where
     go : (b : Bool) →
-        answerOf (cond b (refusedEnd LexemesLeft (getD starts t 0) n) (record { number = 0; place = 0; end = 0; count = t })) (flat (cond b now x))
-        ≡ phraseAnswer (cond b (refusal LexemesLeft (getD starts t 0) n) (tree x t))
+        answerOf (cond b (refusedEnd table.LeftOver (getD starts t 0) n) (record { number = 0; place = 0; end = 0; count = t })) (flat (cond b now x))
+        ≡ phraseAnswer (cond b (refusal table.LeftOver (getD starts t 0) n) (tree x t))
     go true = refl
     go false = refl
 codes-answer nothing count n starts = refl
@@ -57,8 +57,8 @@ starts-stored : (items : List Item) (a : List ℕ) → length items ≤ length a
 starts-stored items a h n (is x t) = go (ltb t (length items)) refl
   where
     go : (b : Bool) → ltb t (length items) ≡ b →
-        cond b (refusal LexemesLeft (getD (sets a 0 (startsOf items)) t 0) n) (tree x t)
-        ≡ cond b (refusal LexemesLeft (getD (startsOf items) t 0) n) (tree x t)
+        cond b (refusal table.LeftOver (getD (sets a 0 (startsOf items)) t 0) n) (tree x t)
+        ≡ cond b (refusal table.LeftOver (getD (startsOf items) t 0) n) (tree x t)
     go true e =
         let below = ltb-true t (length items) e in
         let same = length-map items (λ (i : Item). i .start) in
@@ -124,7 +124,7 @@ codes-within : (s : List ℕ) (items : List Item) → lexed keywords s ≡ whole
 codes-within s items same (is x t) = go (ltb t (length items)) refl
   where
     go : (b : Bool) → ltb t (length items) ≡ b →
-        Within (length s) (cond b (refusal LexemesLeft (getD (startsOf items) t 0) (length s)) (tree x t))
+        Within (length s) (cond b (refusal table.LeftOver (getD (startsOf items) t 0) (length s)) (tree x t))
     go true e = let start = start-below keywords s items same t (ltb-true t (length items) e) in omega arith
     go false e = tt
 codes-within s items same nothing = omega arith
@@ -181,7 +181,7 @@ module _ (s : List ℕ) (items : List Item) (lexemes : lexed keywords s ≡ whol
   codes-settled (is x t) e = go (ltb t (length items)) refl
     where
       go : (b : Bool) → ltb t (length items) ≡ b →
-          Settled s (cond b (refusal LexemesLeft (getD (startsOf items) t 0) (length s)) (tree x t))
+          Settled s (cond b (refusal table.LeftOver (getD (startsOf items) t 0) (length s)) (tree x t))
       go true h = omega arith
       go false h =
           let same = length-map items (λ (i : Item). i .code) in

@@ -6,7 +6,7 @@ use Prim.Native.String.{String}
 use Rattle.lexer.specs.Words.{bytesOf}
 use Rattle.lexer.specs.Keywords.{keywords}
 use Rattle.lexer.specs.Classes.{classOf, markOf}
-use Rattle.lexer.specs.Refusals.{Meaningless}
+use Rattle.refusals.specs.Table as table
 use Rattle.lexer.specs.Lex.{numberOf, wordAt, numberAt, tokenAt, lexed}
 use Rattle.numbers.specs.Slices.{get, isAt, within}
 use Rattle.numbers.specs.Answers.{fitsOf}
@@ -30,7 +30,6 @@ use Rattle.expressions.specs.DateExprs.{inTailOf, durationTailOf, tailOf, withD
 use Rattle.expressions.specs.DateExprs.{dateExprOf}
 use Rattle.phrase.specs.DateTimes.{timeBehindOf, withDurationOf as durationTurnOf, timedTurnOf, undatedTurnOf, turnOf}
 use Rattle.phrase.specs.DateTimes.{dateTimeStep, dateTimeOf}
-use Rattle.phrase.specs.Refusals.{NothingRead, SumTooLarge, LexemesLeft}
 use Rattle.phrase.specs.Read.{ReadPhrase, refusal, tree, readOf}
 
 -- a row: the phrase, and what is read of it
@@ -63,16 +62,16 @@ cases =
     -- "next" behind a weekday is passed
     ∷ row "friday next 5:00" (tree (dateTime (weekday 4) (HourMin 5 0)) 5)
     -- lexemes are left: from the first of them to the phrase's end
-    ∷ row "5/2" (refusal LexemesLeft 1 3)
-    ∷ row "march 24th" (refusal LexemesLeft 8 10)
+    ∷ row "5/2" (refusal table.LeftOver 1 3)
+    ∷ row "march 24th" (refusal table.LeftOver 8 10)
     -- nothing is read
-    ∷ row "" (refusal NothingRead 0 0)
-    ∷ row "5 days after" (refusal NothingRead 0 0)
+    ∷ row "" (refusal table.Nothing 0 0)
+    ∷ row "5 days after" (refusal table.Nothing 0 0)
     -- a number passes 4,294,967,295, also where its alternative would have been given up
-    ∷ row "five billion days ago" (refusal SumTooLarge 0 0)
-    ∷ row "5 pm five billion" (refusal SumTooLarge 0 0)
+    ∷ row "five billion days ago" (refusal table.LargeSum 0 0)
+    ∷ row "5 pm five billion" (refusal table.LargeSum 0 0)
     -- lexing refuses first
-    ∷ row "forty days ago" (refusal Meaningless 0 5)
+    ∷ row "forty days ago" (refusal table.Unknown 0 5)
     ∷ []
 
 -- each row is what `readOf` gives

@@ -11,7 +11,7 @@ use Rattle.dates.specs.Parsed.{Parsed, is, nothing, overflow}
 use Rattle.phrase.specs.Tree.{DateTime}
 use Rattle.phrase.specs.DateTimes.{dateTimeOf}
 use Rattle.phrase.specs.Flat.{flat, blank}
-use Rattle.phrase.specs.Refusals.{NothingRead, SumTooLarge, LexemesLeft}
+use Rattle.refusals.specs.Table as table
 use Rattle.phrase.specs.declared.date_time.Count.{Count}
 use Rattle.phrase.specs.declared.date_time.Count.the-variants.{Is, Nothing, Overflow}
 use Rattle.phrase.specs.declared.read.PhraseRead.{PhraseRead}
@@ -23,9 +23,9 @@ pub data ReadPhrase : Type 0 where
 
 -- 5 and 6 have place 0 and no part; 7 has the place of the first of the count lexemes that is left, and its part goes on to the end at n
 abbrev pub readCodes : Parsed DateTime → ℕ → List ℕ → ℕ → ReadPhrase
-readCodes (is x t) count starts n = cond (ltb t count) (refusal LexemesLeft (getD starts t 0) n) (tree x t)
-readCodes nothing count starts n = refusal NothingRead 0 0
-readCodes overflow count starts n = refusal SumTooLarge 0 0
+readCodes (is x t) count starts n = cond (ltb t count) (refusal table.LeftOver (getD starts t 0) n) (tree x t)
+readCodes nothing count starts n = refusal table.Nothing 0 0
+readCodes overflow count starts n = refusal table.LargeSum 0 0
 
 -- 1 to 4 are the lexer's
 abbrev pub readLexed : Lexed → ℕ → ReadPhrase
@@ -43,9 +43,9 @@ refusedEnd k a e = record { number = k; place = a; end = e; count = 0 }
 -- how the reading of so many lexemes ended, by those that it took: as in `readCodes`
 abbrev pub countEnded : Count → ℕ → List ℕ → ℕ → Ended
 countEnded (Is t) count starts n =
-    cond (ltb t count) (refusedEnd LexemesLeft (getD starts t 0) n) (record { number = 0; place = 0; end = 0; count = t })
-countEnded Nothing count starts n = refusedEnd NothingRead 0 0
-countEnded Overflow count starts n = refusedEnd SumTooLarge 0 0
+    cond (ltb t count) (refusedEnd table.LeftOver (getD starts t 0) n) (record { number = 0; place = 0; end = 0; count = t })
+countEnded Nothing count starts n = refusedEnd table.Nothing 0 0
+countEnded Overflow count starts n = refusedEnd table.LargeSum 0 0
 
 -- the lexer's refusal first
 abbrev pub judgedOf : Ended → Count → List ℕ → ℕ → Ended

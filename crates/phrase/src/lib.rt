@@ -3,4 +3,3 @@ pub mod date_time;
 pub mod gather;
 pub mod read;
 pub mod reading;
-pub mod refusal;

@@ -2,12 +2,12 @@
 use super::date_time::Count;
 use super::gather::gather;
 use super::reading::Reading;
-use super::refusal::LEXEMES_LEFT;
-use super::refusal::NOTHING_READ;
-use super::refusal::SUM_TOO_LARGE;
 use lexer::lex::Ended;
 use lexer::lex::lex;
 use lexer::part::part;
+use refusals::LARGE_SUM;
+use refusals::LEFT_OVER;
+use refusals::NOTHING;
 ghost use mathlib.Core.Path.{_≡_};
 ghost use Prim.Native.Nat.{_+_, _≤_};
 ghost use Rattle.lexer.specs.Keywords.{keywords};
@@ -52,7 +52,7 @@ fn judged(line: Ended, taken: Count, starts: &[u8; 64], n: usize) -> Ended
     match taken {
         Count::Is(t) => {
             if t < line.count {
-                return refuse(LEXEMES_LEFT, wide(starts[t]), n);
+                return refuse(LEFT_OVER, wide(starts[t]), n);
             }
             Ended {
                 number: 0,
@@ -61,8 +61,8 @@ fn judged(line: Ended, taken: Count, starts: &[u8; 64], n: usize) -> Ended
                 count: t,
             }
         }
-        Count::Nothing => refuse(NOTHING_READ, 0, 0),
-        Count::Overflow => refuse(SUM_TOO_LARGE, 0, 0),
+        Count::Nothing => refuse(NOTHING, 0, 0),
+        Count::Overflow => refuse(LARGE_SUM, 0, 0),
     }
 }
 

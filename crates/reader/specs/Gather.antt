@@ -5,7 +5,7 @@ use mathlib.Core.List.{List, []}
 use lib.Dec.{leb}
 use lib.ListN.{length, set, replicate}
 use lib.Seq.{sets}
-use Rattle.lexer.specs.Refusals.{TooMany}
+use Rattle.refusals.specs.Table as refusal
 use Rattle.lexer.specs.Lex.{Item, Lexed, refused, whole, codesOf, startsOf, endedOf}
 use Rattle.lexer.specs.declared.lex.Ended.{Ended}
 use Rattle.lexer.specs.declared.lex.Token.{Token}
@@ -46,7 +46,7 @@ longer g k a =
 abbrev pub joinedTo : Gathered → Token → Gathered
 joinedTo g Finish = over g (record { number = 0; place = 0; end = 0; count = g .count })
 joinedTo g (Refused n a e) = over g (endedOf (refused n a e))
-joinedTo g (Taken k a e) = cond (leb 64 (g .count)) (over g (endedOf (refused TooMany a e))) (longer g k a)
+joinedTo g (Taken k a e) = cond (leb 64 (g .count)) (over g (endedOf (refused refusal.TooMany a e))) (longer g k a)
 
 -- all that is gathered: how the reading ends, and the lexemes in front
 abbrev pub gatheredOf : Lexed → List Item → Gathered

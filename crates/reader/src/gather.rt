@@ -2,7 +2,7 @@
 use lexer::lex::Ended;
 use lexer::lex::Token;
 use lexer::lex::refuse;
-use lexer::refusal::TOO_MANY;
+use refusals::TOO_MANY;
 ghost use mathlib.Core.Path.{_≡_};
 ghost use Rattle.reader.specs.Gather.{nothing, over, joinedTo};
 
