@@ -27,7 +27,8 @@ use Rattle.dates.specs.Durations.{Duration, part, concat, isSubDaily, is
 use Rattle.dates.specs.Durations.{specificOf, articleOf, concreteOf, parsedPart}
 use Rattle.dates.specs.Durations.{durationStep, durationOf, pushed, into, size, rowed}
 use Rattle.dates.proofs.duration.PartFound.{the-type as part-type}
-use Rattle.dates.proofs.Laws.{Arm, nothing-took, pick-took, or-took, then-took}
+use Rattle.dates.proofs.Each.{Each, pick-each, then-each, if-let-each}
+use Rattle.dates.proofs.Laws.{Arm, found, nothing-took, pick-took, or-took, then-took}
 use Rattle.dates.proofs.Bounds.{num-took, unit-took, tested-article}
 
 -- the arm of a part's answer
@@ -35,10 +36,6 @@ pub part-arm : {ks : List ℕ} (w : PartFound) → OneOf ks (tagOf part-type w) 
 part-arm (IsPart p t) k = record { tags = k }
 part-arm NoPart k = record { tags = k }
 part-arm PartOverflow k = record { tags = k }
-
--- the lexemes of a part, once the answer is known
-pub part-found : {w : PartFound} {p : Part} {t k n : ℕ} → w ≡ IsPart p t → Took (parsedPart w) k n → (k ≤ t) × (t ≤ n)
-part-found e h = (rw e at h) .bounds
 
 module _ {A B : Type 0} where
   -- what follows a reading is the same where it is the same within the reading's bounds
@@ -78,60 +75,39 @@ pub duration-is : (l : List ℕ) → durationOf l ≡ durationStep durationOf l
 unfolding durationOf
 duration-is l = again-is nothing durationStep step-agree l
 
-abbrev Sizes : Parsed Duration → ℕ → Type 0
-Sizes (is d t) n = (2 ≤ t) × (t ≤ n) × (3 * size d ≤ t + 1)
-Sizes nothing n = Unit
-Sizes overflow n = Unit
-
 -- at least two and at most n lexemes, and three for each part but for the last one's connection
-pub record Sized (w : Parsed Duration) (n : ℕ) : Type 0 where
-  pub sizes : Sizes w n
+abbrev Sizes : ℕ → Duration → ℕ → Type 0
+Sizes n d t = (2 ≤ t) × (t ≤ n) × (3 * size d ≤ t + 1)
 
--- a part, its "and", and what is read behind it
-joined-sized : (w : Parsed Duration) (p : Part) {t m n : ℕ} → 2 ≤ t → t + 1 + m ≤ n → Sized w m
-    → Sized (ifLet w (λ dur2 u. is (concat p dur2) (t + 1 + u)) (is (part p) t)) n
-joined-sized (is d u) p a b h = record { sizes = let s = h .sizes in (omega arith, omega arith, omega arith) }
-joined-sized nothing p a b h = record { sizes = (a, omega arith, omega arith) }
-joined-sized overflow p a b h = record { sizes = tt }
-
-pick-sized : (b : Bool) (x y : Parsed Duration) {n : ℕ} → (b ≡ true → Sized x n) → (b ≡ false → Sized y n) → Sized (pick b x y) n
-pick-sized true x y f g = f refl
-pick-sized false x y f g = g refl
-
-then-sized : (w : Parsed Part) (f : Part → ℕ → Parsed Duration) {k m n : ℕ} → Took w k m
-    → ((p : Part) (t : ℕ) → k ≤ t → t ≤ m → Sized (f p t) n) → Sized (andThen w f) n
-then-sized (is p t) f g h = h p t (g .bounds .0) (g .bounds .1)
-then-sized nothing f g h = record { sizes = tt }
-then-sized overflow f g h = record { sizes = tt }
-
-step-sized : (D : List ℕ → Parsed Duration) → ((m : List ℕ) → Sized (D m) (length m)) → (l : List ℕ)
-    → Sized (durationStep D l) (length l)
+step-sized : (D : List ℕ → Parsed Duration) → ((m : List ℕ) → Each (Sizes (length m)) (D m)) → (l : List ℕ)
+    → Each (Sizes (length l)) (durationStep D l)
 unfolding durationStep
 step-sized D sized l =
-    then-sized _ _ (concrete-took l) (λ p t a b.
-    pick-sized (isAt l t lexeme.And) _ _
-    (λ e. let left = length-drop (t + 1) l in let room = there (at-most l t lexeme.And) e in
-    joined-sized _ p a (omega arith) (sized (drop (t + 1) l)))
-    (λ e. record { sizes = (a, b, omega arith) }))
+    then-each (concreteOf l) _ (λ p t e. let b = found e (concrete-took l) in
+    pick-each (isAt l t lexeme.And)
+    (λ h. let left = length-drop (t + 1) l in let room = there (at-most l t lexeme.And) h in
+    if-let-each (D (drop (t + 1) l)) _ _
+    (λ d u f. let s = (rw f at (sized (drop (t + 1) l))) .bounds in record { bounds = (omega arith, omega arith, omega arith) })
+    (record { bounds = (omega arith, omega arith, omega arith) }))
+    (λ h. record { bounds = (omega arith, omega arith, omega arith) }))
+
+duration-sized : (l : List ℕ) → Each (Sizes (length l)) (durationOf l)
+unfolding durationOf
+duration-sized l = again-keeps nothing durationStep (λ m w. Each (Sizes (length m)) w) (λ m. record { bounds = tt }) step-sized l
 
 -- the bounds of a duration
-pub duration-sized : (l : List ℕ) → Sized (durationOf l) (length l)
-unfolding durationOf
-duration-sized l = again-keeps nothing durationStep (λ m w. Sized w (length m)) (λ m. record { sizes = tt }) step-sized l
-
--- the same of a duration that was read
 pub duration-bounds : (l : List ℕ) {d : Duration} {t : ℕ} → durationOf l ≡ is d t → (2 ≤ t) × (t ≤ length l) × (3 * size d ≤ t + 1)
-duration-bounds l e = (rw e at (duration-sized l)) .sizes
+duration-bounds l e = (rw e at (duration-sized l)) .bounds
 
 -- the row has as many parts more as the duration
 pub into-n : (d : Duration) (ps : Parts) → into d ps .n ≡ ps .n + size d
 into-n (part p) ps = refl
 into-n (concat p d) ps = into-n d (pushed ps p) ∙ omega arith
 
-taken-counted : (w : Parsed Duration) {n : ℕ} → Sized w n → TakenCounted (takenAnswer w) n
-taken-counted (is d t) h = let s = h .sizes in record { bounds = (omega arith, omega arith) }
-taken-counted nothing h = record { bounds = omega arith }
-taken-counted overflow h = record { bounds = omega arith }
+taken-counted : (w : Parsed Duration) (n : ℕ) → Each (Sizes n) w → TakenCounted (takenAnswer w) n
+taken-counted (is d t) n h = let s = h .bounds in record { bounds = (omega arith, omega arith) }
+taken-counted nothing n h = record { bounds = omega arith }
+taken-counted overflow n h = record { bounds = omega arith }
 
 -- the lexemes of a duration, once the answer is known
 pub taken-found : {r : Taken} {t n : ℕ} {b : Bool} → r ≡ Is t b → TakenCounted r n → (2 ≤ t) × (t ≤ n)
@@ -139,7 +115,7 @@ taken-found e h = (rw e at h) .bounds
 
 -- what `read_duration` promises
 pub taken-promised : {r : Taken} (l : List ℕ) → r ≡ takenAnswer (durationOf l) → (r ≡ takenAnswer (durationOf l)) × TakenCounted r (length l)
-taken-promised l e = (e, rw e (taken-counted _ (duration-sized l)))
+taken-promised l e = (e, rw e (taken-counted (durationOf l) (length l) (duration-sized l)))
 
 -- the duration of which an answer says the lexemes taken
 pub record TakenRead (w : Parsed Duration) (t : ℕ) (b : Bool) : Type 0 where
@@ -200,8 +176,7 @@ module _ {A R : Type 0} (k : Passing A R) where
   abbrev pub joined : List ℕ → ℕ → A → R
   joined l e a = cond (isAt l e lexeme.And) (onward (durationOf (drop (e + 1) l)) (e + 1) a (k .ends a e)) (k .ends a e)
 
-  -- a part is passed
-  pub part-passed : (l : List ℕ) (at : ℕ) (a : A) (none : R) {p : Part} {t : ℕ} → concreteOf (drop at l) ≡ is p t →
+  part-passed : (l : List ℕ) (at : ℕ) (a : A) (none : R) {p : Part} {t : ℕ} → concreteOf (drop at l) ≡ is p t →
       onward (durationOf (drop at l)) at a none ≡ joined l (at + t) (k .add a p)
   unfolding durationStep
   part-passed l at a none {p} {t} e =
@@ -217,19 +192,46 @@ module _ {A R : Type 0} (k : Passing A R) where
       go true overflow = refl
       go false w = rw (k .one p a)
 
--- what the code's answer says of the part at the place at
-pub part-at : (l : List ℕ) (at : ℕ) {m : List ℕ} {r w : PartFound} →
-    m ≡ drop at l → parsedPart r ≡ concreteOf m → r ≡ w → concreteOf (drop at l) ≡ parsedPart w
-part-at l at same answer e = rw (← same, ← answer, e)
+  -- the answer r, where a part is looked for at the place at
+  pub record Looking (r : R) (l : List ℕ) (at : ℕ) (a : A) (none : R) : Type 0 where
+    pub same : r ≡ onward (durationOf (drop at l)) at a none
+    pub within : at ≤ length l
 
--- with no part there is no duration
-pub no-part : (m : List ℕ) → concreteOf m ≡ nothing → durationOf m ≡ nothing
-unfolding durationStep
-no-part m e = rw (duration-is m, e)
+  -- the answer r, behind a part that ends at e
+  pub record Joined (r : R) (l : List ℕ) (e : ℕ) (a : A) : Type 0 where
+    pub same : r ≡ joined l e a
+    pub within : e ≤ length l
 
-pub over-part : (m : List ℕ) → concreteOf m ≡ overflow → durationOf m ≡ overflow
-unfolding durationStep
-over-part m e = rw (duration-is m, e)
+  -- what the code's answer for the part at the place at says
+  abbrev Said : R → List ℕ → ℕ → A → R → PartFound → Type 0
+  Said r l at a none (IsPart p t) = Joined r l (at + t) (k .add a p) × (2 ≤ t)
+  Said r l at a none NoPart = r ≡ none
+  Said r l at a none PartOverflow = r ≡ k .over
+
+  pub part-learnt : {r none : R} {l m : List ℕ} {at : ℕ} {a : A} {w z : PartFound} → Looking r l at a none →
+      m ≡ drop at l → parsedPart w ≡ concreteOf m → w ≡ z → Said r l at a none z
+  unfolding durationStep
+  part-learnt {r} {none} {l} {m} {at} {a} {w} {z} g here answer e = go z (rw (← here, ← answer, e))
+    where
+      go : (z : PartFound) → concreteOf (drop at l) ≡ parsedPart z → Said r l at a none z
+      go (IsPart p t) f =
+          let b = found f (concrete-took (drop at l)) in
+          let left = length-drop at l in
+          let most = g .within in
+          (record { same = g .same ∙ part-passed l at a none f; within = omega arith }, b .0)
+      go NoPart f = g .same ∙ rw (duration-is (drop at l), f)
+      go PartOverflow f = g .same ∙ rw (duration-is (drop at l), f)
+
+  -- an "and" behind it, or none
+  module _ {r : R} {l : List ℕ} {e : ℕ} {a : A} {b : Bool} (g : Joined r l e a) (test : b ≡ isAt l e lexeme.And) where
+    pub and-behind : b ≡ true → Looking r l (e + 1) a (k .ends a e)
+    and-behind h =
+        let here : isAt l e lexeme.And ≡ true = rw (← test) h in
+        let room = there (at-most l e lexeme.And) here in
+        record { same = rw (← test, h) at (g .same); within = omega arith }
+
+    pub no-and : b ≡ false → k .ends a e ≡ r
+    no-and h = sym (rw (← test, h) at (g .same))
 
 pub or-assoc : (a b c : Bool) → a || (b || c) ≡ (a || b) || c
 or-assoc true b c = refl
@@ -260,17 +262,18 @@ rowKept ps =
     }
 
 -- from the front on
-taken-onward : (w : Parsed Duration) → takenAnswer w ≡ onward subDailyKept w 0 false Nothing
-taken-onward (is d t) = let e : 0 + t ≡ t = omega arith in rw e
-taken-onward nothing = refl
-taken-onward overflow = refl
+pub taken-looking : (l : List ℕ) → Looking subDailyKept (takenAnswer (durationOf l)) l 0 false Nothing
+taken-looking l = record { same = go (durationOf l); within = omega arith }
+  where
+    go : (w : Parsed Duration) → takenAnswer w ≡ onward subDailyKept w 0 false Nothing
+    go (is d t) = let e : 0 + t ≡ t = omega arith in rw e
+    go nothing = refl
+    go overflow = refl
 
-pub first-passed : (l : List ℕ) {p : Part} {t : ℕ} → concreteOf l ≡ is p t → takenAnswer (durationOf l) ≡ joined subDailyKept l t (isSubDailyPart p)
-first-passed l {t = t} e =
-    let same : 0 + t ≡ t = omega arith in
-    taken-onward (durationOf l) ∙ (rw same at (part-passed subDailyKept l 0 false Nothing e))
-
-pub rowed-onward : (ps : Parts) (w : Parsed Duration) → rowed ps w ≡ onward (rowKept ps) w 0 ps (record { parts = ps; end = 0 })
-rowed-onward ps (is d t) = let e : 0 + t ≡ t = omega arith in rw e
-rowed-onward ps nothing = refl
-rowed-onward ps overflow = refl
+pub row-looking : (ps : Parts) (l : List ℕ) → Looking (rowKept ps) (rowed ps (durationOf l)) l 0 ps (record { parts = ps; end = 0 })
+row-looking ps l = record { same = go (durationOf l); within = omega arith }
+  where
+    go : (w : Parsed Duration) → rowed ps w ≡ onward (rowKept ps) w 0 ps (record { parts = ps; end = 0 })
+    go (is d t) = let e : 0 + t ≡ t = omega arith in rw e
+    go nothing = refl
+    go overflow = refl

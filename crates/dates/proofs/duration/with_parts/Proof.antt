@@ -1,28 +1,25 @@
-use mathlib.Core.Path.{_≡_}
 use Prim.Native.Nat.{_+_, _*_, _-_, _≤_}
 use native.Mathlib.Omega.{arith}
-use lib.ListN.{length, drop}
+use mathlib.Core.Path.{sym}
+use lib.ListN.{length}
 use denote.Ref.{now}
 use borrow.Author.Needs.{needs}
-use Rattle.numbers.proofs.Places.{there}
-use Rattle.dates.specs.Durations.{durationOf, rowed, concreteOf}
-use Rattle.dates.specs.Parsed.{is}
-use Rattle.dates.proofs.Durations.{part-found, part-at, no-part, over-part, rowKept, onward, rowed-onward, part-passed}
+use Rattle.dates.specs.Durations.{durationOf, rowed}
+use Rattle.dates.proofs.Durations.{rowKept, Looking, row-looking, part-learnt, and-behind, no-and}
 use Rattle.dates.proofs.duration.with_parts.Statement.{statement}
 use Rattle.dates.proofs.duration.with_parts.Tie as tie
 
 -- what is in the row, and then what is read from here on, is the answer; three lexemes were passed for each part
 abbrev Inv-loop : tie.InvT-loop
 Inv-loop l parts row₀ end₀ at₀ row end at =
-    (rowed parts (durationOf l) ≡ onward (rowKept parts) (durationOf (drop at l)) at row (record { parts = row; end = end }))
-    × (at ≤ length l)
+    Looking (rowKept parts) (rowed parts (durationOf l)) l at row (record { parts = row; end = end })
     × (3 * row .n + length l ≤ 64 + at)
 
 abbrev μ-loop : tie.MeasureT-loop
 μ-loop l parts row₀ end₀ at₀ row end at = length l - at
 
 loop-holds : tie.Need-loop-holds Inv-loop μ-loop
-loop-holds c = (rowed-onward (c .before .args .parts) (durationOf (now (c .before .args .l))), search needs, search needs)
+loop-holds c = (row-looking (c .before .args .parts) (now (c .before .args .l)), search needs)
 
 rest-requires : tie.Need-rest-requires Inv-loop μ-loop
 rest-requires c κs = search needs
@@ -35,12 +32,16 @@ enum-known-part c = search needs
 
 push-requires : tie.Need-push-requires Inv-loop μ-loop
 push-requires c κs =
-    let b = part-found (c .before .part .given .1) (c .before .before .before .read-concrete .ensures .1) in
+    let d = c .before .before .before in
+    let said = part-learnt (rowKept _) (d .before .before .loop .inv .0) (d .before .rest .ensures .0) (d .read-concrete .ensures .0) (c .before .part .given .1) in
+    let most = said .0 .within in
     omega arith
 
 add-end : tie.Need-add-end Inv-loop μ-loop
 add-end c =
-    let b = part-found (c .before .before .part .given .1) (c .before .before .before .before .read-concrete .ensures .1) in
+    let d = c .before .before .before .before in
+    let said = part-learnt (rowKept _) (d .before .before .loop .inv .0) (d .before .rest .ensures .0) (d .read-concrete .ensures .0) (c .before .before .part .given .1) in
+    let most = said .0 .within in
     omega arith
 
 enum-told : tie.Need-enum-told Inv-loop μ-loop
@@ -48,64 +49,46 @@ enum-told c = search needs
 
 returns : tie.Need-returns Inv-loop μ-loop
 returns c =
-    let args = c .before .before .before .before .before .before .args in
-    let loop = c .before .before .before .before .loop in
-    let none =
-    part-at (now (args .l)) (loop .at) (c .before .before .before .rest .ensures .0) (c .before .before .read-concrete .ensures .0) (c .enum-told .given .1) in
-    rw (loop .inv .0, no-part _ none)
+    let d = c .before .before in
+    sym (part-learnt (rowKept _) (d .before .before .loop .inv .0) (d .before .rest .ensures .0) (d .read-concrete .ensures .0) (c .enum-told .given .1))
 
 enum-told-2 : tie.Need-enum-told-2 Inv-loop μ-loop
 enum-told-2 c = search needs
 
 returns-2 : tie.Need-returns-2 Inv-loop μ-loop
 returns-2 c =
-    let args = c .before .before .before .before .before .before .args in
-    let loop = c .before .before .before .before .loop in
-    let over =
-    part-at (now (args .l)) (loop .at) (c .before .before .before .rest .ensures .0) (c .before .before .read-concrete .ensures .0) (c .enum-told2 .given .1) in
-    rw (loop .inv .0, over-part _ over)
+    let d = c .before .before in
+    sym (part-learnt (rowKept _) (d .before .before .loop .inv .0) (d .before .rest .ensures .0) (d .read-concrete .ensures .0) (c .enum-told2 .given .1))
 
 is-at-requires : tie.Need-is-at-requires Inv-loop μ-loop
 is-at-requires c κs = search needs
 
 add-at : tie.Need-add-at Inv-loop μ-loop
-add-at c = let room = there (c .before .is-at .ensures .1) (c .if1 .taken) in omega arith
+add-at c =
+    let d = c .before .before .before .before .before .before in
+    let said = part-learnt (rowKept _) (d .before .before .loop .inv .0) (d .before .rest .ensures .0) (d .read-concrete .ensures .0) (c .before .before .before .before .part .given .1) in
+    let next = and-behind (rowKept _) (said .0) (c .before .is-at .ensures .0) (c .if1 .taken) .within in
+    omega arith
 
 loop-less : tie.Need-loop-less Inv-loop μ-loop
-loop-less c = let room = there (c .before .is-at .ensures .1) (c .if1 .taken) in omega arith
+loop-less c =
+    let d = c .before .before .before .before .before .before in
+    let said = part-learnt (rowKept _) (d .before .before .loop .inv .0) (d .before .rest .ensures .0) (d .read-concrete .ensures .0) (c .before .before .before .before .part .given .1) in
+    let next = and-behind (rowKept _) (said .0) (c .before .is-at .ensures .0) (c .if1 .taken) .within in
+    omega arith
 
 loop-again : tie.Need-loop-again Inv-loop μ-loop
 loop-again c =
-    let args = c .before .before .before .before .before .before .before .before .before .before .args in
-    let loop = c .before .before .before .before .before .before .before .before .loop in
-    let rest = c .before .before .before .before .before .before .before .rest in
-    let read-concrete = c .before .before .before .before .before .before .read-concrete in
-    let part = c .before .before .before .before .part in
-    let push = c .before .before .push in
-    let is-at = c .before .is-at in
-    let b = part-found (part .given .1) (read-concrete .ensures .1) in
-    let room = there (is-at .ensures .1) (c .if1 .taken) in
-    let here = part-at (now (args .l)) (loop .at) (rest .ensures .0) (read-concrete .ensures .0) (part .given .1) in (
-      rw (loop .inv .0, part-passed (rowKept (args .parts)) (now (args .l)) (loop .at) (loop .row) _ here, ← (is-at .ensures .0), c .if1 .taken, ← (push .ensures)),
-      omega arith,
-      rw (push .ensures) (omega arith),
-    )
+    let d = c .before .before .before .before .before .before in
+    let said = part-learnt (rowKept _) (d .before .before .loop .inv .0) (d .before .rest .ensures .0) (d .read-concrete .ensures .0) (c .before .before .before .before .part .given .1) in
+    let two = said .1 in
+    rw (c .before .before .push .ensures) (and-behind (rowKept _) (said .0) (c .before .is-at .ensures .0) (c .if1 .taken), omega arith)
 
 returns-3 : tie.Need-returns-3 Inv-loop μ-loop
 returns-3 c =
-    let args = c .before .before .before .before .before .before .before .before .before .before .args in
-    let loop = c .before .before .before .before .before .before .before .before .loop in
-    let rest = c .before .before .before .before .before .before .before .rest in
-    let read-concrete = c .before .before .before .before .before .before .read-concrete in
-    let part = c .before .before .before .before .part in
-    let here = part-at (now (args .l)) (loop .at) (rest .ensures .0) (read-concrete .ensures .0) (part .given .1) in
-    rw (
-      loop .inv .0,
-      part-passed (rowKept (args .parts)) (now (args .l)) (loop .at) (loop .row) _ here,
-      ← (c .before .is-at .ensures .0),
-      c .if1 .left,
-      ← (c .before .before .push .ensures),
-    )
+    let d = c .before .before .before .before .before .before in
+    let said = part-learnt (rowKept _) (d .before .before .loop .inv .0) (d .before .rest .ensures .0) (d .read-concrete .ensures .0) (c .before .before .before .before .part .given .1) in
+    rw (c .before .before .push .ensures) (no-and (rowKept _) (said .0) (c .before .is-at .ensures .0) (c .if1 .left))
 
 pub with-parts-spec : {M : Type 1} → statement M
 with-parts-spec =
