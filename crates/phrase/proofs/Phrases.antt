@@ -125,7 +125,9 @@ codes-within s items same (is x t) = go (ltb t (length items)) refl
   where
     go : (b : Bool) → ltb t (length items) ≡ b →
         Within (length s) (cond b (refusal table.LeftOver (getD (startsOf items) t 0) (length s)) (tree x t))
-    go true e = let start = start-below keywords s items same t (ltb-true t (length items) e) in omega arith
+    go true e =
+        let start = rw (front-whole keywords s items same) at (start-below keywords s t) in
+        omega (arith, start (ltb-true t (length items) e))
     go false e = tt
 codes-within s items same nothing = omega arith
 codes-within s items same overflow = omega arith
