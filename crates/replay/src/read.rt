@@ -27,10 +27,11 @@ fn write_read(codes: &[u64])
 
 // The lexemes of a phrase, its reading and the lexemes taken, with a bar behind each: as many of the three as there are.
 pub fn write_phrase(phrase: &[u8]) {
-    let line = lex(phrase);
-    if line.number == 0 {
-        let n = line.count;
-        let codes = line.codes;
+    let mut codes = [0u64; 64];
+    let mut starts = [0u8; 64];
+    let r = lex(phrase, &mut codes, &mut starts);
+    if r.number == 0 {
+        let n = r.count;
         let lexemes = &codes[..n];
         write_lexemes(lexemes);
         text(b"|");
