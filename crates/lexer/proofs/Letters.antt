@@ -45,6 +45,23 @@ module _ (b : ℕ) where
   letter-small : isLetter b ≡ true → 97 ≤ lowerOf b
   letter-small e = leb→le 97 (lowerOf b) (and-l (leb 97 (lowerOf b)) (leb (lowerOf b) 122) (true-T (isLetter b) e))
 
+  -- what is no 0 is a letter, and what is 0 is none
+  pub letter-is : (letterOf b ≡ 0 → ⊥) → classOf b ≡ Letter
+  unfolding letterOf
+  letter-is n = go (isLetter b) refl
+    where
+      go : (x : Bool) → isLetter b ≡ x → classOf b ≡ Letter
+      go true e = letter-class e
+      go false e = absurd (n (simp e))
+
+  pub letter-not : letterOf b ≡ 0 → classOf b ≡ Letter → ⊥
+  unfolding letterOf
+  letter-not z = go (isLetter b) refl
+    where
+      go : (x : Bool) → isLetter b ≡ x → classOf b ≡ Letter → ⊥
+      go true e = absurd (let l = letter-small e in let q = simp e at z in omega arith)
+      go false e = other-class e
+
 -- a letter that stands at a place
 pub record There (s : List ℕ) (a c : ℕ) : Type 0 where
   pub within : a < length s
@@ -66,13 +83,11 @@ module _ (s : List ℕ) (a : ℕ) where
       go false e y f = absurd (n (simp e))
 
   pub letter-none : letterAt s a ≡ 0 → run Letter (drop a s) ≡ 0
-  unfolding letterOf
-  letter-none z = go (ltb a (length s)) refl (isLetter (getD s a 0)) refl
+  letter-none z = go (ltb a (length s)) refl
     where
-      go : (x : Bool) → ltb a (length s) ≡ x → (y : Bool) → isLetter (getD s a 0) ≡ y → run Letter (drop a s) ≡ 0
-      go true e true f = absurd (let l = letter-small (getD s a 0) f in let q = simp (e, f) at z in omega arith)
-      go true e false f = run-stop Letter s a (ltb-true a (length s) e) (other-class (getD s a 0) f)
-      go false e y f = run-over Letter s a (ltb-false a (length s) e)
+      go : (x : Bool) → ltb a (length s) ≡ x → run Letter (drop a s) ≡ 0
+      go true e = run-stop Letter s a (ltb-true a (length s) e) (letter-not (getD s a 0) (simp e at z))
+      go false e = run-over Letter s a (ltb-false a (length s) e)
 
 -- the run of letters at the front of a list, as a word
 abbrev lettersOf : List ℕ → List ℕ

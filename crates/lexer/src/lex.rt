@@ -1,7 +1,6 @@
 // A phrase cut into lexemes.
 use super::class::DIGIT;
 use super::class::GAP;
-use super::class::LETTER;
 use super::class::MARK;
 use super::class::class;
 use super::class::mark;
@@ -11,6 +10,7 @@ use super::lexeme::NUM;
 use super::run::run_end;
 use super::table::rows;
 use super::word::key_at;
+use super::word::letter;
 use refusals::LARGE_DIGITS;
 use refusals::TOO_LONG;
 use refusals::TOO_MANY;
@@ -131,10 +131,10 @@ fn token_in(words: &[u8; 2128], s: &[u8], at: usize) -> Token
     if s.len() <= a {
         return Token::Finish;
     }
-    let k = class(s[a]);
-    if k == LETTER {
+    if letter(s[a]) != 0 {
         return word_at(words, s, a);
     }
+    let k = class(s[a]);
     if k == DIGIT {
         return number_at(s, a);
     }

@@ -28,9 +28,9 @@ fn write_read(codes: &[u64])
 pub fn write_phrase(phrase: &[u8]) {
     let mut codes = [0u64; 64];
     let mut starts = [0u8; 64];
-    let line = lex(phrase, &mut codes, &mut starts);
-    if line.number == 0 {
-        let n = line.count;
+    let r = lex(phrase, &mut codes, &mut starts);
+    if r.number == 0 {
+        let n = r.count;
         let lexemes = &codes[..n];
         write_lexemes(lexemes);
         text(b"|");
