@@ -4,3 +4,4 @@ pub mod Turns
 pub mod Outlined
 pub mod Decoded
 pub mod Phrases
+pub mod Small
