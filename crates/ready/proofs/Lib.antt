@@ -1,6 +1,7 @@
 pub mod Runs
 pub mod Forms
 pub mod Made
+pub mod Small
 pub mod Answers
 pub mod Rows
 pub mod Within
