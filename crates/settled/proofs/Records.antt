@@ -14,7 +14,7 @@ pub put : Same put'.Post (λ κs z e. e .0 .now)
 put = same put'.Post _ _ (λ κs a z e p. p)
 
 pub encode : Same encode'.Post (λ κs z e. e .1 .0 .now)
-encode = same encode'.Post _ _ (λ κs a z e p. p .0)
+encode = same encode'.Post _ _ (λ κs a z e p. p)
 
 pub words-at : Settled words-at'.Post
 words-at = same words-at'.Post _ _ (λ κs a z e p. p)
