@@ -77,7 +77,8 @@ pub data Settled (low : ℕ) : Answer → Type 0 where
   moment-at : {t : Moment} → IsMoment t → Settled low (at t)
   refusal-at : {k a e : ℕ} → low ≤ k → k ≤ 13 → Settled low (refusedAt k a e)
 
-placed-settled : {o : Outcome} → Leads IsMoment o → Settled 8 (placed o)
+-- where a step leads is settled
+pub placed-settled : {o : Outcome} → Leads IsMoment o → Settled 8 (placed o)
 placed-settled (leads v) = moment-at v
 placed-settled (refuses {k = k} e) = let b = test-range k 9 13 e in refusal-at {k = k} (omega arith) (b .1)
 

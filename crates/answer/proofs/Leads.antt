@@ -47,7 +47,7 @@ tested true o p f g = f refl
 tested false o p f g = g
 
 -- a step behind another
-behind :
+pub behind :
     {M N : Moment → Type 0} {o : Outcome} (f : Moment → Outcome) → Leads M o → ((t : Moment) → M t → Leads N (f t)) → Leads N (andThen o f)
 behind f (leads {t = t} h) g = g t h
 behind f (refuses e) g = refuses e
@@ -63,13 +63,13 @@ days-moved true k n limit h e = let most = leb-true k n h in omega arith
 days-moved false k n limit h e = omega arith
 
 -- a property of moments that steps keep: another date, another minute (of another time of day where `sub` is true)
-record Kept (M : Moment → Type 0) (sub : Bool) : Type 0 where
+pub record Kept (M : Moment → Type 0) (sub : Bool) : Type 0 where
   valid : (t : Moment) → M t → IsMoment t
   dated : (t : Moment) (y m d : ℕ) → M t → IsDate y m d → M (withDate y m d t)
   minute : (t : Moment) (n : ℕ) → M t → n < minutes → (sub ≡ true) ⊎ (n % 1440 ≡ minuteNumber t % 1440) → M (atMinute n t)
 
 module _ {M : Moment → Type 0} {sub : Bool} (kept : Kept M sub) where
-  minutes-lead : (back : Bool) (k : ℕ) (t : Moment) → M t → (sub ≡ true) ⊎ (k % 1440 ≡ 0) → Leads M (minutesStep back k t)
+  pub minutes-lead : (back : Bool) (k : ℕ) (t : Moment) → M t → (sub ≡ true) ⊎ (k % 1440 ≡ 0) → Leads M (minutesStep back k t)
   unfolding minutesStep
   minutes-lead back k t h s =
       let n = minuteNumber t in
@@ -78,7 +78,7 @@ module _ {M : Moment → Type 0} {sub : Bool} (kept : Kept M sub) where
       (λ e. leads (kept .minute t _ h (below-limit back k n minutes below e) (⊎-elim inl (λ z. inr (days-moved back k n minutes e z)) s)))
       (refuses refl)
 
-  months-lead : (back : Bool) (k : ℕ) (t : Moment) → M t → Leads M (unitStep back k Month t)
+  pub months-lead : (back : Bool) (k : ℕ) (t : Moment) → M t → Leads M (unitStep back k Month t)
   unfolding monthsStep
   months-lead back k t h =
       let n = monthNumber t in
@@ -91,7 +91,7 @@ module _ {M : Moment → Type 0} {sub : Bool} (kept : Kept M sub) where
       tested (leb (t .day) (monthLength (leapYear (n + 1)) (t .month))) _ _
       (λ e. leads (kept .dated t _ _ _ h (in-year-date t (kept .valid t h) below (leb-true _ _ e)))) (refuses refl)
 
-  years-lead : (back : Bool) (k : ℕ) (t : Moment) → M t → Leads M (unitStep back k Year t)
+  pub years-lead : (back : Bool) (k : ℕ) (t : Moment) → M t → Leads M (unitStep back k Year t)
   unfolding yearsStep
   years-lead back k t h =
       let n = yearNumber t in
@@ -121,7 +121,7 @@ module _ {M : Moment → Type 0} {sub : Bool} (kept : Kept M sub) where
       (λ u w. duration-leads back d u (λ e. s (or-right (isSubDailyPart p) e)) w)
 
 -- the moments of the calendar are kept
-kept-moment : Kept IsMoment true
+pub kept-moment : Kept IsMoment true
 kept-moment = record {
   valid = λ t v. v;
   dated = λ t y m d v w. record { date = w; time = v .time };
@@ -137,7 +137,7 @@ module _ (t : Moment) (v : IsMoment t) where
       tested (isDate y m d) _ _ (λ e. leads (record { date = test-date y m d e; time = v .time })) (refuses refl))
       (refuses refl)
 
-  date-leads : (d : Date) → Leads IsMoment (dateAt d t)
+  pub date-leads : (d : Date) → Leads IsMoment (dateAt d t)
   date-leads Today = leads v
   date-leads Yesterday = minutes-lead kept-moment true 1440 t v (inl refl)
   date-leads Tomorrow = minutes-lead kept-moment false 1440 t v (inl refl)
@@ -149,15 +149,15 @@ module _ (t : Moment) (v : IsMoment t) where
   date-leads (DayMonthYear d m y) = stated-leads y m d
   date-leads NoDate = leads v
 
-  on-day-leads : (n : ℕ) → Leads IsMoment (onDay n t)
+  pub on-day-leads : (n : ℕ) → Leads IsMoment (onDay n t)
   unfolding onDay
   on-day-leads n = tested (ltb n days) _ _ (λ e. leads (at-day-moment n t (ltb-true n days e) v)) (refuses refl)
 
-  days-back-lead : (n b : ℕ) → Leads IsMoment (daysBack n b t)
+  pub days-back-lead : (n b : ℕ) → Leads IsMoment (daysBack n b t)
   unfolding daysBack
   days-back-lead n b = tested (leb b n) _ _ (λ _. on-day-leads (n - b)) (refuses refl)
 
-  week-leads : (s : RelativeSpecifier) (w : ℕ) → Leads IsMoment (inWeek s w t)
+  pub week-leads : (s : RelativeSpecifier) (w : ℕ) → Leads IsMoment (inWeek s w t)
   week-leads This w = on-day-leads _
   week-leads Next w = on-day-leads _
   week-leads Last w = days-back-lead _ _
@@ -197,7 +197,7 @@ stated-time-leads b h m t v =
     (λ e. leads (record { date = v .date; time = test-time h m 0 (and-eq-true-iff b _ .0 e .1) })) (refuses refl)
 
 -- where a time of day leads
-time-leads : (x : Time) (n t : Moment) → IsMoment n → IsMoment t → Leads IsMoment (timeAt x n t)
+pub time-leads : (x : Time) (n t : Moment) → IsMoment n → IsMoment t → Leads IsMoment (timeAt x n t)
 time-leads NoTime n t w v = leads (record { date = v .date; time = w .time })
 time-leads (HourMin h m) n t w v = stated-time-leads true h m t v
 time-leads (HourMinAM h m) n t w v = stated-time-leads (inRange h 1 12) (h % 12) m t v

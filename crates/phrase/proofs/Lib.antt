@@ -3,3 +3,4 @@ pub mod Turns
 pub mod Decoded
 pub mod Gathering
 pub mod Phrases
+pub mod Small

@@ -8,13 +8,15 @@ use borrow.Author.Tests.{le-leb, lt-leb, eq-eqb, ne-eqb, eqb-true}
 use lib.Dec.{leb, eqb}
 use lib.ListN.{length, drop, length-drop, take-append-drop, drop-of-length-le}
 use lib.Seq.{drop-drop, getD-drop}
+use Rattle.steps.proofs.Small.{All, none, more}
 use Rattle.steps.specs.declared.plan.Step.{Step}
 use Rattle.records.specs.Bytes.{bytesOf}
 use Rattle.records.specs.Words.{words, wordsOf, stepFrom}
 use Rattle.records.specs.Records.{bytesOfWords, encodeOf, wordAt, wordsAt, sameWords, isRecord, areRecords, stepsAt, decodeOf}
 use Rattle.records.specs.declared.words.Words.{Words}
 use Rattle.records.proofs.Numbers.{AreBytes, back, forth}
-use Rattle.records.proofs.Steps.{step-back, small-kind, small-form, Fits, AllFit, none, more}
+use Rattle.records.proofs.Steps.{step-back, small-kind, small-form}
+use Rattle.records.proofs.Fitting.{Fits, in-bytes}
 
 -- both of two tests
 both : (a b : Bool) → (a && b) ≡ true → (a ≡ true) × (b ≡ true)
@@ -52,16 +54,18 @@ words-at :
 unfolding wordsAt
 words-at l at s rest e f =
     let w = wordsOf s in
+    let fit = in-bytes s f in
     let small : w .kind + 256 * w .form < 256 ^ 4 = omega (arith, small-kind s, small-form s) in
     let first : wordAt l at ≡ w .kind + 256 * w .form = rw e (back 4 (w .kind + 256 * w .form) small) in
-    let a : wordAt l (at + 4) ≡ w .a = rw (behind l at 4 e) (back 4 (w .a) (f .a)) in
-    let b : wordAt l (at + 8) ≡ w .b = rw (behind l at 8 e) (back 4 (w .b) (f .b)) in
-    let c : wordAt l (at + 12) ≡ w .c = rw (behind l at 12 e) (back 4 (w .c) (f .c)) in
+    let a : wordAt l (at + 4) ≡ w .a = rw (behind l at 4 e) (back 4 (w .a) (fit .0)) in
+    let b : wordAt l (at + 8) ≡ w .b = rw (behind l at 8 e) (back 4 (w .b) (fit .1)) in
+    let c : wordAt l (at + 12) ≡ w .c = rw (behind l at 12 e) (back 4 (w .c) (fit .2)) in
     let kind : (w .kind + 256 * w .form) % 256 ≡ w .kind = omega (arith, small-kind s) in
     let form : (w .kind + 256 * w .form) / 256 ≡ w .form = omega (arith, small-kind s) in
     rw (first, kind, form, a, b, c)
 
-length-encoded : (ss : List Step) → length (encodeOf ss) ≡ 16 * length ss
+-- 16 bytes a step
+pub length-encoded : (ss : List Step) → length (encodeOf ss) ≡ 16 * length ss
 length-encoded [] = refl
 length-encoded (s ∷ ss) = omega (arith, length-encoded ss)
 
@@ -70,7 +74,7 @@ record Decoded (l : List ℕ) (at : ℕ) (ss : List Step) : Type 0 where
   are : areRecords (length ss) l at ≡ true
   steps : stepsAt (length ss) l at ≡ ss
 
-decoded : (l : List ℕ) (at : ℕ) {ss : List Step} → drop at l ≡ encodeOf ss → AllFit ss → Decoded l at ss
+decoded : (l : List ℕ) (at : ℕ) {ss : List Step} → drop at l ≡ encodeOf ss → All Fits ss → Decoded l at ss
 decoded l at e none = record { are = refl; steps = refl }
 decoded l at e (more {s} {ss} f fs) =
     let w = words-at l at s (encodeOf ss) e f in
@@ -93,7 +97,7 @@ unfolding decodeOf
 by-records l h e = rw (le-leb (length l) 384 h, e)
 
 -- encoding then decoding gives the steps back
-pub decoded-back : (ss : List Step) → length ss ≤ 24 → AllFit ss → decodeOf (encodeOf ss) ≡ ss
+pub decoded-back : (ss : List Step) → length ss ≤ 24 → All Fits ss → decodeOf (encodeOf ss) ≡ ss
 decoded-back ss h fs =
     let d = decoded (encodeOf ss) 0 refl fs in
     let size : length (encodeOf ss) ≡ 16 * length ss = length-encoded ss in

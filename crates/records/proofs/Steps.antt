@@ -1,9 +1,8 @@
--- A step comes back from its numbers, and which of them fit into their bytes.
+-- A step comes back from its numbers, and its kind and form fit into their bytes.
 use Prim.Native.Nat.{ℕ, _+_, _*_, _/_, _%_, _<_}
 use native.Mathlib.Omega.{arith}
 use mathlib.Core.Path.{_≡_, refl}
 use mathlib.Core.Bool.{true, false}
-use mathlib.Core.List.{List, [], _∷_}
 use lib.Dec.{ltb}
 use borrow.Author.Tests.{ltb-true}
 use Rattle.dates.specs.declared.date.Date.{Date}
@@ -89,13 +88,3 @@ small-kind s = ltb-true _ _ (of-step s .1)
 
 pub small-form : (s : Step) → wordsOf s .form < 16777216
 small-form s = ltb-true _ _ (of-step s .2)
-
--- the other numbers of a step fit into four bytes each: for minutes, the count is below 2 ^ 64
-pub record Fits (s : Step) : Type 0 where
-  pub a : wordsOf s .a < wide
-  pub b : wordsOf s .b < wide
-  pub c : wordsOf s .c < wide
-
-pub data AllFit : List Step → Type 0 where
-  none : AllFit []
-  more : {s : Step} {ss : List Step} → Fits s → AllFit ss → AllFit (s ∷ ss)

