@@ -25,7 +25,7 @@ pub struct Key {
 const NO_LETTERS: u64 = 539893806;
 
 // A letter's small one, 0 for any other byte.
-pub fn letter(b: u8) -> u64
+pub(crate) fn letter(b: u8) -> u64
     ensures { λ r. ⌜ r ≡ letterOf b ⌝ }
 {
     if b'a' <= b {
