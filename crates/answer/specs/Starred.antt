@@ -19,7 +19,7 @@ use Rattle.dates.specs.Dates.{dateOf}
 use Rattle.dates.specs.Times.{minuteOf, halfOf, clockOf, timeOf}
 use Rattle.expressions.specs.DateExprs.{inTailOf, durationTailOf, tailOf, withDurationOf, relativeExprOf, weekdayExprOf, undatedOf}
 use Rattle.expressions.specs.DateExprs.{dateExprOf}
-use Rattle.phrase.specs.DateTimes.{withExprOf, withDurationOf as durationTurnOf, withTimeOf, timedTurnOf, undatedTurnOf, turnOf}
+use Rattle.phrase.specs.DateTimes.{timeBehindOf, withDurationOf as durationTurnOf, timedTurnOf, undatedTurnOf, turnOf}
 use Rattle.phrase.specs.DateTimes.{dateTimeStep, dateTimeOf}
 use Rattle.phrase.specs.Read.{readOf}
 use Rattle.calendar.specs.Gregorian.{leapYear, monthLength, daysBeforeMonth, daysOfYears, dayNumber}
@@ -75,7 +75,7 @@ unfolding starred keywords classOf markOf numberOf wordAt numberAt tokenAt lexed
     literalOf onesOf teensOf tensOf tensOnesOf numDoubleOf sumOf hundredsOf numTailOf numTripleOf numTripleUnitOf unitsOf numStep numOf
     isArticle unitOf namedMonthOf weekdayOf relativeSpecifierOf specificOf articleOf concreteOf durationStep durationOf namedDayOf
     dayMonthYearOf monthDayOf isDelim threeNumbersOf twoNumbersOf behindSecondOf delimitedOf dateOf minuteOf halfOf clockOf timeOf
-    inTailOf durationTailOf tailOf withDurationOf relativeExprOf weekdayExprOf undatedOf dateExprOf withExprOf durationTurnOf withTimeOf
+    inTailOf durationTailOf tailOf withDurationOf relativeExprOf weekdayExprOf undatedOf dateExprOf timeBehindOf durationTurnOf
     timedTurnOf undatedTurnOf turnOf dateTimeStep dateTimeOf readOf leapYear monthLength daysBeforeMonth daysOfYears dayNumber yearsBefore
     yearOf dayOfYear monthOf monthOfDay dayOf isDate isTime isMoment onDay minutesStep monthsStep yearsStep
     daysBack evaluate answerOf
