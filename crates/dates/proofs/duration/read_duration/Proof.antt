@@ -49,7 +49,7 @@ loop-holds c =
     let read-concrete = c .before .before .before .before .read-concrete in
     let said = part-learnt subDailyKept looking refl (read-concrete .ensures .0) (c .before .before .c .given .1) in
     let same : 0 + c .before .before .c .given .0 .1 .0 ≡ c .before .before .c .given .0 .1 .0 = omega arith in
-    rw (c .is-sub-daily .ensures) (rw same at (said .0))
+    rw (c .is-sub-daily .ensures) (rw same at said)
 
 is-at-requires : tie.Need-is-at-requires Inv-loop μ-loop
 is-at-requires c κs = search needs
@@ -90,7 +90,7 @@ loop-again c =
     let e = c .before .before .before .before .before in
     let next = c .before .before .before .next in
     let said = part-learnt subDailyKept looking (e .before .rest .ensures .0) (e .read-concrete2 .ensures .0) (next .given .1) in
-    rw (c .either .ensures, c .before .is-sub-daily2 .ensures) (said .0)
+    rw (c .either .ensures, c .before .is-sub-daily2 .ensures) said
 
 enum-told : tie.Need-enum-told Inv-loop μ-loop
 enum-told c = search needs

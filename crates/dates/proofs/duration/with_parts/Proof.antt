@@ -75,8 +75,8 @@ loop-again c =
     let looking = d .before .before .loop .inv .0 in
     let part = c .before .before .before .before .part in
     let said = part-learnt (rowKept _) looking (d .before .rest .ensures .0) (d .read-concrete .ensures .0) (part .given .1) in
-    let two = said .1 in
-    rw (c .before .before .push .ensures) (and-behind (rowKept _) (said .0) (c .before .is-at .ensures .0) (c .if1 .taken), omega arith)
+    let b = found (ap parsedPart (part .given .1)) (d .read-concrete .ensures .1) in
+    rw (c .before .before .push .ensures) (and-behind (rowKept _) said (c .before .is-at .ensures .0) (c .if1 .taken), omega arith)
 
 returns-3 : tie.Need-returns-3 Inv-loop μ-loop
 returns-3 c =
@@ -84,7 +84,7 @@ returns-3 c =
     let looking = d .before .before .loop .inv .0 in
     let part = c .before .before .before .before .part in
     let said = part-learnt (rowKept _) looking (d .before .rest .ensures .0) (d .read-concrete .ensures .0) (part .given .1) in
-    rw (c .before .before .push .ensures) (no-and (rowKept _) (said .0) (c .before .is-at .ensures .0) (c .if1 .left))
+    rw (c .before .before .push .ensures) (no-and (rowKept _) said (c .before .is-at .ensures .0) (c .if1 .left))
 
 pub with-parts-spec : {M : Type 1} → statement M
 with-parts-spec =
