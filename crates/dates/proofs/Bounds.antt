@@ -10,7 +10,7 @@ use borrow.Author.Tests.{eqb-true}
 use Rattle.lexer.specs.Lexemes as lexeme
 use Rattle.numbers.specs.Slices.{get, isAt, within, oneIf}
 use Rattle.numbers.specs.Numbers.{beginsNumber, numOf}
-use Rattle.numbers.proofs.Places.{within-bounds, at-most, there}
+use Rattle.numbers.proofs.Places.{one-most, within-bounds, at-most, there}
 use Rattle.numbers.proofs.Bounds.{num-read}
 use Rattle.numbers.proofs.Begins.{no-num}
 use Rattle.dates.specs.Parsed.{Parsed, nothing, parsedNumber, Took}
@@ -20,7 +20,7 @@ use Rattle.dates.specs.Times.{minuteOf, halfOf, clockOf, timeOf}
 use Rattle.dates.proofs.Laws.{Arm, none, number-took, nothing-took, pick-took, one-took, or-took, then-took, if-let-took}
 
 pub num-took : (l : List ℕ) → Took (parsedNumber (numOf l)) 1 (length l)
-num-took l = number-took (num-read l)
+num-took l = number-took (numOf l) (num-read l)
 
 -- a lexeme, which is not 0, is there
 first : (l : List ℕ) → 0 < get l 0 → 0 < length l
@@ -35,10 +35,6 @@ seen l x p e = first l (let h = eqb-true (get l 0) x e in omega arith)
 -- a test for one of several that held
 seen-within : (l : List ℕ) (lo hi : ℕ) → 0 < lo → within lo (get l 0) hi ≡ true → 0 < length l
 seen-within l lo hi p e = first l (let b = within-bounds lo (get l 0) hi refl e in omega arith)
-
-one-most : (b : Bool) → oneIf b ≤ 1
-one-most true = omega arith
-one-most false = omega arith
 
 -- an article is a lexeme
 article-there : (l : List ℕ) → oneIf (isArticle l) ≤ length l

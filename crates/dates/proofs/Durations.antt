@@ -200,11 +200,10 @@ module _ {A R : Type 0} (k : Passing A R) where
   -- the answer r, behind a part that ends at e
   pub record Joined (r : R) (l : List ℕ) (e : ℕ) (a : A) : Type 0 where
     pub same : r ≡ joined l e a
-    pub within : e ≤ length l
 
   -- what the code's answer for the part at the place at says
   abbrev Said : R → List ℕ → ℕ → A → R → PartFound → Type 0
-  Said r l at a none (IsPart p t) = Joined r l (at + t) (k .add a p) × (2 ≤ t)
+  Said r l at a none (IsPart p t) = Joined r l (at + t) (k .add a p)
   Said r l at a none NoPart = r ≡ none
   Said r l at a none PartOverflow = r ≡ k .over
 
@@ -214,11 +213,7 @@ module _ {A R : Type 0} (k : Passing A R) where
   part-learnt {r} {none} {l} {m} {at} {a} {w} {z} g here answer e = go z (rw (← here, ← answer, e))
     where
       go : (z : PartFound) → concreteOf (drop at l) ≡ parsedPart z → Said r l at a none z
-      go (IsPart p t) f =
-          let b = found f (concrete-took (drop at l)) in
-          let left = length-drop at l in
-          let most = g .within in
-          (record { same = g .same ∙ part-passed l at a none f; within = omega arith }, b .0)
+      go (IsPart p t) f = record { same = g .same ∙ part-passed l at a none f }
       go NoPart f = g .same ∙ rw (duration-is (drop at l), f)
       go PartOverflow f = g .same ∙ rw (duration-is (drop at l), f)
 

@@ -113,11 +113,8 @@ module _ {A : Type 0} where
   if-let-took nothing f b g h z = z
   if-let-took overflow f b g h z = record { bounds = tt }
 
-number-took′ : (w : Found) (k n : ℕ) → Read w k n → Took (parsedNumber w) k n
-number-took′ (Is v t) k n h = record { bounds = let b = h .bounds in omega arith }
-number-took′ Nothing k n h = nothing-took
-number-took′ Overflow k n h = record { bounds = tt }
-
 -- the bounds of a number reader
-pub number-took : {w : Found} {k n : ℕ} → Read w k n → Took (parsedNumber w) k n
-number-took {w} {k} {n} h = number-took′ w k n h
+pub number-took : (w : Found) {k n : ℕ} → Read w k n → Took (parsedNumber w) k n
+number-took (Is v t) h = record { bounds = let b = h .bounds in omega arith }
+number-took Nothing h = nothing-took
+number-took Overflow h = record { bounds = tt }
