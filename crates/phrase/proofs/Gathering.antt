@@ -92,44 +92,29 @@ around-flat : (back : Bool) (dur : Duration) (x : DateTime) (r : Reading) →
 around-flat true dur x r = refl
 around-flat false dur x r = refl
 
--- one link more, with the row x that its duration gave, and its direction
-pub record Linked (l : List ℕ) (k : Count) (o : Outline) (goal : Reading) (ps : Parts) (ks : List Link) (i at : ℕ) (x : Rowed) (back : Bool) :
-    Type 0 where
-  pub next : Gathering l k o goal (x .parts) (set ks i (record { back = back; from = ps .n; to = x .parts .n })) (i + 1) (at + x .end + 1)
-  pub fits : i < 21
-
 module _ {l : List ℕ} {k : Count} {o : Outline} {goal : Reading} {ps : Parts} {ks : List Link} {i at : ℕ}
     (g : Gathering l k o goal ps ks i at) where
+  -- one link more, with the row x that its duration gave, and its direction
   pub one-link : i < o .m → {x : Rowed} {back : Bool} {m : List ℕ} → m ≡ drop at l → x ≡ rowed ps (durationOf m) → back ≡ isBack m (x .end) →
-      Linked l k o goal ps ks i at x back
+      Gathering l k o goal (x .parts) (set ks i (record { back = back; from = ps .n; to = x .parts .n })) (i + 1) (at + x .end + 1)
   one-link more here row direction =
       let x = link-left (g .left) k i (drop at l) (rw (g .outlined) more) in
       let s = around-stood (x .back) (x .duration) (x .inner) (drop at l) (rw (x .same) at (g .stands)) in
-      let t = s .0 .taken in
       let b = duration-bounds (drop at l) (s .0 .reading) in
       let n = into-n (x .duration) ps in
       let p = some (x .duration) in
       let lexemes = length-drop at l in
       let one = s .0 .one in
-      let room = g .room in
-      let within = g .within in
-      let few = g .few in
-      let most = s .1 in
-      let there : drop (linkTaken (drop at l)) (drop at l) ≡ drop (at + t + 1) l =
-      let same : at + linkTaken (drop at l) ≡ at + t + 1 = omega arith in rw (drop-drop (linkTaken (drop at l)) at l, same) in
+      let same : at + linkTaken (drop at l) ≡ at + s .0 .taken + 1 = omega arith in
+      let there = rw same at (drop-drop (linkTaken (drop at l)) at l) in
       rw (direction, row, here, s .0 .reading, s .0 .direction) (record {
-        next = record {
-          left = x .inner;
-          stands = rw there at (s .2);
-          outlined =
-              rw (← there, ← (around-outline (x .back) (x .duration) (x .inner) k i (drop at l)), ← (x .same)) (g .outlined);
-          flattened =
-              rw (← (around-flat (x .back) (x .duration) (x .inner) (held ps ks i)), ← (x .same)) (g .flattened);
-          within = omega arith;
-          room = omega arith;
-          few = omega arith;
-        };
-        fits = omega arith;
+        left = x .inner;
+        stands = rw there at (s .2);
+        outlined = rw (← there, ← (around-outline (x .back) (x .duration) (x .inner) k i (drop at l)), ← (x .same)) (g .outlined);
+        flattened = rw (← (around-flat (x .back) (x .duration) (x .inner) (held ps ks i)), ← (x .same)) (g .flattened);
+        within = omega arith;
+        room = omega arith;
+        few = omega arith;
       })
 
 -- the parts of a date expression's duration are those at its place
@@ -181,18 +166,14 @@ module _ {l : List ℕ} {k : Count} {o : Outline} {goal : Reading} {ps : Parts} 
       go : (x : DateTime) → TreeStands (drop at l) x → flatFrom (held ps ks i) x ≡ goal → outline k i (drop at l) x .m ≤ i →
           Based l k (outline k i (drop at l) x) goal ps ks i at
       go (dateTime e t) s f d =
-          let most = s .within in
           let left = length-drop at l in
-          let here = g .within in
           record { reading = rw (own e _ (s .stands)) f; count = refl; within = omega arith; links = refl }
       go (timeDate t e) s f d =
-          let most = s .within in
           let left = length-drop at l in
-          let here = g .within in
           record { reading = rw (own e _ (s .stands)) f; count = refl; within = omega arith; links = refl }
       go (durationAfter dur x) s f d = let h = links-most x k (i + 1) (drop (linkTaken (drop at l)) (drop at l)) in absurd (omega arith)
       go (durationBefore dur x) s f d = let h = links-most x k (i + 1) (drop (linkTaken (drop at l)) (drop at l)) in absurd (omega arith)
-      go now s f d = let here = g .within in record { reading = f; count = refl; within = omega arith; links = refl }
+      go now s f d = record { reading = f; count = refl; within = omega arith; links = refl }
 
   -- and so the whole is gathered
   pub all-gathered : Based l k o goal ps ks i at → {all : Parts} {m : List ℕ} → m ≡ drop (at + o .own) l → all ≡ withOwn (o .base) m ps →

@@ -1,7 +1,7 @@
 -- A phrase read whole: what reading takes of lexing, where the offending part stands, and what a reading stands for.
 use Prim.Native.Nat.{ℕ, _≤_}
 use native.Mathlib.Omega.{arith}
-use mathlib.Core.Path.{_≡_, refl, ap, sym, _∙_}
+use mathlib.Core.Path.{_≡_, refl, ap, sym}
 use mathlib.Core.Bool.{Bool, true, false, cond}
 use mathlib.Core.List.{List, []}
 use lib.Dec.{ltb}
@@ -32,40 +32,30 @@ use Rattle.phrase.proofs.Decoded.{tree-count, decoded}
 abbrev pub answerOf : Ended → Reading → PhraseRead
 answerOf r x = record { reading = x; number = r .number; place = r .place; end = r .end; taken = r .count }
 
--- of n lexemes, read as w
-codes-answer : (w : Parsed DateTime) (count n : ℕ) (starts : List ℕ) →
-    answerOf (countEnded (countOf w) count starts n) (flat (treeIn (kept count w))) ≡ phraseAnswer (readCodes w count starts n)
-codes-answer (is x t) count n starts = go (ltb t count)
-  where
-    go : (b : Bool) →
-        answerOf (cond b (refusedEnd table.LeftOver (getD starts t 0) n) (record { number = 0; place = 0; end = 0; count = t })) (flat (cond b now x))
-        ≡ phraseAnswer (cond b (refusal table.LeftOver (getD starts t 0) n) (tree x t))
-    go true = refl
-    go false = refl
-codes-answer nothing count n starts = refl
-codes-answer overflow count n starts = refl
-
 -- of no lexemes nothing is kept
 none-kept : (w : Parsed DateTime) → Each (TreeHolds []) w → treeIn (kept 0 w) ≡ now
 none-kept (is x t) h = let one = h .bounds .one in let most = h .bounds .most in absurd (omega arith)
 none-kept nothing h = refl
 none-kept overflow h = refl
 
--- the places of lexemes that are stored in front of an array
-starts-stored : (items : List Item) (a : List ℕ) → length items ≤ length a → (n : ℕ) (w : Parsed DateTime) →
-    readCodes w (length items) (sets a 0 (startsOf items)) n ≡ readCodes w (length items) (startsOf items) n
-starts-stored items a h n (is x t) = go (ltb t (length items)) refl
+-- of lexemes whose places are stored in front of an array, read as w
+codes-answer : (items : List Item) (a : List ℕ) → length items ≤ length a → (n : ℕ) (w : Parsed DateTime) →
+    answerOf (countEnded (countOf w) (length items) (sets a 0 (startsOf items)) n) (flat (treeIn (kept (length items) w)))
+    ≡ phraseAnswer (readCodes w (length items) (startsOf items) n)
+codes-answer items a h n (is x t) = go (ltb t (length items)) refl
   where
     go : (b : Bool) → ltb t (length items) ≡ b →
-        cond b (refusal table.LeftOver (getD (sets a 0 (startsOf items)) t 0) n) (tree x t)
-        ≡ cond b (refusal table.LeftOver (getD (startsOf items) t 0) n) (tree x t)
+        answerOf
+        (cond b (refusedEnd table.LeftOver (getD (sets a 0 (startsOf items)) t 0) n) (record { number = 0; place = 0; end = 0; count = t }))
+        (flat (cond b now x))
+        ≡ phraseAnswer (cond b (refusal table.LeftOver (getD (startsOf items) t 0) n) (tree x t))
     go true e =
         let below = ltb-true t (length items) e in
         let same = length-map items (λ (i : Item). i .start) in
         rw (sets-at (startsOf items) a (omega arith) t (omega arith))
     go false e = refl
-starts-stored items a h n nothing = refl
-starts-stored items a h n overflow = refl
+codes-answer items a h n nothing = refl
+codes-answer items a h n overflow = refl
 
 kept-count : (n : ℕ) (w : Parsed DateTime) → countOf (kept n w) ≡ countOf w
 kept-count n (is x t) = refl
@@ -89,11 +79,8 @@ module _ (s : List ℕ) where
       go (whole items) same h most =
           let count = (rw same at most) .count-most in
           let codes = length-map items (λ (i : Item). i .code) in
-          let w = dateTimeOf (codesOf items) in
-          rw (front-whole keywords s items same, sets-taken (codesOf items) (replicate 64 0) (omega arith) (length items) codes) (
-          codes-answer w (length items) (length s) (sets (replicate 64 0) 0 (startsOf items))
-          ∙ ap phraseAnswer (starts-stored items (replicate 64 0) count (length s) w)
-          )
+          rw (front-whole keywords s items same, sets-taken (codesOf items) (replicate 64 0) (omega arith) (length items) codes)
+          (codes-answer items (replicate 64 0) count (length s) (dateTimeOf (codesOf items)))
 
   -- the codes are as many as the lexemes, and there is room for them
   pub codes-stored : {line : Ended} {codes : List ℕ} → line ≡ endedOf (lexed keywords s) →
@@ -114,55 +101,6 @@ module _ (s : List ℕ) where
       let count : x .taken ≡ countOf w = rw gives (kept-count (line .count) w) in
       rw (ends, count, gives, e, f, g) line-answered
 
--- the offending part begins and ends within the first n bytes
-abbrev Within : ℕ → ReadPhrase → Type 0
-Within n (refusal k a e) = (a ≤ e) × (e ≤ n)
-Within n (tree x t) = Unit {0}
-
-codes-within : (s : List ℕ) (items : List Item) → lexed keywords s ≡ whole items → (x : Parsed DateTime) →
-    Within (length s) (readCodes x (length items) (startsOf items) (length s))
-codes-within s items same (is x t) = go (ltb t (length items)) refl
-  where
-    go : (b : Bool) → ltb t (length items) ≡ b →
-        Within (length s) (cond b (refusal table.LeftOver (getD (startsOf items) t 0) (length s)) (tree x t))
-    go true e =
-        let start = rw (front-whole keywords s items same) at (start-below keywords s t) in
-        omega (arith, start (ltb-true t (length items) e))
-    go false e = tt
-codes-within s items same nothing = omega arith
-codes-within s items same overflow = omega arith
-
-read-within : (s : List ℕ) → Within (length s) (readOf keywords s)
-unfolding readOf
-read-within s = go (lexed keywords s) refl (placed keywords s refl)
-  where
-    go : (w : Lexed) → lexed keywords s ≡ w → Placed (length s) (endedOf (lexed keywords s)) → Within (length s) (readLexed w (length s))
-    go (refused k a e) same p = let q = rw same at p in (q .place-end, q .end-most)
-    go (whole items) same p = codes-within s items same (dateTimeOf (codesOf items))
-
-answer-within : (n : ℕ) (w : ReadPhrase) → Within n w → (phraseAnswer w .place ≤ phraseAnswer w .end) × (phraseAnswer w .end ≤ n)
-answer-within n (refusal k a e) h = h
-answer-within n (tree x t) h = omega arith
-
-answer-place : (w : ReadPhrase) → phraseAnswer w .place ≡ placeOf w
-answer-place (refusal k a e) = refl
-answer-place (tree x t) = refl
-
-answer-part : (s : List ℕ) (w : ReadPhrase) → between s (phraseAnswer w .place) (phraseAnswer w .end) ≡ offendingOf s w
-answer-part s (refusal k a e) = refl
-answer-part s (tree x t) = refl
-
--- the place and the part of an answer
-module _ (s : List ℕ) {r : PhraseRead} (answer : r ≡ phraseAnswer (readOf keywords s)) where
-  pub part-within : (r .place ≤ r .end) × (r .end ≤ length s)
-  part-within = rw answer (answer-within (length s) (readOf keywords s) (read-within s))
-
-  pub part-place : r .place ≡ placeOf (readOf keywords s)
-  part-place = rw answer (answer-place (readOf keywords s))
-
-  pub part-is : between s (r .place) (r .end) ≡ offendingOf s (readOf keywords s)
-  part-is = rw answer (answer-part s (readOf keywords s))
-
 -- a phrase that is read: its lexemes, all of them taken, and the tree that the reading stands for, as `DateTime::parse` gives it
 pub record ReadWhole (s : List ℕ) (r : PhraseRead) : Type 0 where
   pub items : List Item
@@ -172,9 +110,9 @@ pub record ReadWhole (s : List ℕ) (r : PhraseRead) : Type 0 where
   pub flattened : r .reading ≡ flat (treeOf (r .reading))
   pub few : r .reading .parts .n ≤ 21
 
--- refused by 1 to 7, or read whole
+-- refused by 1 to 7, with a part of the phrase, or read whole
 abbrev Settled : List ℕ → ReadPhrase → Type 0
-Settled s (refusal k a e) = (1 ≤ k) × (k ≤ 7)
+Settled s (refusal k a e) = (1 ≤ k) × (k ≤ 7) × (a ≤ e) × (e ≤ length s)
 Settled s (tree x t) = ReadWhole s (phraseAnswer (tree x t))
 
 module _ (s : List ℕ) (items : List Item) (lexemes : lexed keywords s ≡ whole items) (most : length items ≤ 64) where
@@ -184,7 +122,9 @@ module _ (s : List ℕ) (items : List Item) (lexemes : lexed keywords s ≡ whol
     where
       go : (b : Bool) → ltb t (length items) ≡ b →
           Settled s (cond b (refusal table.LeftOver (getD (startsOf items) t 0) (length s)) (tree x t))
-      go true h = omega arith
+      go true h =
+          let start = rw (front-whole keywords s items lexemes) at (start-below keywords s t) in
+          let below = start (ltb-true t (length items) h) in omega arith
       go false h =
           let same = length-map items (λ (i : Item). i .code) in
           let left = ltb-false t (length items) h in
@@ -207,12 +147,25 @@ unfolding readOf
 settled s = go (lexed keywords s) refl (numbered keywords s) (placed keywords s refl)
   where
     go : (w : Lexed) → lexed keywords s ≡ w → Numbered w → Placed (length s) (endedOf (lexed keywords s)) → Settled s (readLexed w (length s))
-    go (refused k a e) h n p = omega arith
+    go (refused k a e) h n p = let q = rw h at p in omega arith
     go (whole items) h n p = codes-settled s items h ((rw h at p) .count-most) (dateTimeOf (codesOf items)) refl
 
 -- a phrase is refused by a number of 1 to 7
 pub refusal-numbers : (s : List ℕ) {k a e : ℕ} → readOf keywords s ≡ refusal k a e → (1 ≤ k) × (k ≤ 7)
-refusal-numbers s h = rw h at (settled s)
+refusal-numbers s h = let b = rw h at (settled s) in (b .0, b .1)
+
+-- where the offending part of an answer is
+answer-part : (s : List ℕ) (w : ReadPhrase) → Settled s w → let r = phraseAnswer w in
+    (r .place ≤ r .end) × (r .end ≤ length s) × (r .place ≡ placeOf w) × (between s (r .place) (r .end) ≡ offendingOf s w)
+answer-part s (refusal k a e) h = (h .2, h .3, refl, refl)
+answer-part s (tree x t) h = (omega arith, omega arith, refl, refl)
+
+module _ (s : List ℕ) {r : PhraseRead} (answer : r ≡ phraseAnswer (readOf keywords s)) where
+  pub part-within : (r .place ≤ r .end) × (r .end ≤ length s)
+  part-within = let b = answer-part s (readOf keywords s) (settled s) in rw answer (b .0, b .1)
+
+  pub part-is : (r .place ≡ placeOf (readOf keywords s)) × (between s (r .place) (r .end) ≡ offendingOf s (readOf keywords s))
+  part-is = let b = answer-part s (readOf keywords s) (settled s) in rw answer (b .2, b .3)
 
 answer-settled : (s : List ℕ) (w : ReadPhrase) → Settled s w → phraseAnswer w .number ≡ 0 → ReadWhole s (phraseAnswer w)
 answer-settled s (refusal k a e) h z = absurd (omega arith)

@@ -112,7 +112,6 @@ expr-base l x t e =
 further : (own : List Duration) (p s : ℕ) (l : List ℕ) → s ≤ length l → BaseStands own p (drop s l) → BaseStands own (s + p) l
 further own p s l h b =
     let left = length-drop s l in
-    let most = b .within in
     record { stands = rw (drop-drop p s l) at (b .stands); within = omega arith }
 
 timed-holds : (l : List ℕ) → Each (TurnHolds l) (timedTurnOf l)
@@ -205,11 +204,9 @@ step-holds D holds l = then-each (turnOf l) _ (λ x t e. go x t ((rw e at (turn-
   where
     go : (x : Turn) (t : ℕ) → TurnHolds l x t → Each (TreeHolds l) (againOf D l x t)
     go (whole x) t h = record { bounds = record { one = h .one; most = h .most; few = h .few; stands = h .stands .0 } }
-    go (ago dur) t h =
-        let few = h .few in
-        record {
-          bounds = record { one = h .one; most = h .most; few = omega arith; stands = around-stands true dur now l t (h .stands) (h .most) tt };
-        }
+    go (ago dur) t h = record {
+      bounds = record { one = h .one; most = h .most; few = omega arith; stands = around-stands true dur now l t (h .stands) (h .most) tt };
+    }
     go (link back dur) t h =
         then-each (D (drop t l)) _ (λ x u e.
         let k = (rw e at (holds (drop t l))) .bounds in

@@ -50,10 +50,7 @@ step-agree D E l agree = go (turnOf l) (turn-holds l)
     go : (w : Parsed Turn) → Each (TurnHolds l) w → andThen w (againOf D l) ≡ andThen w (againOf E l)
     go (is (whole x) t) h = refl
     go (is (ago dur) t) h = refl
-    go (is (link back dur) t) h =
-        let b = h .bounds .one in
-        let most = h .bounds .most in
-        rw (agree (drop t l) (let left = length-drop t l in omega arith))
+    go (is (link back dur) t) h = let b = h .bounds in let left = length-drop t l in rw (agree (drop t l) (omega arith))
     go nothing h = refl
     go overflow h = refl
 
@@ -105,7 +102,7 @@ Said l at m (Ago t) =
     (outlineAnswer l (dateTimeOf l) ≡ record { taken = Is (at + t); base = Now; time = Empty; own = 0; m = m + 1 })
     × (at + t ≤ length l)
     × (m < at + t)
-Said l at m (Link t) = Turning l (at + t) (m + 1) × (1 ≤ t)
+Said l at m (Link t) = Turning l (at + t) (m + 1)
 Said l at m NoTurn = outlineAnswer l (dateTimeOf l) ≡ outline Nothing 0 [] now
 Said l at m TurnOverflow = outlineAnswer l (dateTimeOf l) ≡ outline Overflow 0 [] now
 
@@ -128,25 +125,13 @@ module _ {l : List ℕ} {at m : ℕ} (g : Turning l at m) where
       go : (x : Turn) → TurnHolds left x t → outlineAnswer l (dateTimeOf l) ≡ linked m at left (againOf dateTimeOf left x t) →
           Said l at m (turnAnswer left (is x t))
       go (whole x) h e =
-          let most = h .most in
           let all = length-drop at l in
-          let within = g .within in
           (e ∙ whole-outline x (h .stands .1) left (Is (at + t)) (Is t) m 0, omega arith)
-      go (ago dur) h e =
-          let one = h .one in
-          let most = h .most in
-          let all = length-drop at l in
-          let within = g .within in
-          let few = g .few in
-          (e, omega arith, omega arith)
+      go (ago dur) h e = let all = length-drop at l in (e, omega arith, omega arith)
       go (link back dur) h e =
-          let one = h .one in
-          let most = h .most in
           let all = length-drop at l in
-          let within = g .within in
-          let few = g .few in
           let more = e ∙ behind back dur t (link-taken (h .stands)) (dateTimeOf (drop t left)) in
-          (record { outlined = rw (drop-drop t at l) at more; within = omega arith; few = omega arith }, one)
+          record { outlined = rw (drop-drop t at l) at more; within = omega arith; few = omega arith }
   turn-said nothing h e = e
   turn-said overflow h e = e
 

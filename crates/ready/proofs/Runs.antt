@@ -3,7 +3,7 @@ use Prim.Native.Nat.{ℕ}
 use mathlib.Core.Path.{_≡_, refl, ap, _∙_}
 use mathlib.Core.Bool.{Bool, true, false, cond, _&&_}
 use mathlib.Core.List.{List, [], _∷_}
-use Rattle.calendar.specs.Moments.{Outcome, andThen}
+use Rattle.calendar.specs.Moments.{Outcome, andThen, yearsStep}
 use Rattle.calendar.specs.declared.moments.Moment.{Moment}
 use Rattle.dates.specs.Durations.{Duration, part, concat, isSubDailyUnit}
 use Rattle.dates.specs.declared.date.Date.{Date}
@@ -18,7 +18,7 @@ use Rattle.dates.specs.declared.units.Unit.the-variants.{Day, Week, Hour, Minut
 use Rattle.expressions.specs.Tree.{DateExpr, date, dateRelative, dateExpressionAfter, dateExpressionBefore, unitRelative}
 use Rattle.expressions.specs.Tree.{relativeWeekday, weekdayRelative, weekdayExpressionBefore, before, after, weekday, empty}
 use Rattle.phrase.specs.Tree.{DateTime, dateTime, timeDate, durationAfter, durationBefore, now}
-use Rattle.evaluation.specs.Steps.{yearsStep, unitStep, partStep, durationStep}
+use Rattle.evaluation.specs.Steps.{unitStep, partStep, durationStep}
 use Rattle.evaluation.specs.Dates.{dateAt}
 use Rattle.evaluation.specs.Times.{timeAt}
 use Rattle.evaluation.specs.Evaluate.{isYear, isWeek, isMonthAndDay, byYear, byUnit, dateExprAt, evaluate}

@@ -12,7 +12,7 @@ abbrev Inv-loop : tie.InvT-loop
 Inv-loop l at₀ m₀ at m = Turning l at m
 
 abbrev μ-loop : tie.MeasureT-loop
-μ-loop l at₀ m₀ at m = length l - at
+μ-loop l at₀ m₀ at m = length l - m
 
 loop-holds : tie.Need-loop-holds Inv-loop μ-loop
 loop-holds c = unlinked (now (c .before .args .l))
@@ -60,28 +60,20 @@ returns-2 c =
 enum-known-turn-3 : tie.Need-enum-known-turn-3 Inv-loop μ-loop
 enum-known-turn-3 c = search needs
 
-add-at : tie.Need-add-at Inv-loop μ-loop
-add-at c =
-    let d = c .before .before .before in
-    let said = turn-learnt (d .before .before .loop .inv) (d .before .rest .ensures .0) (d .read-turn .ensures) (c .before .turn3 .given .1) in
-    let most = said .0 .within in omega arith
-
-add-m : tie.Need-add-m Inv-loop μ-loop
-add-m c =
-    let d = c .before .before .before in
-    let said = turn-learnt (d .before .before .loop .inv) (d .before .rest .ensures .0) (d .read-turn .ensures) (c .before .turn3 .given .1) in
-    let few = said .0 .few in omega arith
-
-loop-less : tie.Need-loop-less Inv-loop μ-loop
-loop-less c =
-    let d = c .before .before .before in
-    let said = turn-learnt (d .before .before .loop .inv) (d .before .rest .ensures .0) (d .read-turn .ensures) (c .before .turn3 .given .1) in
-    let most = said .0 .within in let one = said .1 in omega arith
-
+-- a link more: what has room with it has room
 loop-again : tie.Need-loop-again Inv-loop μ-loop
 loop-again c =
     let d = c .before .before .before in
-    turn-learnt (d .before .before .loop .inv) (d .before .rest .ensures .0) (d .read-turn .ensures) (c .before .turn3 .given .1) .0
+    turn-learnt (d .before .before .loop .inv) (d .before .rest .ensures .0) (d .read-turn .ensures) (c .before .turn3 .given .1)
+
+add-at : tie.Need-add-at Inv-loop μ-loop
+add-at c = let again = loop-again c in omega arith
+
+add-m : tie.Need-add-m Inv-loop μ-loop
+add-m c = let again = loop-again c in omega arith
+
+loop-less : tie.Need-loop-less Inv-loop μ-loop
+loop-less c = let again = loop-again c in omega arith
 
 enum-told : tie.Need-enum-told Inv-loop μ-loop
 enum-told c = search needs

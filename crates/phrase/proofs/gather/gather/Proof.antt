@@ -5,16 +5,9 @@ use borrow.Author.Needs.{needs}
 use Rattle.phrase.specs.DateTimes.{dateTimeOf}
 use Rattle.phrase.specs.Flat.{flat}
 use Rattle.phrase.specs.Outlines.{countOf, treeIn, kept}
-use Rattle.phrase.proofs.Gathering.{Gathering, Linked, begin, one-link, base-left, all-gathered}
+use Rattle.phrase.proofs.Gathering.{Gathering, begin, one-link, base-left, all-gathered}
 use Rattle.phrase.proofs.gather.gather.Statement.{statement}
 use Rattle.phrase.proofs.gather.gather.Tie as tie
-use Rattle.phrase.proofs.gather.gather.Reads as reads
-use Rattle.phrase.proofs.gather.gather.Lts as lts
-use Rattle.dates.proofs.duration.with_parts.Reads as with-parts-reads
-use Rattle.numbers.proofs.slices.rest.Reads as rest-reads
-use Rattle.phrase.proofs.date_time.read_outline.Reads as read-outline-reads
-use Rattle.phrase.proofs.gather.is_back.Reads as is-back-reads
-use Rattle.phrase.proofs.gather.with_own.Reads as with-own-reads
 
 abbrev Inv-loop : tie.InvT-loop
 Inv-loop l n o parts₀ links₀ m i₀ at₀ parts links i at =
@@ -22,33 +15,6 @@ Inv-loop l n o parts₀ links₀ m i₀ at₀ parts links i at =
 
 abbrev μ-loop : tie.MeasureT-loop
 μ-loop l n o parts₀ links₀ m i₀ at₀ parts links i at = m - i
-
--- the link that was read at the end of a turn
-step :
-    (c :
-    lts.After-is-back (
-      read-outline-reads.Asked,
-      read-outline-reads.Learnt,
-      rest-reads.Asked,
-      rest-reads.Learnt,
-      with-parts-reads.Asked,
-      with-parts-reads.Learnt,
-      is-back-reads.Asked,
-      is-back-reads.Learnt,
-      with-own-reads.Asked,
-      with-own-reads.Learnt,
-    ) reads.Pre reads.Post Inv-loop μ-loop) →
-    let args = c .before .before .before .before .before .before .before .before .args in
-    let l = now (args .l) in
-    let w = kept (args .n) (dateTimeOf l) in
-    let o = c .before .before .before .before .before .before .read-outline .result in
-    let loop = c .before .before .before .before .before .loop in
-    Linked l (countOf w) o (flat (treeIn w)) (loop .parts) (loop .links) (loop .i) (loop .at) (c .before .before .with-parts .result) (c .is-back .result)
-step c =
-    one-link (c .before .before .before .before .before .loop .inv) (c .before .before .before .before .loop-test .taken)
-    (c .before .before .before .rest .ensures .0)
-    (c .before .before .with-parts .ensures)
-    (c .is-back .ensures)
 
 read-outline-requires : tie.Need-read-outline-requires Inv-loop μ-loop
 read-outline-requires c κs = search needs
@@ -65,49 +31,50 @@ with-parts-requires c κs = omega arith
 is-back-requires : tie.Need-is-back-requires Inv-loop μ-loop
 is-back-requires c κs = search needs
 
+-- the link that was read at the end of a turn: what has room with it has room
+loop-again : tie.Need-loop-again Inv-loop μ-loop
+loop-again c =
+    one-link (c .before .before .before .before .before .loop .inv) (c .before .before .before .before .loop-test .taken)
+    (c .before .before .before .rest .ensures .0)
+    (c .before .before .with-parts .ensures)
+    (c .is-back .ensures)
+
 mul-links : tie.Need-mul-links Inv-loop μ-loop
-mul-links c = let s = step c in omega arith
+mul-links c = let again = loop-again c in omega arith
 
 array-set-from-links : tie.Need-array-set-from-links Inv-loop μ-loop
-array-set-from-links c = step c .fits
+array-set-from-links c = let again = loop-again c in omega arith
 
 add-at : tie.Need-add-at Inv-loop μ-loop
-add-at c = let s = step c .next .within in omega arith
+add-at c = let again = loop-again c in omega arith
 
 add-at-2 : tie.Need-add-at-2 Inv-loop μ-loop
-add-at-2 c = let s = step c .next .within in omega arith
+add-at-2 c = let again = loop-again c in omega arith
 
 add-i : tie.Need-add-i Inv-loop μ-loop
-add-i c = let s = step c .fits in omega arith
+add-i c = let again = loop-again c in omega arith
 
 loop-less : tie.Need-loop-less Inv-loop μ-loop
 loop-less c = omega arith
 
-loop-again : tie.Need-loop-again Inv-loop μ-loop
-loop-again c = step c .next
-
 add-rest : tie.Need-add-rest Inv-loop μ-loop
-add-rest c =
-    let b = base-left (c .before .before .loop .inv) (c .before .loop-test .left) in
-    omega arith
+add-rest c = let b = base-left (c .before .before .loop .inv) (c .before .loop-test .left) in omega arith
 
 rest-requires-2 : tie.Need-rest-requires-2 Inv-loop μ-loop
-rest-requires-2 c κs =
-    let b = base-left (c .before .before .loop .inv) (c .before .loop-test .left) in
-    omega arith
+rest-requires-2 c κs = let b = base-left (c .before .before .loop .inv) (c .before .loop-test .left) in omega arith
 
 with-own-requires : tie.Need-with-own-requires Inv-loop μ-loop
-with-own-requires c κs =
-    let b = base-left (c .before .before .before .loop .inv) (c .before .before .loop-test .left) in
-    omega arith
+with-own-requires c κs = let b = base-left (c .before .before .before .loop .inv) (c .before .before .loop-test .left) in omega arith
 
 cast-t30 : tie.Need-cast-t30 Inv-loop μ-loop
 cast-t30 c =
     let b = base-left (c .before .before .before .before .loop .inv) (c .before .before .before .loop-test .left) in
-    let few = c .before .before .before .before .loop .inv .few in omega arith
+    omega arith
 
 returns : tie.Need-returns Inv-loop μ-loop
-returns c = all-gathered (base-left (c .before .before .before .before .loop .inv) (c .before .before .before .loop-test .left)) (c .before .rest2 .ensures .0) (c .with-own .ensures)
+returns c =
+    let b = base-left (c .before .before .before .before .loop .inv) (c .before .before .before .loop-test .left) in
+    all-gathered b (c .before .rest2 .ensures .0) (c .with-own .ensures)
 
 pub gather-spec : {M : Type 1} → statement M
 gather-spec =
