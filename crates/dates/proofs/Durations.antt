@@ -64,7 +64,8 @@ pub concrete-took : (l : List ℕ) → Took (concreteOf l) 2 (length l)
 unfolding concreteOf
 concrete-took l = or-took _ _ (specific-took l) (article-took l)
 
-step-agree : (D E : List ℕ → Parsed Duration) (l : List ℕ) → ((m : List ℕ) → length m < length l → D m ≡ E m) → durationStep D l ≡ durationStep E l
+step-agree : (D E : List ℕ → Parsed Duration) (l : List ℕ) → ((m : List ℕ) → length m < length l → D m ≡ E m)
+    → durationStep D l ≡ durationStep E l
 unfolding durationStep
 step-agree D E l agree =
     then-same (concreteOf l) _ _ (concrete-took l) (λ p t a b.
@@ -114,7 +115,8 @@ pub taken-found : {r : Taken} {t n : ℕ} {b : Bool} → r ≡ Is t b → TakenC
 taken-found e h = (rw e at h) .bounds
 
 -- what `read_duration` promises
-pub taken-promised : {r : Taken} (l : List ℕ) → r ≡ takenAnswer (durationOf l) → (r ≡ takenAnswer (durationOf l)) × TakenCounted r (length l)
+pub taken-promised : {r : Taken} (l : List ℕ) → r ≡ takenAnswer (durationOf l)
+    → (r ≡ takenAnswer (durationOf l)) × TakenCounted r (length l)
 taken-promised l e = (e, rw e (taken-counted (durationOf l) (length l) (duration-sized l)))
 
 -- the duration of which an answer says the lexemes taken

@@ -32,7 +32,9 @@ read-tail-requires c κs =
 
 returns-2 : tie.Need-returns-2
 unfolding weekdayExprOf
-returns-2 c = rw (← (c .before .before .before .before .read-weekday .ensures .0), c .before .before .w .given .1) (rw (add-zero) at (c .read-tail .ensures))
+returns-2 c =
+    rw (← (c .before .before .before .before .read-weekday .ensures .0), c .before .before .w .given .1)
+    (rw (add-zero) at (c .read-tail .ensures))
 
 pub read-weekday-expr-spec : {M : Type 1} → statement M
 read-weekday-expr-spec =
