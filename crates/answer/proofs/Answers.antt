@@ -18,9 +18,7 @@ use Rattle.phrase.proofs.Phrases.{refusal-numbers, reads}
 use Rattle.refusals.specs.Table.{NoNow}
 use Rattle.evaluation.specs.Evaluate.{evaluate}
 use Rattle.evaluation.specs.Formed.{Formed}
-use Rattle.answer.specs.Answer.{Answer, at, refusedAt, placed, answerFrom, answerOf}
-use Rattle.answer.specs.declared.Answered.{Answered}
-use Rattle.answer.specs.declared.Answered.the-variants.{At, Refused}
+use Rattle.answer.specs.Answer.{Answer, at, refusedAt, placed, answerOf}
 use Rattle.answer.proofs.Formed.{formed}
 use Rattle.answer.proofs.Leads.{Leads, leads, refuses, timeOf, hasSubDaily, SameTime}
 use Rattle.answer.proofs.Leads.{valid-leads, second-leads, time-of-day-leads}
@@ -164,10 +162,3 @@ module _ (s : List ℕ) {x : DateTime} {k : ℕ} (read : readOf keywords s ≡ t
   -- and without hours or minutes in the durations around its date the whole time of day
   pub keeps-time : hasSubDaily x ≡ false → (n : Moment) {t : Moment} → answerOf keywords s n ≡ at t → SameTime n t
   keeps-time none n given = answered n (λ v. time-of-day-leads x n v untimed none) given
-
--- an answer of the code is determined by its promise
-pub answered-determined : (r q : Answered) → answerFrom r ≡ answerFrom q → r ≡ q
-answered-determined (At t) (At u) e = cc
-answered-determined (At t) (Refused k a b) e = cc
-answered-determined (Refused k a b) (At u) e = cc
-answered-determined (Refused k a b) (Refused j c d) e = cc

@@ -38,10 +38,3 @@ pub const OUTSIDE: u8 = 12;
 
 // A year step leads from 29 February into a common year.
 pub const NO_LEAP_DAY: u8 = 13;
-
-// A refusal's number, its place in the phrase, and the end of the offending part that begins there.
-pub struct Refusal {
-    pub number: u8,
-    pub place: usize,
-    pub end: usize,
-}

@@ -1,12 +1,11 @@
 -- The steps of a plan as a loop meets them: those from a slot on.
 use Prim.Native.Nat.{ℕ, _+_, _≤_, _<_}
-use native.Mathlib.Omega.{arith}
 use native.Mathlib.Numerals.{add-one}
 use mathlib.Core.Path.{_≡_}
 use mathlib.Core.List.{List, [], _∷_, map}
-use lib.ListN.{length, getD, length-map, length-take}
+use lib.ListN.{length, getD}
 use lib.Seq.{slice, slice-cons, slice-empty}
-use Rattle.steps.specs.Plans.{stepsIn, stepIn, blankHeld}
+use Rattle.steps.specs.Plans.{stepIn, blankHeld}
 use Rattle.steps.specs.declared.plan.Plan.{Plan}
 use Rattle.steps.specs.declared.plan.Step.{Step}
 
@@ -17,10 +16,6 @@ stepsFrom p i = map stepIn (slice i (p .n) (p .slots))
 -- the step in slot i
 abbrev pub stepAt : Plan → ℕ → Step
 stepAt p i = stepIn (getD (p .slots) i blankHeld)
-
--- never more than a plan has room for
-pub few-steps : (p : Plan) → p .n ≤ 24 → length (stepsIn p) ≤ 24
-few-steps p h = rw (length-map, length-take) (omega arith)
 
 -- none is left behind the last slot
 pub no-step : (p : Plan) {i : ℕ} → i ≡ p .n → stepsFrom p i ≡ []
