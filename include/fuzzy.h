@@ -1,8 +1,9 @@
 /* fuzzy.h: reminder phrases such as "next friday at 3 pm", read at a now that the caller gives.
  *
- * Link with libfuzzydate.a. No function allocates, keeps state, reads a clock or calls anything; all of them may run in any thread. Every
- * byte string, every number and every ready phrase gets an answer, so there is nothing to check before a call. Pointers must point to
- * what the parameter says; a phrase or a ready phrase of length 0 still needs a pointer that is not null.
+ * Link with libfuzzydate.a of your target (bindings/archive). No function allocates, keeps state, reads a clock or a locale, or calls anything
+ * but C's memcpy, memmove and memset; all of them may run in any thread. Every byte string, every number and every ready phrase gets an
+ * answer, so there is nothing to check before a call. Pointers must point to what the parameter says; a phrase or a ready phrase of length
+ * 0 still needs a pointer that is not null.
  *
  * An answer is one number. 0 says that a moment was written. Else its parts are, by the helpers below:
  *   fuzzy_number   which refusal it is, 1 to 13

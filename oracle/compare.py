@@ -1,5 +1,5 @@
 #!/usr/bin/env python3
-"""The Rust, the model and our own program replay: every difference is sorted into a class, or is a bug until document 01 decides.
+"""The Rust, the model and our own program test_replay: every difference is sorted into a class, or is a bug until document 01 decides.
 
     compare.py --all COUNT SEED   the fixed list, all phrases of up to three lexemes, sweeps of nows, and COUNT random phrases
     compare.py --differs          the class of each line of the fixed list at which the recorded answer differs from the model's
@@ -24,8 +24,8 @@ HERE = pathlib.Path(__file__).resolve().parent
 ROOT = HERE.parent
 ORACLE = ROOT / "target" / "oracle" / "release" / "oracle"
 OURS = HERE / "ours"
-LIST = ROOT / "crates" / "replay" / "stdin"
-EXPECTED = ROOT / "crates" / "replay" / "stdout"
+LIST = ROOT / "crates" / "test_replay" / "stdin"
+EXPECTED = ROOT / "crates" / "test_replay" / "stdout"
 RECORDED = HERE / "recorded.txt"
 DIFFERS = HERE / "differs.txt"
 

@@ -1,7 +1,7 @@
 #!/usr/bin/env python3
-"""The fixed list of lines NOW|PHRASE (crates/replay/stdin), the same at every run; and the makers of random phrases.
+"""The fixed list of lines NOW|PHRASE (crates/test_replay/stdin), the same at every run; and the makers of random phrases.
 
-    phrases.py > crates/replay/stdin
+    phrases.py > crates/test_replay/stdin
 
 Each section below takes the alternatives of one parser or one rule of document 01, taken and given up, on both sides of
 each limit.

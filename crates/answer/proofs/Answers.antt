@@ -6,7 +6,7 @@ use mathlib.Core.Bool.{Bool, true, false}
 use mathlib.Core.List.{List}
 use Rattle.lexer.specs.Keywords.{keywords}
 use Rattle.calendar.specs.Moments.{IsMoment, Outcome, isMoment}
-use Rattle.calendar.specs.declared.Moment.{Moment}
+use Rattle.calendar.specs.declared.moments.Moment.{Moment}
 use Rattle.calendar.proofs.Valid.{test-range, test-moment}
 use Rattle.dates.specs.declared.time.Time.the-variants.{Empty as NoTime}
 use Rattle.phrase.specs.Tree.{DateTime}
@@ -15,12 +15,10 @@ use Rattle.phrase.specs.Read.{ReadPhrase, refusal, tree, readOf, phraseAnswer}
 use Rattle.phrase.specs.declared.read.PhraseRead.{PhraseRead}
 use Rattle.phrase.proofs.Decoded.{decoded, tree-count}
 use Rattle.phrase.proofs.Phrases.{refusal-numbers, reads}
-use Rattle.evaluation.specs.Refusals.{NoNow}
+use Rattle.refusals.specs.Table.{NoNow}
 use Rattle.evaluation.specs.Evaluate.{evaluate}
 use Rattle.evaluation.specs.Formed.{Formed}
-use Rattle.answer.specs.Answer.{Answer, at, refusedAt, placed, answerFrom, answerOf}
-use Rattle.answer.specs.declared.Answered.{Answered}
-use Rattle.answer.specs.declared.Answered.the-variants.{At, Refused}
+use Rattle.answer.specs.Answer.{Answer, at, refusedAt, placed, answerOf}
 use Rattle.answer.proofs.Formed.{formed}
 use Rattle.answer.proofs.Leads.{Leads, leads, refuses, timeOf, hasSubDaily, SameTime}
 use Rattle.answer.proofs.Leads.{valid-leads, second-leads, time-of-day-leads}
@@ -77,7 +75,8 @@ pub data Settled (low : ℕ) : Answer → Type 0 where
   moment-at : {t : Moment} → IsMoment t → Settled low (at t)
   refusal-at : {k a e : ℕ} → low ≤ k → k ≤ 13 → Settled low (refusedAt k a e)
 
-placed-settled : {o : Outcome} → Leads IsMoment o → Settled 8 (placed o)
+-- where a step leads is settled
+pub placed-settled : {o : Outcome} → Leads IsMoment o → Settled 8 (placed o)
 placed-settled (leads v) = moment-at v
 placed-settled (refuses {k = k} e) = let b = test-range k 9 13 e in refusal-at {k = k} (omega arith) (b .1)
 
@@ -163,10 +162,3 @@ module _ (s : List ℕ) {x : DateTime} {k : ℕ} (read : readOf keywords s ≡ t
   -- and without hours or minutes in the durations around its date the whole time of day
   pub keeps-time : hasSubDaily x ≡ false → (n : Moment) {t : Moment} → answerOf keywords s n ≡ at t → SameTime n t
   keeps-time none n given = answered n (λ v. time-of-day-leads x n v untimed none) given
-
--- an answer of the code is determined by its promise
-pub answered-determined : (r q : Answered) → answerFrom r ≡ answerFrom q → r ≡ q
-answered-determined (At t) (At u) e = cc
-answered-determined (At t) (Refused k a b) e = cc
-answered-determined (Refused k a b) (At u) e = cc
-answered-determined (Refused k a b) (Refused j c d) e = cc

@@ -15,13 +15,13 @@ use Rattle.dates.specs.declared.time.Time.{Time}
 use Rattle.expressions.specs.Tree.{DateExpr, date, dateRelative, dateExpressionAfter, dateExpressionBefore, unitRelative, relativeWeekday}
 use Rattle.expressions.specs.Tree.{weekdayRelative, weekdayExpressionBefore, before, after, weekday, empty}
 use Rattle.phrase.specs.Tree.{DateTime, dateTime, timeDate, durationAfter, durationBefore, now}
-use Rattle.expressions.specs.Shapes.{shape, sizeExpr}
+use Rattle.expressions.specs.Shapes.{shape, hasDuration, sizeExpr}
 use Rattle.phrase.specs.Flat.{linkedParts, based, flatFrom, flat, blank, blankLink, sizeTree}
 use Rattle.phrase.specs.declared.reading.Base.{Base}
 use Rattle.phrase.specs.declared.reading.Link.{Link}
 use Rattle.phrase.specs.declared.reading.Reading.{Reading}
 use Rattle.phrase.proofs.Decoded.{some, tree-count}
-use Rattle.evaluation.specs.Formed.{hasDuration, baseDuration, Formed}
+use Rattle.evaluation.specs.Formed.{baseDuration, Formed}
 
 -- a test is not both
 pub never : {A : Type 0} → false ≡ true → A

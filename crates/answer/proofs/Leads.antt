@@ -1,5 +1,5 @@
 -- What evaluation leads to: a moment with a property that every step keeps, or a refusal of 9 to 13.
-use Prim.Native.Nat.{ℕ, _+_, _-_, _*_, _/_, _%_, _≤_, _<_}
+use Prim.Native.Nat.{ℕ, _+_, _-_, _*_, _/_, _%_, _<_}
 use native.Mathlib.Omega.{arith}
 use mathlib.Core.Path.{_≡_, refl, sym, _∙_}
 use mathlib.Core.Logic.{_⊎_, inl, inr, ⊎-elim}
@@ -7,12 +7,13 @@ use mathlib.Core.Bool.{Bool, true, false, cond, _&&_, _||_, and-eq-true-iff}
 use lib.Dec.{leb, ltb}
 use borrow.Author.Tests.{leb-true, ltb-true}
 use Rattle.calendar.specs.Gregorian.{leapYear, monthLength, IsDate, days}
-use Rattle.calendar.specs.Moments.{IsMoment, Outcome, moment, refused, inside, andThen, withDate, isDate, isTime, inRange}
-use Rattle.calendar.specs.Moments.{onDay, minuteNumber, minutes, atMinute, later, earlier, monthNumber, months, monthsLater, monthsEarlier}
-use Rattle.calendar.specs.Moments.{inYear, yearsLater, yearsEarlier}
-use Rattle.calendar.specs.declared.Moment.{Moment}
+use Rattle.calendar.specs.Moments.{IsMoment, Outcome, moment, refused, andThen, withDate, isDate, isTime, inRange}
+use Rattle.calendar.specs.Moments.{onDay, moved, hasRoom, minuteNumber, minutes, atMinute, minutesStep, monthNumber, months, monthsStep}
+use Rattle.calendar.specs.Moments.{yearNumber, years, inYear, yearsStep}
+use Rattle.calendar.specs.declared.moments.Moment.{Moment}
 use Rattle.calendar.proofs.Valid.{test-date, test-time}
-use Rattle.calendar.proofs.Places.{at-day-moment, at-minute-moment, minute-below, month-below, in-month-moment}
+use Rattle.calendar.proofs.Rooms.{below-limit}
+use Rattle.calendar.proofs.Places.{at-day-moment, at-minute-moment, minute-below, month-below, in-month-moment, in-year-date}
 use Rattle.dates.specs.Durations.{Duration, part, concat, isSubDailyUnit, isSubDailyPart, isSubDaily}
 use Rattle.dates.specs.declared.date.Date.{Date}
 use Rattle.dates.specs.declared.date.Date.the-variants.{YearMonthNumDay, MonthNumDayYear, DayMonthYear, MonthDayYear}
@@ -28,7 +29,7 @@ use Rattle.dates.specs.declared.units.RelativeSpecifier.the-variants.{This, Nex
 use Rattle.expressions.specs.Tree.{DateExpr, date, dateRelative, dateExpressionAfter, dateExpressionBefore, unitRelative, relativeWeekday}
 use Rattle.expressions.specs.Tree.{weekdayRelative, weekdayExpressionBefore, before, after, weekday, empty}
 use Rattle.phrase.specs.Tree.{DateTime, dateTime, timeDate, durationAfter, durationBefore, now}
-use Rattle.evaluation.specs.Steps.{minutesStep, unitStep, partStep, durationStep}
+use Rattle.evaluation.specs.Steps.{unitStep, partStep, durationStep}
 use Rattle.evaluation.specs.Weekdays.{daysBack, inWeek, backTo}
 use Rattle.evaluation.specs.Dates.{statedDate, dateAt}
 use Rattle.evaluation.specs.Times.{statedTime, timeAt}
@@ -45,13 +46,8 @@ tested : {M : Moment → Type 0} (b : Bool) (o p : Outcome) → (b ≡ true → 
 tested true o p f g = f refl
 tested false o p f g = g
 
--- a moment where it is in the calendar
-within : (M : Moment → Type 0) (b : Bool) (u : Moment) → (b ≡ true → M u) → Leads M (inside b u)
-within M true u f = leads (f refl)
-within M false u f = refuses {k = 12} refl
-
 -- a step behind another
-behind :
+pub behind :
     {M N : Moment → Type 0} {o : Outcome} (f : Moment → Outcome) → Leads M o → ((t : Moment) → M t → Leads N (f t)) → Leads N (andThen o f)
 behind f (leads {t = t} h) g = g t h
 behind f (refuses e) g = refuses e
@@ -62,70 +58,45 @@ or-right true e = refl
 or-right false e = e
 
 -- whole days keep the minutes of the day
-days-on : (a k : ℕ) → k % 1440 ≡ 0 → (a + k) % 1440 ≡ a % 1440
-days-on a k e = omega arith
-
-days-back : (a k : ℕ) → k ≤ a → k % 1440 ≡ 0 → (a - k) % 1440 ≡ a % 1440
-days-back a k h e = omega arith
+days-moved : (back : Bool) (k n limit : ℕ) → hasRoom back k n limit ≡ true → k % 1440 ≡ 0 → moved back k n % 1440 ≡ n % 1440
+days-moved true k n limit h e = let most = leb-true k n h in omega arith
+days-moved false k n limit h e = omega arith
 
 -- a property of moments that steps keep: another date, another minute (of another time of day where `sub` is true)
-record Kept (M : Moment → Type 0) (sub : Bool) : Type 0 where
+pub record Kept (M : Moment → Type 0) (sub : Bool) : Type 0 where
   valid : (t : Moment) → M t → IsMoment t
   dated : (t : Moment) (y m d : ℕ) → M t → IsDate y m d → M (withDate y m d t)
   minute : (t : Moment) (n : ℕ) → M t → n < minutes → (sub ≡ true) ⊎ (n % 1440 ≡ minuteNumber t % 1440) → M (atMinute n t)
 
 module _ {M : Moment → Type 0} {sub : Bool} (kept : Kept M sub) where
-  minutes-lead : (back : Bool) (k : ℕ) (t : Moment) → M t → (sub ≡ true) ⊎ (k % 1440 ≡ 0) → Leads M (minutesStep back k t)
-  unfolding later earlier
-  minutes-lead true k t h s =
-      within M (leb k (minuteNumber t)) _ (λ e.
-      let most = leb-true k (minuteNumber t) e in
+  pub minutes-lead : (back : Bool) (k : ℕ) (t : Moment) → M t → (sub ≡ true) ⊎ (k % 1440 ≡ 0) → Leads M (minutesStep back k t)
+  unfolding minutesStep
+  minutes-lead back k t h s =
+      let n = minuteNumber t in
       let below = minute-below t (kept .valid t h) in
-      kept .minute t (minuteNumber t - k) h (omega arith) (⊎-elim inl (λ z. inr (days-back (minuteNumber t) k most z)) s))
-  minutes-lead false k t h s =
-      within M (ltb (minuteNumber t + k) minutes) _ (λ e.
-      kept .minute t (minuteNumber t + k) h (ltb-true _ _ e) (⊎-elim inl (λ z. inr (days-on (minuteNumber t) k z)) s))
+      tested (hasRoom back k n minutes) _ _
+      (λ e. leads (kept .minute t _ h (below-limit back k n minutes below e) (⊎-elim inl (λ z. inr (days-moved back k n minutes e z)) s)))
+      (refuses refl)
 
-  months-lead : (back : Bool) (k : ℕ) (t : Moment) → M t → Leads M (unitStep back k Month t)
-  unfolding monthsLater monthsEarlier
-  months-lead true k t h =
+  pub months-lead : (back : Bool) (k : ℕ) (t : Moment) → M t → Leads M (unitStep back k Month t)
+  unfolding monthsStep
+  months-lead back k t h =
+      let n = monthNumber t in
       let v = kept .valid t h in
-      within M (leb k (monthNumber t)) _ (λ e.
-      kept .dated t _ _ _ h (in-month-moment (monthNumber t - k) t (omega (arith, month-below t v)) v .date))
-  months-lead false k t h =
-      within M (ltb (monthNumber t + k) months) _ (λ e.
-      kept .dated t _ _ _ h (in-month-moment (monthNumber t + k) t (ltb-true _ _ e) (kept .valid t h) .date))
+      tested (hasRoom back k n months) _ _
+      (λ e. leads (kept .dated t _ _ _ h (in-month-moment _ t (below-limit back k n months (month-below t v) e) v .date))) (refuses refl)
 
-  in-year-leads : (y : ℕ) (t : Moment) → M t → 1 ≤ y → y ≤ 9999 → Leads M (inYear y t)
-  in-year-leads y t h low high =
-      let v = kept .valid t h .date in
-      tested (leb (t .day) (monthLength (leapYear y) (t .month))) _ _
-      (λ e.
-      leads (
-      kept .dated t y (t .month) (t .day) h (
-      record {
-        year-low = low;
-        year-high = high;
-        month-low = v .month-low;
-        month-high = v .month-high;
-        day-low = v .day-low;
-        day-high = leb-true _ _ e;
-      }
-      )
-      ))
-      (refuses refl)
+  in-year-leads : (n : ℕ) (t : Moment) → M t → n < years → Leads M (inYear n t)
+  in-year-leads n t h below =
+      tested (leb (t .day) (monthLength (leapYear (n + 1)) (t .month))) _ _
+      (λ e. leads (kept .dated t _ _ _ h (in-year-date t (kept .valid t h) below (leb-true _ _ e)))) (refuses refl)
 
-  years-lead : (back : Bool) (k : ℕ) (t : Moment) → M t → Leads M (unitStep back k Year t)
-  unfolding yearsLater yearsEarlier
-  years-lead true k t h =
-      let v = kept .valid t h .date in
-      tested (ltb k (t .year)) _ _
-      (λ e. let below = ltb-true k (t .year) e in in-year-leads _ t h (omega arith) (omega (arith, v .year-high)))
-      (refuses refl)
-  years-lead false k t h =
-      let v = kept .valid t h .date in
-      tested (leb (t .year + k) 9999) _ _
-      (λ e. in-year-leads _ t h (omega (arith, v .year-low)) (leb-true _ _ e)) (refuses refl)
+  pub years-lead : (back : Bool) (k : ℕ) (t : Moment) → M t → Leads M (unitStep back k Year t)
+  unfolding yearsStep
+  years-lead back k t h =
+      let n = yearNumber t in
+      tested (hasRoom back k n years) _ _
+      (λ e. in-year-leads _ t h (below-limit back k n years (omega (arith, kept .valid t h .date)) e)) (refuses refl)
 
   -- a unit
   unit-leads :
@@ -139,7 +110,7 @@ module _ {M : Moment → Type 0} {sub : Bool} (kept : Kept M sub) where
 
   part-leads : (back : Bool) (p : Part) (t : Moment) → (isSubDailyPart p ≡ true → sub ≡ true) → M t → Leads M (partStep back p t)
   part-leads back (Article u) t s h = unit-leads back 1 u t s h
-  part-leads back (Specific k u) t s h = unit-leads back k u t s h
+  part-leads back (Specific u k) t s h = unit-leads back k u t s h
 
   -- a duration
   duration-leads :
@@ -150,7 +121,7 @@ module _ {M : Moment → Type 0} {sub : Bool} (kept : Kept M sub) where
       (λ u w. duration-leads back d u (λ e. s (or-right (isSubDailyPart p) e)) w)
 
 -- the moments of the calendar are kept
-kept-moment : Kept IsMoment true
+pub kept-moment : Kept IsMoment true
 kept-moment = record {
   valid = λ t v. v;
   dated = λ t y m d v w. record { date = w; time = v .time };
@@ -166,7 +137,7 @@ module _ (t : Moment) (v : IsMoment t) where
       tested (isDate y m d) _ _ (λ e. leads (record { date = test-date y m d e; time = v .time })) (refuses refl))
       (refuses refl)
 
-  date-leads : (d : Date) → Leads IsMoment (dateAt d t)
+  pub date-leads : (d : Date) → Leads IsMoment (dateAt d t)
   date-leads Today = leads v
   date-leads Yesterday = minutes-lead kept-moment true 1440 t v (inl refl)
   date-leads Tomorrow = minutes-lead kept-moment false 1440 t v (inl refl)
@@ -178,15 +149,15 @@ module _ (t : Moment) (v : IsMoment t) where
   date-leads (DayMonthYear d m y) = stated-leads y m d
   date-leads NoDate = leads v
 
-  on-day-leads : (n : ℕ) → Leads IsMoment (onDay n t)
+  pub on-day-leads : (n : ℕ) → Leads IsMoment (onDay n t)
   unfolding onDay
-  on-day-leads n = within IsMoment (ltb n days) _ (λ e. at-day-moment n t (ltb-true n days e) v)
+  on-day-leads n = tested (ltb n days) _ _ (λ e. leads (at-day-moment n t (ltb-true n days e) v)) (refuses refl)
 
-  days-back-lead : (n b : ℕ) → Leads IsMoment (daysBack n b t)
+  pub days-back-lead : (n b : ℕ) → Leads IsMoment (daysBack n b t)
   unfolding daysBack
   days-back-lead n b = tested (leb b n) _ _ (λ _. on-day-leads (n - b)) (refuses refl)
 
-  week-leads : (s : RelativeSpecifier) (w : ℕ) → Leads IsMoment (inWeek s w t)
+  pub week-leads : (s : RelativeSpecifier) (w : ℕ) → Leads IsMoment (inWeek s w t)
   week-leads This w = on-day-leads _
   week-leads Next w = on-day-leads _
   week-leads Last w = days-back-lead _ _
@@ -226,7 +197,7 @@ stated-time-leads b h m t v =
     (λ e. leads (record { date = v .date; time = test-time h m 0 (and-eq-true-iff b _ .0 e .1) })) (refuses refl)
 
 -- where a time of day leads
-time-leads : (x : Time) (n t : Moment) → IsMoment n → IsMoment t → Leads IsMoment (timeAt x n t)
+pub time-leads : (x : Time) (n t : Moment) → IsMoment n → IsMoment t → Leads IsMoment (timeAt x n t)
 time-leads NoTime n t w v = leads (record { date = v .date; time = w .time })
 time-leads (HourMin h m) n t w v = stated-time-leads true h m t v
 time-leads (HourMinAM h m) n t w v = stated-time-leads (inRange h 1 12) (h % 12) m t v

@@ -6,14 +6,14 @@ use mathlib.Core.List.{List, [], _∷_, map}
 use Rattle.lexer.specs.Words.{Word}
 use Rattle.calendar.specs.Gregorian.{leapYear, monthLength}
 use Rattle.calendar.specs.Moments.{Outcome, moment, refused, isDate, isTime, isMoment, firstMoment, withDate, withTime}
-use Rattle.calendar.specs.declared.Moment.{Moment}
+use Rattle.calendar.specs.declared.moments.Moment.{Moment}
 use Rattle.dates.specs.declared.units.Unit.the-variants.{Month}
 use Rattle.dates.specs.declared.units.RelativeSpecifier.the-variants.{This}
 use Rattle.dates.specs.declared.time.Time.the-variants.{Empty}
 use Rattle.expressions.specs.Tree.{unitRelative}
 use Rattle.phrase.specs.Tree.{dateTime, now}
 use Rattle.phrase.specs.Read.{ReadPhrase, refusal, tree, readOf}
-use Rattle.evaluation.specs.Refusals.{NoNow}
+use Rattle.refusals.specs.Table.{NoNow}
 use Rattle.evaluation.specs.Evaluate.{evaluate}
 use Rattle.evaluation.specs.Cases.{A}
 use Rattle.answer.specs.declared.Answered.{Answered}

@@ -19,14 +19,14 @@ use Rattle.dates.specs.Dates.{dateOf}
 use Rattle.dates.specs.Times.{minuteOf, halfOf, clockOf, timeOf}
 use Rattle.expressions.specs.DateExprs.{inTailOf, durationTailOf, tailOf, withDurationOf, relativeExprOf, weekdayExprOf, undatedOf}
 use Rattle.expressions.specs.DateExprs.{dateExprOf}
-use Rattle.phrase.specs.DateTimes.{withExprOf, withDurationOf as durationTurnOf, withTimeOf, timedTurnOf, undatedTurnOf, turnOf}
+use Rattle.phrase.specs.DateTimes.{timeBehindOf, withDurationOf as durationTurnOf, timedTurnOf, undatedTurnOf, turnOf}
 use Rattle.phrase.specs.DateTimes.{dateTimeStep, dateTimeOf}
 use Rattle.phrase.specs.Read.{readOf}
 use Rattle.calendar.specs.Gregorian.{leapYear, monthLength, daysBeforeMonth, daysOfYears, dayNumber}
 use Rattle.calendar.specs.Gregorian.{yearsBefore, yearOf, dayOfYear, monthOf, monthOfDay, dayOf}
 use Rattle.calendar.specs.Moments.{isDate, isTime, isMoment, withDate, withTime}
-use Rattle.calendar.specs.Moments.{onDay, later, earlier, monthsLater, monthsEarlier, yearsLater, yearsEarlier}
-use Rattle.calendar.specs.declared.Moment.{Moment}
+use Rattle.calendar.specs.Moments.{onDay, minutesStep, monthsStep, yearsStep}
+use Rattle.calendar.specs.declared.moments.Moment.{Moment}
 use Rattle.evaluation.specs.Weekdays.{daysBack}
 use Rattle.evaluation.specs.Evaluate.{evaluate}
 use Rattle.answer.specs.Answer.{Answer, at, refusedAt, answerOf}
@@ -75,8 +75,8 @@ unfolding starred keywords classOf markOf numberOf wordAt numberAt tokenAt lexed
     literalOf onesOf teensOf tensOf tensOnesOf numDoubleOf sumOf hundredsOf numTailOf numTripleOf numTripleUnitOf unitsOf numStep numOf
     isArticle unitOf namedMonthOf weekdayOf relativeSpecifierOf specificOf articleOf concreteOf durationStep durationOf namedDayOf
     dayMonthYearOf monthDayOf isDelim threeNumbersOf twoNumbersOf behindSecondOf delimitedOf dateOf minuteOf halfOf clockOf timeOf
-    inTailOf durationTailOf tailOf withDurationOf relativeExprOf weekdayExprOf undatedOf dateExprOf withExprOf durationTurnOf withTimeOf
+    inTailOf durationTailOf tailOf withDurationOf relativeExprOf weekdayExprOf undatedOf dateExprOf timeBehindOf durationTurnOf
     timedTurnOf undatedTurnOf turnOf dateTimeStep dateTimeOf readOf leapYear monthLength daysBeforeMonth daysOfYears dayNumber yearsBefore
-    yearOf dayOfYear monthOf monthOfDay dayOf isDate isTime isMoment onDay later earlier monthsLater monthsEarlier yearsLater yearsEarlier
+    yearOf dayOfYear monthOf monthOfDay dayOf isDate isTime isMoment onDay minutesStep monthsStep yearsStep
     daysBack evaluate answerOf
 starred-as-listed = refl

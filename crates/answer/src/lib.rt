@@ -1,12 +1,12 @@
 // A phrase at a now.
-use calendar::Moment;
+use calendar::moments::Moment;
+use calendar::moments::Reached;
 use evaluation::reading::evaluate;
-use evaluation::refusal::NO_NOW;
-use evaluation::step::Reached;
 use phrase::read::read;
+use refusals::NO_NOW;
 ghost use mathlib.Core.Path.{_≡_};
 ghost use Rattle.lexer.specs.Keywords.{keywords};
-ghost use Rattle.evaluation.specs.Steps.{reachedOf};
+ghost use Rattle.calendar.specs.Moments.{reachedOf};
 ghost use Rattle.answer.specs.Answer.{momentOf, answerFrom, placed, answerOf};
 
 // A moment, or a refusal's number, its place in the phrase and the end of its part.

@@ -2,7 +2,7 @@
 use mathlib.Core.Path.{_≡_}
 use mathlib.Core.Bool.{Bool, true, _&&_, and-eq-true-iff}
 use mathlib.Core.Logic.{_⊎_, inl, inr, ⊎-elim}
-use Prim.Native.Nat.{ℕ, zero, suc, _+_, _-_, _≤_, _<_}
+use Prim.Native.Nat.{ℕ, zero, suc, _≤_, _<_}
 use native.Mathlib.Nat.{not-suc-le-zero, eq-or-lt-of-le, le-of-suc-le-suc}
 use native.Mathlib.Omega.{arith}
 
@@ -15,14 +15,6 @@ le-or-lt (suc a) (suc b) = ⊎-elim (λ p. inl (omega arith)) (λ q. inr (omega 
 -- below b, b itself, or above it
 pub trichotomy : (a b : ℕ) → (a < b) ⊎ ((a ≡ b) ⊎ (b < a))
 trichotomy a b = ⊎-elim (λ p. ⊎-elim (λ e. inr (inl e)) inl (eq-or-lt-of-le p)) (λ q. inr (inr q)) (le-or-lt a b)
-
--- what is below the room that is left can be added
-pub room : (n k m : ℕ) → k < m - n → n + k < m
-room n k m h = omega arith
-
--- and nothing more
-pub no-room : (n k m : ℕ) → m - n ≤ k → m ≤ n + k
-no-room n k m h = omega arith
 
 -- f holds at each number below n
 abbrev pub all-below : (ℕ → Bool) → ℕ → Bool

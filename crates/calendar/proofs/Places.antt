@@ -1,21 +1,17 @@
--- The moments that steps lead to, at a day, a minute and a month: they are moments, and a moment's own place is itself.
+-- The moments that steps lead to, at a day, a minute, a month and a year: they are moments, and a moment's own place is itself.
 use mathlib.Core.Path.{_≡_}
-use Prim.Native.Nat.{ℕ, _+_, _*_, _/_, _%_, _<_, min}
+use Prim.Native.Nat.{ℕ, _+_, _*_, _/_, _%_, _≤_, _<_, min}
 use native.Mathlib.Omega.{arith}
-use Rattle.calendar.specs.Gregorian.{leapYear, monthLength, days}
+use Rattle.calendar.specs.Gregorian.{leapYear, monthLength, days, IsDate}
 use Rattle.calendar.specs.Moments.{IsMoment, dayOfMoment, atDay, minuteNumber, minutes, atMinute}
-use Rattle.calendar.specs.Moments.{monthNumber, months, inMonth}
-use Rattle.calendar.specs.declared.Moment.{Moment}
+use Rattle.calendar.specs.Moments.{monthNumber, months, inMonth, years}
+use Rattle.calendar.specs.declared.moments.Moment.{Moment}
 use Rattle.calendar.proofs.Months.{month}
 use Rattle.calendar.proofs.Dates.{is-date, in-days, day-date, date-day}
 
 -- the same time on a day of the calendar is a moment
 pub at-day-moment : (n : ℕ) (t : Moment) → n < days → IsMoment t → IsMoment (atDay n t)
 at-day-moment n t h v = record { date = is-date n h; time = v .time }
-
--- of that day
-pub day-at : (n : ℕ) (t : Moment) → dayOfMoment (atDay n t) ≡ n
-day-at n t = day-date n
 
 -- and on the moment's own day it is the moment itself
 pub at-own-day : (t : Moment) → IsMoment t → atDay (dayOfMoment t) t ≡ t
@@ -83,3 +79,15 @@ in-own-month t v =
     let month : monthNumber t % 12 + 1 ≡ t .month = omega (arith, d) in
     let day : min (t .day) (monthLength (leapYear (t .year)) (t .month)) ≡ t .day = omega (arith, d) in
     rw (year, month, day)
+
+-- a moment's month and day in a year of the calendar that has the day are a date
+pub in-year-date : {n : ℕ} (t : Moment) → IsMoment t → n < years → t .day ≤ monthLength (leapYear (n + 1)) (t .month) →
+    IsDate (n + 1) (t .month) (t .day)
+in-year-date t v h l = record {
+  year-low = omega arith;
+  year-high = omega arith;
+  month-low = v .date .month-low;
+  month-high = v .date .month-high;
+  day-low = v .date .day-low;
+  day-high = l;
+}

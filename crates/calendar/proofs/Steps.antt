@@ -1,56 +1,40 @@
--- Steps: what each answers, a step of nothing, and two steps in a row.
-use mathlib.Core.Path.{_≡_, refl, sym, ap, subst, _∙_}
+-- What each step answers, and two steps of minutes in a row.
+use mathlib.Core.Path.{_≡_, refl}
 use mathlib.Core.Bool.{Bool, true, false, cond}
 use mathlib.Core.Logic.{_⊎_, inl, inr, ⊎-elim}
-use Prim.Native.Nat.{ℕ, _+_, _-_, _≤_, _<_}
+use Prim.Native.Nat.{ℕ, _+_, _≤_, _<_}
 use native.Mathlib.Omega.{arith}
-use native.Mathlib.Nat.{add-zero, sub-zero, add-assoc, sub-add-eq}
-use lib.Dec.{eqb, leb, ltb, lit<}
-use borrow.Author.Tests.{leb-true, leb-false, ltb-true, ltb-false, le-leb, lt-leb, lt-ltb, le-ltb}
+use lib.Dec.{leb, ltb, lit<}
+use borrow.Author.Tests.{leb-true, leb-false, ltb-true, ltb-false}
+use Rattle.refusals.specs.Table as refusal
 use Rattle.calendar.specs.Gregorian.{leapYear, monthLength, days}
-use Rattle.calendar.specs.Moments.{IsMoment, Outcome, moment, refused, outcomeOf, inside, andThen, withDate, onDay}
-use Rattle.calendar.specs.Moments.{minuteNumber, minutes, later, earlier, monthNumber, months}
-use Rattle.calendar.specs.Moments.{monthsLater, monthsEarlier, inYear, yearsLater, yearsEarlier}
-use Rattle.calendar.specs.declared.Moment.{Moment}
-use Rattle.calendar.specs.declared.Step.{Step}
-use Rattle.calendar.specs.declared.Step.the-variants.{At, Outside, NoDay}
-use Rattle.calendar.proofs.Below.{le-or-lt}
+use Rattle.calendar.specs.Moments.{IsMoment, Outcome, moment, refused, Valid, andThen, onDay, moved, hasRoom}
+use Rattle.calendar.specs.Moments.{stepAlong, movedWithin, minuteNumber, minutes, atMinute, minutesStep, monthNumber, months, inMonth}
+use Rattle.calendar.specs.Moments.{monthsStep, yearNumber, years, inYear, yearsStep}
+use Rattle.calendar.specs.declared.moments.Moment.{Moment}
+use Rattle.calendar.proofs.Rooms.{Past, no-room, not-past, below-limit, landed, left-row, moved-twice, room-twice, no-room-twice}
 use Rattle.calendar.proofs.Months.{lost-day}
-use Rattle.calendar.proofs.Places.{at-day-moment, minute-below, at-minute-moment, minute-at, at-own-minute}
-use Rattle.calendar.proofs.Places.{month-below, in-month-moment, in-own-month}
+use Rattle.calendar.proofs.Places.{at-day-moment, minute-below, at-minute-moment, minute-at, month-below, in-month-moment}
+use Rattle.calendar.proofs.Places.{in-year-date}
+use Rattle.calendar.proofs.Outcomes.{moment-valid, refused-valid}
 
--- the step that an outcome stands for
-stepOf : Outcome → Step
-stepOf (moment t) = At t
-stepOf (refused n) = cond (eqb n 12) Outside NoDay
+-- exactly what is due: a moment of the calendar where no refusal is, or a refusal that is
+pub data Exact (Due : ℕ → Type 0) : Outcome → Type 0 where
+  reached : {u : Moment} → IsMoment u → ((n : ℕ) → Due n → ⊥) → Exact Due (moment u)
+  refuses : {n : ℕ} → Due n → Exact Due (refused n)
 
-step-of : (s : Step) → stepOf (outcomeOf s) ≡ s
-unfolding stepOf
-step-of (At t) = refl
-step-of Outside = refl
-step-of NoDay = refl
+-- so it is valid
+exact-valid : {Due : ℕ → Type 0} {o : Outcome} → Exact Due o → Valid o
+exact-valid (reached v free) = moment-valid v
+exact-valid (refuses due) = refused-valid _
 
--- a step is determined by its outcome, and so by a promise of its outcome
-pub determined : (r s : Step) → outcomeOf r ≡ outcomeOf s → r ≡ s
-determined r s e = sym (step-of r) ∙ ap stepOf e ∙ step-of s
+-- and so is what code answers with it
+pub told : {Due : ℕ → Type 0} {r o : Outcome} → Exact Due o → r ≡ o → (r ≡ o) × Valid r
+told a e = (e, rw e (exact-valid a))
 
--- an answer is a moment of the calendar where no refusal is due, or a refusal that is due
-pub data Answer (Due : ℕ → Type 0) : Outcome → Type 0 where
-  answered : {u : Moment} → IsMoment u → ((n : ℕ) → Due n → ⊥) → Answer Due (moment u)
-  refuses : {n : ℕ} → Due n → Answer Due (refused n)
-
--- a moment that is answered is one of the calendar
-pub answer-moment : {Due : ℕ → Type 0} {o : Outcome} {u : Moment} → Answer Due o → o ≡ moment u → IsMoment u
-answer-moment {u = u} (answered {u = w} v free) e = let same : w ≡ u = cc in subst IsMoment same v
-answer-moment (refuses due) e = let z : _≡_ {A = ℕ} 0 1 = cc in absurd (omega arith)
-
--- and so is one that code got from a step
-pub step-moment : {Due : ℕ → Type 0} {o : Outcome} {s : Step} {u : Moment} → Answer Due o → outcomeOf s ≡ o → s ≡ At u → IsMoment u
-step-moment a p e = answer-moment a (sym p ∙ ap outcomeOf e)
-
--- an answer by a test
-either : (Due : ℕ → Type 0) (b : Bool) (p q : Outcome) → (b ≡ true → Answer Due p) → (b ≡ false → Answer Due q) →
-    Answer Due (cond b p q)
+-- by a test
+either : (Due : ℕ → Type 0) (b : Bool) (p q : Outcome) → (b ≡ true → Exact Due p) → (b ≡ false → Exact Due q) →
+    Exact Due (cond b p q)
 either Due true p q f g = f refl
 either Due false p q f g = g refl
 
@@ -58,42 +42,34 @@ either Due false p q f g = g refl
 abbrev pub Only : ℕ → Type 0 → ℕ → Type 0
 Only k C n = (n ≡ k) × C
 
--- 12 where n reaches the limit
-below-answer : (n limit : ℕ) (u : Moment) → (n < limit → IsMoment u) → Answer (Only 12 (limit ≤ n)) (inside (ltb n limit) u)
-below-answer n limit u f =
-    either _ (ltb n limit) _ _
-    (λ e. let h = ltb-true n limit e in answered (f h) (λ _ due. omega arith)) (λ e. refuses (refl, ltb-false _ _ e))
-
--- 12 where k is more than there is
-within-answer : (k n : ℕ) (u : Moment) → (k ≤ n → IsMoment u) → Answer (Only 12 (n < k)) (inside (leb k n) u)
-within-answer k n u f =
-    either _ (leb k n) _ _
-    (λ e. let h = leb-true k n e in answered (f h) (λ _ due. omega arith)) (λ e. refuses (refl, leb-false _ _ e))
-
 -- a day: 12 exactly where it is past the last
-pub on-day-answer : (n : ℕ) (t : Moment) → IsMoment t → Answer (Only 12 (days ≤ n)) (onDay n t)
+pub on-day-exact : (n : ℕ) (t : Moment) → IsMoment t → Exact (Only refusal.Outside (days ≤ n)) (onDay n t)
 unfolding onDay
-on-day-answer n t v = below-answer n days _ (λ h. at-day-moment n t h v)
+on-day-exact n t v =
+    either _ (ltb n days) _ _
+    (λ e. let h = ltb-true n days e in reached (at-day-moment n t h v) (λ _ due. omega arith)) (λ e. refuses (refl, ltb-false _ _ e))
 
--- minutes on: 12 exactly where they pass the last minute
-pub later-answer : (k : ℕ) (t : Moment) → IsMoment t → Answer (Only 12 (minutes ≤ minuteNumber t + k)) (later k t)
-unfolding later
-later-answer k t v = below-answer (minuteNumber t + k) minutes _ (λ h. at-minute-moment _ t h v)
+-- a step along a row of moments of the calendar: 12 exactly where it goes past them
+along-exact : (back : Bool) (k n limit : ℕ) (place : ℕ → Moment) → n < limit → ((m : ℕ) → m < limit → IsMoment (place m)) →
+    Exact (Only refusal.Outside (Past back k n limit)) (stepAlong back k n limit (λ m. moment (place m)))
+along-exact back k n limit place h f =
+    either _ (hasRoom back k n limit) _ _
+    (λ e. reached (f _ (below-limit back k n limit h e)) (λ _ due. not-past back k n limit e (due .1)))
+    (λ e. refuses (refl, no-room back k n limit e))
 
--- minutes back: 12 exactly where they are more than have passed
-pub earlier-answer : (k : ℕ) (t : Moment) → IsMoment t → Answer (Only 12 (minuteNumber t < k)) (earlier k t)
-unfolding earlier
-earlier-answer k t v = within-answer k (minuteNumber t) _ (λ h. at-minute-moment _ t (omega (arith, minute-below t v)) v)
+-- minutes: 12 exactly where they go past the first or the last one
+pub minutes-exact : (back : Bool) (k : ℕ) (t : Moment) → IsMoment t →
+    Exact (Only refusal.Outside (Past back k (minuteNumber t) minutes)) (minutesStep back k t)
+unfolding minutesStep
+minutes-exact back k t v =
+    along-exact back k (minuteNumber t) minutes (λ m. atMinute m t) (minute-below t v) (λ m h. at-minute-moment m t h v)
 
--- months on: 12 exactly where they pass the last month
-pub months-later-answer : (k : ℕ) (t : Moment) → IsMoment t → Answer (Only 12 (months ≤ monthNumber t + k)) (monthsLater k t)
-unfolding monthsLater
-months-later-answer k t v = below-answer (monthNumber t + k) months _ (λ h. in-month-moment _ t h v)
-
--- months back: 12 exactly where they are more than have passed
-pub months-earlier-answer : (k : ℕ) (t : Moment) → IsMoment t → Answer (Only 12 (monthNumber t < k)) (monthsEarlier k t)
-unfolding monthsEarlier
-months-earlier-answer k t v = within-answer k (monthNumber t) _ (λ h. in-month-moment _ t (omega (arith, month-below t v)) v)
+-- months: the same
+pub months-exact : (back : Bool) (k : ℕ) (t : Moment) → IsMoment t →
+    Exact (Only refusal.Outside (Past back k (monthNumber t) months)) (monthsStep back k t)
+unfolding monthsStep
+months-exact back k t v =
+    along-exact back k (monthNumber t) months (λ m. inMonth m t) (month-below t v) (λ m h. in-month-moment m t h v)
 
 -- a 29 February that year y does not have
 pub record LostDay (t : Moment) (y : ℕ) : Type 0 where
@@ -103,7 +79,7 @@ pub record LostDay (t : Moment) (y : ℕ) : Type 0 where
 
 -- what a year step is refused for: 12 where the year is outside, else 13 where the day is lost
 abbrev pub ForYear : Type 0 → Moment → ℕ → ℕ → Type 0
-ForYear C t y n = Only 12 C n ⊎ Only 13 ((C → ⊥) × LostDay t y) n
+ForYear C t y n = Only refusal.Outside C n ⊎ Only refusal.NoLeapDay ((C → ⊥) × LostDay t y) n
 
 -- a lost day is past its month's end
 lost-past : {t : Moment} {y : ℕ} → LostDay t y → monthLength (leapYear y) (t .month) < t .day
@@ -111,98 +87,74 @@ unfolding monthLength
 lost-past l = rw (l .month, l .day, l .common) (lit< tt)
 
 -- the same month and day in a year of the calendar
-in-year-answer : (C : Type 0) (y : ℕ) (t : Moment) → IsMoment t → 1 ≤ y → y ≤ 9999 → (C → ⊥) → Answer (ForYear C t y) (inYear y t)
-in-year-answer C y t v low high not-out =
-    either _ (leb (t .day) (monthLength (leapYear y) (t .month))) _ _
-    (λ e. let h = leb-true (t .day) (monthLength (leapYear y) (t .month)) e in
-    answered (moved h) (λ _. ⊎-elim (λ due. not-out (due .1)) (λ due. omega (arith, lost-past (due .1 .1)))))
+in-year-exact : (C : Type 0) (n : ℕ) (t : Moment) → IsMoment t → n < years → (C → ⊥) → Exact (ForYear C t (n + 1)) (inYear n t)
+in-year-exact C n t v h not-out =
+    either _ (leb (t .day) (monthLength (leapYear (n + 1)) (t .month))) _ _
+    (λ e. let l = leb-true (t .day) (monthLength (leapYear (n + 1)) (t .month)) e in
+    reached (record { date = in-year-date t v h l; time = v .time })
+    (λ _. ⊎-elim (λ due. not-out (due .1)) (λ due. omega (arith, lost-past (due .1 .1)))))
     (λ e. refuses (inr (refl, (not-out, lost (lost-day _ _ _ _ (leb-false _ _ e) (v .date .day-high))))))
   where
-    moved : t .day ≤ monthLength (leapYear y) (t .month) → IsMoment (withDate y (t .month) (t .day) t)
-    moved h = record {
-      date = record {
-        year-low = low;
-        year-high = high;
-        month-low = v .date .month-low;
-        month-high = v .date .month-high;
-        day-low = v .date .day-low;
-        day-high = h;
-      };
-      time = v .time;
-    }
-
-    lost : (t .month ≡ 2) × (t .day ≡ 29) × (leapYear y ≡ false) → LostDay t y
+    lost : (t .month ≡ 2) × (t .day ≡ 29) × (leapYear (n + 1) ≡ false) → LostDay t (n + 1)
     lost l = record { month = l .0; day = l .1; common = l .2 }
 
--- years on: 12 exactly where the year is past 9999, else 13 exactly for 29 February into a common year
-pub years-later-answer : (k : ℕ) (t : Moment) → IsMoment t → Answer (ForYear (9999 < t .year + k) t (t .year + k)) (yearsLater k t)
-unfolding yearsLater
-years-later-answer k t v =
-    either _ (leb (t .year + k) 9999) _ _
-    (λ e. let h = leb-true (t .year + k) 9999 e in in-year-answer _ _ t v (omega (arith, v .date)) h (λ out. omega arith))
-    (λ e. refuses (inl (refl, leb-false _ _ e)))
+-- years: 12 exactly where they go past 1 or 9999, else 13 exactly for 29 February into a common year
+pub years-exact : (back : Bool) (k : ℕ) (t : Moment) → IsMoment t →
+    Exact (ForYear (Past back k (yearNumber t) years) t (moved back k (yearNumber t) + 1)) (yearsStep back k t)
+unfolding yearsStep
+years-exact back k t v =
+    either _ (hasRoom back k (yearNumber t) years) _ _
+    (λ e. in-year-exact _ _ t v (below-limit back k _ _ (omega (arith, v .date)) e) (not-past back k _ _ e))
+    (λ e. refuses (inl (refl, no-room back k _ _ e)))
 
--- years back: the same, with 12 where the year is before 1
-pub years-earlier-answer : (k : ℕ) (t : Moment) → IsMoment t → Answer (ForYear (t .year ≤ k) t (t .year - k)) (yearsEarlier k t)
-unfolding yearsEarlier
-years-earlier-answer k t v =
-    either _ (ltb k (t .year)) _ _
-    (λ e. let h = ltb-true k (t .year) e in in-year-answer _ _ t v (omega arith) (omega (arith, v .date)) (λ out. omega arith))
-    (λ e. refuses (inl (refl, ltb-false _ _ e)))
+-- what code answers, from the number that it got: what is at that place of the row, or 12 for the number past it
+module _ {Due : ℕ → Type 0} (back : Bool) (k n limit : ℕ) (at : ℕ → Outcome) (a : Exact Due (stepAlong back k n limit at)) {r : ℕ} where
+  at-place : r ≡ movedWithin back k n limit → r < limit → (at r ≡ stepAlong back k n limit at) × Valid (at r)
+  at-place e l = let w = landed back k n limit e l in told a (rw (w .0, w .1))
 
--- a step of nothing is the moment itself: minutes on
-pub later-zero : (t : Moment) → IsMoment t → later 0 t ≡ moment t
-unfolding later
-later-zero t v = rw (add-zero, lt-ltb _ _ (minute-below t v), at-own-minute t v)
+  past-row : n < limit → r ≡ movedWithin back k n limit → limit ≤ r →
+      (refused refusal.Outside ≡ stepAlong back k n limit at) × Valid (refused refusal.Outside)
+  past-row h e l = told a (rw (left-row back k n limit h e l))
 
--- minutes back
-pub earlier-zero : (t : Moment) → IsMoment t → earlier 0 t ≡ moment t
-unfolding earlier
-earlier-zero t v = rw (sub-zero, le-leb 0 (minuteNumber t) (omega arith), at-own-minute t v)
+module _ (back : Bool) (k : ℕ) (t : Moment) (v : IsMoment t) {r : ℕ} where
+  pub minutes-in : r ≡ movedWithin back k (minuteNumber t) minutes → r < minutes →
+      (moment (atMinute r t) ≡ minutesStep back k t) × Valid (moment (atMinute r t))
+  unfolding minutesStep
+  minutes-in = at-place back k (minuteNumber t) minutes (λ m. moment (atMinute m t)) (minutes-exact back k t v)
 
--- months on
-pub months-later-zero : (t : Moment) → IsMoment t → monthsLater 0 t ≡ moment t
-unfolding monthsLater
-months-later-zero t v = rw (add-zero, lt-ltb _ _ (month-below t v), in-own-month t v)
+  pub minutes-out : r ≡ movedWithin back k (minuteNumber t) minutes → minutes ≤ r →
+      (refused refusal.Outside ≡ minutesStep back k t) × Valid (refused refusal.Outside)
+  unfolding minutesStep
+  minutes-out = past-row back k (minuteNumber t) minutes (λ m. moment (atMinute m t)) (minutes-exact back k t v) (minute-below t v)
 
--- months back
-pub months-earlier-zero : (t : Moment) → IsMoment t → monthsEarlier 0 t ≡ moment t
-unfolding monthsEarlier
-months-earlier-zero t v = rw (sub-zero, le-leb 0 (monthNumber t) (omega arith), in-own-month t v)
+  pub months-in : r ≡ movedWithin back k (monthNumber t) months → r < months →
+      (moment (inMonth r t) ≡ monthsStep back k t) × Valid (moment (inMonth r t))
+  unfolding monthsStep
+  months-in = at-place back k (monthNumber t) months (λ m. moment (inMonth m t)) (months-exact back k t v)
 
--- years on
-pub years-later-zero : (t : Moment) → IsMoment t → yearsLater 0 t ≡ moment t
-unfolding yearsLater
-years-later-zero t v = rw (add-zero, le-leb _ _ (v .date .year-high), le-leb _ _ (v .date .day-high))
+  pub months-out : r ≡ movedWithin back k (monthNumber t) months → months ≤ r →
+      (refused refusal.Outside ≡ monthsStep back k t) × Valid (refused refusal.Outside)
+  unfolding monthsStep
+  months-out = past-row back k (monthNumber t) months (λ m. moment (inMonth m t)) (months-exact back k t v) (month-below t v)
 
--- years back
-pub years-earlier-zero : (t : Moment) → IsMoment t → yearsEarlier 0 t ≡ moment t
-unfolding yearsEarlier
-years-earlier-zero t v = rw (lt-ltb 0 (t .year) (v .date .year-low), sub-zero, le-leb _ _ (v .date .day-high))
+  pub years-in : r ≡ movedWithin back k (yearNumber t) years → r < years → (inYear r t ≡ yearsStep back k t) × Valid (inYear r t)
+  unfolding yearsStep
+  years-in = at-place back k (yearNumber t) years (λ m. inYear m t) (years-exact back k t v)
 
--- a minutes on and then b is a + b minutes on, with the same refusal
-pub later-later : (a b : ℕ) (t : Moment) → andThen (later a t) (later b) ≡ later (a + b) t
-unfolding later
-later-later a b t = ⊎-elim out in-reach (le-or-lt minutes (minuteNumber t + a))
+  pub years-out : r ≡ movedWithin back k (yearNumber t) years → years ≤ r →
+      (refused refusal.Outside ≡ yearsStep back k t) × Valid (refused refusal.Outside)
+  unfolding yearsStep
+  years-out = past-row back k (yearNumber t) years (λ m. inYear m t) (years-exact back k t v) (omega (arith, v .date))
+
+-- a minutes and then b of one direction are a + b minutes, with the same refusal
+pub minutes-twice : (back : Bool) (a b : ℕ) (t : Moment) → minutesStep back (a + b) t ≡ andThen (minutesStep back a t) (minutesStep back b)
+unfolding minutesStep
+minutes-twice back a b t = go (hasRoom back a n minutes) refl
   where
-    out : minutes ≤ minuteNumber t + a → andThen (later a t) (later b) ≡ later (a + b) t
-    out h = rw (le-ltb _ _ h, le-ltb (minuteNumber t + (a + b)) minutes (omega arith))
+    n : ℕ
+    n = minuteNumber t
 
-    in-reach : minuteNumber t + a < minutes → andThen (later a t) (later b) ≡ later (a + b) t
-    in-reach h = rw (lt-ltb _ _ h, minute-at (minuteNumber t + a) t, add-assoc)
-
--- a minutes back and then b is a + b minutes back, with the same refusal
-pub earlier-earlier : (a b : ℕ) (t : Moment) → andThen (earlier a t) (earlier b) ≡ earlier (a + b) t
-unfolding earlier
-earlier-earlier a b t = ⊎-elim in-reach out (le-or-lt a (minuteNumber t))
-  where
-    out : minuteNumber t < a → andThen (earlier a t) (earlier b) ≡ earlier (a + b) t
-    out h = rw (lt-leb _ _ h, lt-leb (a + b) (minuteNumber t) (omega arith))
-
-    tested : a ≤ minuteNumber t → leb b (minuteNumber t - a) ≡ leb (a + b) (minuteNumber t)
-    tested h =
-        ⊎-elim (λ l. le-leb _ _ l ∙ sym (le-leb (a + b) (minuteNumber t) (omega arith)))
-        (λ l. lt-leb _ _ l ∙ sym (lt-leb (a + b) (minuteNumber t) (omega arith))) (le-or-lt b (minuteNumber t - a))
-
-    in-reach : a ≤ minuteNumber t → andThen (earlier a t) (earlier b) ≡ earlier (a + b) t
-    in-reach h = rw (le-leb _ _ h, minute-at (minuteNumber t - a) t, tested h, ← sub-add-eq (minuteNumber t) a b)
+    go : (c : Bool) → hasRoom back a n minutes ≡ c →
+        minutesStep back (a + b) t ≡ andThen (cond c (moment (atMinute (moved back a n) t)) (refused refusal.Outside)) (minutesStep back b)
+    go true e = rw (minute-at (moved back a n) t, room-twice back a b n minutes e, moved-twice back a b n)
+    go false e = rw (no-room-twice back a b n minutes e)

@@ -1,58 +1,46 @@
 -- A piece read, its lines answered and its rest kept: together they are the next turn, and the turns are the loop. Assumes nothing.
-use Prim.Native.Nat.{ℕ, zero, suc, _+_, _-_, _≤_, _<_}
+use Prim.Native.Nat.{ℕ, _+_, _≤_, _<_}
 use native.Mathlib.Omega.{arith}
 use mathlib.Core.Path.{_≡_, refl, sym, ap, _∙_}
 use mathlib.Core.Bool.{Bool}
 use mathlib.Core.List.{List, [], _∷_, _++_, append-nil, append-assoc}
-use lib.ListN.{length, take, drop, length-take, length-drop}
-use lib.Seq.{sets, sets-eq, take-add, take-append-seam, take-nil, length-take-le}
+use lib.ListN.{length, take, drop}
+use lib.Seq.{sets, sets-eq, take-add, take-append-seam, length-take-le}
 use Rattle.text.specs.Lines.{restOf}
-use Rattle.text.specs.Texts.{Written}
-use Rattle.text.specs.Output.{passedText, passed, Placed, kept, lastText, output, inPieces, joined}
+use Rattle.text.specs.Output.{passedText, kept, pieceOf, Held, lastText, output, inPieces, joined}
 use Rattle.text.specs.declared.stream.Known.{Known}
 use Rattle.text.specs.declared.stream.Known.the-variants.{Nothing}
-use Rattle.text.specs.declared.stream.Passed.{Passed}
+use Rattle.text.specs.declared.stream.Piece.{Piece}
 use Rattle.text.proofs.Pieces.{in-pieces}
 use Rattle.console.specs.Turns.{ReadBehind, MoreTo, Reached, start, behind, Stands}
 
--- the end of a front
-drop-take : (a e : ℕ) (l : List ℕ) → a ≤ e → drop a (take e l) ≡ take (e - a) (drop a l)
-drop-take zero e l h = let all : e - 0 ≡ e = omega arith in rw all
-drop-take (suc a) zero l h = absurd (omega arith)
-drop-take (suc a) (suc e) [] h = sym (take-nil (suc e - suc a))
-drop-take (suc a) (suc e) (x ∷ l) h =
-    let less : suc e - suc a ≡ e - a = omega arith in
-    rw less (drop-take a e l (omega arith))
-
--- what was written at the front stands there
-front-written : {text before after : List ℕ} {r : ℕ} → Written text r before after → length text ≤ length before → take r after ≡ text
-front-written {text} {before} w h =
+-- what was stored at the front stands there
+front-written : (text before : List ℕ) {after : List ℕ} {r : ℕ} → r ≡ length text → after ≡ sets before 0 text → r ≤ length before → take r after ≡ text
+front-written text before counted stored h =
     let all : 0 + length text ≤ length before = omega arith in
-    rw (w .stored, w .count, sets-eq text before 0 all) (take-append-seam text (drop (0 + length text) before))
+    rw (stored, counted, sets-eq text before 0 all) (take-append-seam text (drop (0 + length text) before))
 
 -- what was kept, and the piece behind it
 pub in-two :
     {held n : ℕ} {s₀ s₁ : List ℕ} → ReadBehind held n s₀ s₁ → take (held + n) s₁ ≡ take held s₀ ++ take n (drop held s₁)
 in-two {held} {n} {s₀} {s₁} read = take-add held n s₁ ∙ rw (read .front)
 
+-- the piece that was read is the one that was answered
 pub turned :
-    {k : Known} {held n h : ℕ} {s₀ s₁ s₂ out out' : List ℕ} {r : Passed} →
+    (k : Known) {held n : ℕ} {s₀ s₁ s₂ out out' : List ℕ} {r : Piece} →
     let s = take (held + n) s₁ in
-    ReadBehind held n s₀ s₁ → length s₁ ≡ length s₀ → r ≡ passed k s → Placed s r → out' ≡ sets out 0 (passedText k s)
-    → Written (kept (take (held + n - r .at) (drop (r .at) s₁))) h s₁ s₂ → MoreTo k (take held s₀) (r .known) h s₂ out out'
-unfolding passed
-turned {k} {held} {n} {h} {s₀} {s₁} {s₂} {out} {out'} {r} read len told placed stored written =
+    ReadBehind held n s₀ s₁ → length s₁ ≡ length s₀ → r ≡ pieceOf k s → Held (held + n) r → s₂ ≡ sets s₁ 0 (kept (restOf s))
+    → out' ≡ sets out 0 (passedText k s) → MoreTo k (take held s₀) (r .known) (r .held) s₂ out out'
+unfolding pieceOf
+turned k {held} {n} {s₀} {s₁} {s₂} {out} {out'} {r} read len told bounds kept-there stored =
     let room = read .room in
-    let size : length (take (held + n) s₁) ≡ held + n = length-take-le (held + n) s₁ (omega arith) in
-    let within : r .at ≤ held + n = omega (arith, placed .within) in
-    let rest : take (held + n - r .at) (drop (r .at) s₁) ≡ restOf (take (held + n) s₁) =
-    sym (drop-take (r .at) (held + n) s₁ within) ∙ placed .rest in
     let piece = in-two read in
+    let counted : r .held ≡ length (kept (restOf (take (held + n) s₁))) = ap (λ (x : Piece). x .held) told in
     record {
       piece = take n (drop held s₁);
-      known = rw (← piece) (ap (λ (x : Passed). x .known) told);
-      rest = rw (← piece, ← rest) (front-written written (simp (length-take, length-drop) (omega arith)));
-      few = rw (written .count, length-take) (omega arith);
+      known = rw (← piece) (ap (λ (x : Piece). x .known) told);
+      rest = rw (← piece) (front-written (kept (restOf (take (held + n) s₁))) s₁ counted kept-there (omega (arith, bounds .within)));
+      few = bounds .few;
       text = rw (← piece) stored;
     }
 
@@ -76,7 +64,7 @@ module _ {s₀ out₀ s out : List ℕ} {k : Known} {held : ℕ} (was : Going s�
         output = o ∙ was .output;
       }
 
-  -- no piece more
+  -- the input has ended
   pub standing :
       (b : Bool) → take (length (take held s)) s' ≡ take held s → length s' ≡ length s → 257 < length s₀
       → Stands (record { known = k; held = held; ended = b }) s'
@@ -86,6 +74,12 @@ module _ {s₀ out₀ s out : List ℕ} {k : Known} {held : ℕ} (was : Going s�
       let size : length (take held s) ≡ held = length-take-le held s (omega arith) in
       let same : take held s' ≡ take held s = rw size at e in
       record { reached = rw same (was .reached); within = omega arith }
+
+-- the loop leaves off where it is
+pub left-off :
+    {s₀ out₀ s out : List ℕ} {k : Known} {held : ℕ} → Going s₀ out₀ s out k held → (b : Bool) → 257 < length s₀
+    → Stands (record { known = k; held = held; ended = b }) s
+left-off was b h = let few = was .few in let input = was .input in record { reached = was .reached; within = omega arith }
 
 -- what was reached: some pieces, and what was written for them
 pub record Behind (k : Known) (l : List ℕ) : Type 0 where

@@ -10,7 +10,7 @@ use Rattle.text.specs.declared.stream.Known.{Known}
 use Rattle.text.specs.declared.stream.Known.the-variants.{Nothing}
 use Rattle.console.specs.declared.Stand.{Stand}
 use Rattle.console.specs.declared.Turn.{Turn}
-use Rattle.console.specs.declared.Turn.the-variants.{More, Ended, Failed}
+use Rattle.console.specs.declared.Turn.the-variants.{More, Failed, Ended}
 
 -- some r bytes stand behind the first `held`, which are as before
 pub record ReadBehind (held r : ℕ) (before after : List ℕ) : Type 0 where
@@ -25,17 +25,11 @@ pub record MoreTo (k : Known) (m : List ℕ) (k' : Known) (h : ℕ) (s out out' 
   pub few : h ≤ 257
   pub text : out' ≡ sets out 0 (passedText k (m ++ piece))
 
--- writing failed: what was kept is still there
-pub record FailedAt (k : Known) (m s out out' : List ℕ) : Type 0 where
-  pub piece : List ℕ
-  pub front : take (length m) s ≡ m
-  pub text : out' ≡ sets out 0 (passedText k (m ++ piece))
-
--- so is it where the input has ended
+-- where the input has ended, what was kept is still there
 abbrev pub Turned : Known → List ℕ → Turn → List ℕ → List ℕ → List ℕ → Type 0
 Turned k m (More k' h) s out out' = MoreTo k m k' h s out out'
+Turned k m (Failed k' h) s out out' = MoreTo k m k' h s out out'
 Turned k m Ended s out out' = (take (length m) s ≡ m) × (out' ≡ out)
-Turned k m Failed s out out' = FailedAt k m s out out'
 
 -- k is known and l kept behind some pieces of the input, as `inPieces` goes through them
 pub data Reached : Known → List ℕ → Type 0 where

@@ -2,9 +2,8 @@
 use libc::STDIN_FILENO;
 use libc::STDOUT_FILENO;
 use text::stream::Known;
-use text::stream::keep;
+use text::stream::answer_piece;
 use text::stream::write_last;
-use text::stream::write_lines;
 ghost use Prim.Native.Nat.{_*_, _≤_, _<_};
 ghost use mathlib.Core.Path.{_≡_};
 ghost use lib.ListN.{length, take};
@@ -12,11 +11,11 @@ ghost use lib.Seq.{sets};
 ghost use Rattle.text.specs.Output.{lastText};
 ghost use Rattle.console.specs.Turns.{ReadBehind, Turned, Stands};
 
-// A piece of the input: more may come, and this is known and that many bytes are kept; it has ended; or writing failed.
+// A piece of the input, behind which this is known and that many bytes are kept: more may come, or writing failed; or the input has ended.
 pub enum Turn {
     More { known: Known, held: usize },
+    Failed { known: Known, held: usize },
     Ended,
-    Failed,
 }
 
 // Where the loop stands: what is known, how many bytes of a line that goes on are kept, and whether the input has ended.
@@ -35,8 +34,8 @@ fn read_behind(s: &mut [u8], held: usize) -> usize
     io::count(got, &s[held..])
 }
 
-// Answers the lines that end in the next piece of the input, and keeps the rest.
-fn answer_piece(known: Known, held: usize, s: &mut [u8], out: &mut [u8]) -> Turn
+// Reads the next piece of the input, and answers the lines that end in it.
+fn answer_next(known: Known, held: usize, s: &mut [u8], out: &mut [u8]) -> Turn
     requires { ⌜ (held < length (now s)) × (53 * length (now s) ≤ length (now out)) ⌝ }
     ensures { λ r. ⌜ Turned known (take held (now (s .entry))) r (now (s .exit)) (now (out .entry)) (now (out .exit)) ⌝ }
 {
@@ -44,15 +43,14 @@ fn answer_piece(known: Known, held: usize, s: &mut [u8], out: &mut [u8]) -> Turn
     if n == 0 {
         return Turn::Ended;
     }
-    let end = held + n;
-    let p = write_lines(known, &s[..end], out);
+    let p = answer_piece(known, s, held + n, out);
+    let known = p.known;
+    let held = p.held;
     let count = p.count;
     if io::write_all(STDOUT_FILENO, &out[..count]) {
-        let known = p.known;
-        let held = keep(s, p.at, end);
         return Turn::More { known, held };
     }
-    Turn::Failed
+    Turn::Failed { known, held }
 }
 
 // Answers the bytes behind the last line feed, if any.
@@ -74,7 +72,7 @@ fn answer_all(s: &mut [u8], out: &mut [u8]) -> Stand
     let mut held: usize = 0;
     let mut turns = u64::MAX;
     while 0 < turns {
-        let t = answer_piece(known, held, s, out);
+        let t = answer_next(known, held, s, out);
         match t {
             Turn::More { known: k, held: n } => {
                 known = k;
@@ -88,7 +86,7 @@ fn answer_all(s: &mut [u8], out: &mut [u8]) -> Stand
                     ended: true,
                 };
             }
-            Turn::Failed => {
+            Turn::Failed { known, held } => {
                 return Stand {
                     known,
                     held,

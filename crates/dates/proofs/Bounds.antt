@@ -1,6 +1,6 @@
 -- The bounds of each reader: how many lexemes it takes.
 use mathlib.Core.Path.{_≡_, refl, _∙_}
-use mathlib.Core.Bool.{Bool, true, false}
+use mathlib.Core.Bool.{Bool, true}
 use mathlib.Core.List.{List, [], _∷_}
 use Prim.Native.Nat.{ℕ, zero, suc, _+_, _≤_, _<_}
 use native.Mathlib.Omega.{arith}
@@ -10,7 +10,7 @@ use borrow.Author.Tests.{eqb-true}
 use Rattle.lexer.specs.Lexemes as lexeme
 use Rattle.numbers.specs.Slices.{get, isAt, within, oneIf}
 use Rattle.numbers.specs.Numbers.{beginsNumber, numOf}
-use Rattle.numbers.proofs.Places.{within-bounds, at-most, there}
+use Rattle.numbers.proofs.Places.{one-most, within-bounds, at-most, there}
 use Rattle.numbers.proofs.Bounds.{num-read}
 use Rattle.numbers.proofs.Begins.{no-num}
 use Rattle.dates.specs.Parsed.{Parsed, nothing, parsedNumber, Took}
@@ -20,7 +20,7 @@ use Rattle.dates.specs.Times.{minuteOf, halfOf, clockOf, timeOf}
 use Rattle.dates.proofs.Laws.{Arm, none, number-took, nothing-took, pick-took, one-took, or-took, then-took, if-let-took}
 
 pub num-took : (l : List ℕ) → Took (parsedNumber (numOf l)) 1 (length l)
-num-took l = number-took (num-read l)
+num-took l = number-took (numOf l) (num-read l)
 
 -- a lexeme, which is not 0, is there
 first : (l : List ℕ) → 0 < get l 0 → 0 < length l
@@ -35,10 +35,6 @@ seen l x p e = first l (let h = eqb-true (get l 0) x e in omega arith)
 -- a test for one of several that held
 seen-within : (l : List ℕ) (lo hi : ℕ) → 0 < lo → within lo (get l 0) hi ≡ true → 0 < length l
 seen-within l lo hi p e = first l (let b = within-bounds lo (get l 0) hi refl e in omega arith)
-
-one-most : (b : Bool) → oneIf b ≤ 1
-one-most true = omega arith
-one-most false = omega arith
 
 -- an article is a lexeme
 article-there : (l : List ℕ) → oneIf (isArticle l) ≤ length l
@@ -97,14 +93,14 @@ minute-took l =
     (record { bounds = omega arith }))
     (λ e. record { bounds = omega arith })
 
-pub half-took : (hour minute t : ℕ) (l : List ℕ) → 1 ≤ t → t ≤ length l → Took (halfOf hour minute t l) 1 (length l)
+half-took : (hour minute t : ℕ) (l : List ℕ) → 1 ≤ t → t ≤ length l → Took (halfOf hour minute t l) 1 (length l)
 unfolding halfOf
 half-took hour minute t l p q =
     pick-took (isAt l t lexeme.AM) _ _ (λ e. record { bounds = let room = there (at-most l t lexeme.AM) e in omega arith }) (λ e.
     pick-took (isAt l t lexeme.PM) _ _ (λ e. record { bounds = let room = there (at-most l t lexeme.PM) e in omega arith }) (λ e.
     record { bounds = omega arith }))
 
-pub clock-took : (l : List ℕ) → Took (clockOf l) 1 (length l)
+clock-took : (l : List ℕ) → Took (clockOf l) 1 (length l)
 unfolding clockOf
 clock-took l =
     then-took _ _ (num-took l) (λ hour t a b.
@@ -129,7 +125,7 @@ pub month-none : (l : List ℕ) {p : Parsed ℕ} → p ≡ monthOf l → Arm (1 
 unfolding monthOf
 month-none l e k = e ∙ none (within lexeme.January (get l 0) lexeme.December) _ _ (rw e at k)
 
-pub named-day-took : (l : List ℕ) → Took (namedDayOf l) 1 (length l)
+named-day-took : (l : List ℕ) → Took (namedDayOf l) 1 (length l)
 unfolding namedDayOf
 named-day-took l =
     one-took (isAt l 0 lexeme.Today) _ _ (there (at-most l 0 lexeme.Today))
@@ -137,7 +133,7 @@ named-day-took l =
     (one-took (isAt l 0 lexeme.Yesterday) _ _ (there (at-most l 0 lexeme.Yesterday))
     nothing-took))
 
-pub day-month-year-took : (l : List ℕ) → Took (dayMonthYearOf l) 1 (length l)
+day-month-year-took : (l : List ℕ) → Took (dayMonthYearOf l) 1 (length l)
 unfolding dayMonthYearOf
 day-month-year-took l =
     then-took _ _ (num-took l) (λ day t a b.
@@ -146,7 +142,7 @@ day-month-year-took l =
     then-took _ _ (num-took (drop (t + u) l)) (λ year v f g.
     record { bounds = let h = reach l (t + u) v room g in omega arith })))
 
-pub month-day-took : (month : ℕ) (l : List ℕ) → 1 ≤ length l → Took (monthDayOf month l) 1 (length l)
+month-day-took : (month : ℕ) (l : List ℕ) → 1 ≤ length l → Took (monthDayOf month l) 1 (length l)
 unfolding monthDayOf
 month-day-took month l p =
     then-took _ _ (num-took (drop 1 l)) (λ num t a b.
@@ -165,7 +161,7 @@ delim-within (x ∷ xs) (suc t) e = let h = delim-within xs t e in omega arith
 pub delim-there : (l : List ℕ) (t : ℕ) {x : ℕ} {r : Bool} → x ≡ get l t → r ≡ isDelim x → r ≡ true → t < length l
 delim-there l t d e h = delim-within l t (rw (← d, ← e) h)
 
-pub behind-second-took : (delim num1 num2 t : ℕ) (l : List ℕ)
+behind-second-took : (delim num1 num2 t : ℕ) (l : List ℕ)
     → 1 ≤ t → t ≤ length l → Took (behindSecondOf delim num1 num2 t l) 1 (length l)
 unfolding behindSecondOf
 behind-second-took delim num1 num2 t l p q =
@@ -176,7 +172,7 @@ behind-second-took delim num1 num2 t l p q =
     record { bounds = let h = reach l (t + 1) u (omega arith) b in omega arith }))
     (λ e. record { bounds = omega arith }))
 
-pub delimited-took : (l : List ℕ) → Took (delimitedOf l) 1 (length l)
+delimited-took : (l : List ℕ) → Took (delimitedOf l) 1 (length l)
 unfolding delimitedOf
 delimited-took l =
     then-took _ _ (num-took l) (λ num1 t a b.

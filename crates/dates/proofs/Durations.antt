@@ -1,10 +1,13 @@
 -- Laws of durations: the turns of `durationOf` are enough, how many lexemes and parts it has, and what the code's answer says of it.
-use mathlib.Core.Path.{_≡_, refl, _∙_}
-use mathlib.Core.Bool.{Bool, true, false}
+use mathlib.Core.Path.{_≡_, refl, sym, _∙_}
+use mathlib.Core.Bool.{Bool, true, false, cond, _||_}
 use mathlib.Core.List.{List}
 use Prim.Native.Nat.{ℕ, _+_, _*_, _≤_, _<_}
 use native.Mathlib.Omega.{arith}
+use lib.Dec.{ltb}
 use lib.ListN.{length, drop, length-drop}
+use lib.Seq.{getD-drop, drop-drop}
+use borrow.Author.Tests.{ltb-true, ltb-false, lt-ltb, le-ltb}
 use types.Run.{OneOf}
 use denote.Enum.Declared.{tagOf}
 use Rattle.lexer.specs.Lexemes as lexeme
@@ -19,11 +22,13 @@ use Rattle.dates.specs.declared.duration.PartFound.the-variants.{Is as I
 use Rattle.dates.specs.declared.duration.Parts.{Parts}
 use Rattle.dates.specs.declared.duration.Taken.{Taken}
 use Rattle.dates.specs.declared.duration.Taken.the-variants.{Is, Nothing, Overflow}
-use Rattle.dates.specs.declared.duration.DurationFound.{DurationFound}
-use Rattle.dates.specs.Durations.{Duration, part, concat, isSubDaily, specificOf, articleOf, concreteOf, parsedPart}
-use Rattle.dates.specs.Durations.{durationStep, durationOf, pushed, into, size, durationAnswer, joinedOf, CountedTaken, Counted}
+use Rattle.dates.specs.declared.duration.Rowed.{Rowed}
+use Rattle.dates.specs.Durations.{Duration, part, concat, isSubDaily, isSubDailyPart, takenAnswer, TakenCounted}
+use Rattle.dates.specs.Durations.{specificOf, articleOf, concreteOf, parsedPart}
+use Rattle.dates.specs.Durations.{durationStep, durationOf, pushed, into, size, rowed}
 use Rattle.dates.proofs.duration.PartFound.{the-type as part-type}
-use Rattle.dates.proofs.Laws.{Arm, nothing-took, pick-took, or-took, then-took}
+use Rattle.dates.proofs.Each.{Each, pick-each, then-each, if-let-each}
+use Rattle.dates.proofs.Laws.{Arm, found, nothing-took, pick-took, or-took, then-took}
 use Rattle.dates.proofs.Bounds.{num-took, unit-took, tested-article}
 
 -- the arm of a part's answer
@@ -31,10 +36,6 @@ pub part-arm : {ks : List ℕ} (w : PartFound) → OneOf ks (tagOf part-type w) 
 part-arm (IsPart p t) k = record { tags = k }
 part-arm NoPart k = record { tags = k }
 part-arm PartOverflow k = record { tags = k }
-
--- the lexemes of a part, once the answer is known
-pub part-found : {w : PartFound} {p : Part} {t k n : ℕ} → w ≡ IsPart p t → Took (parsedPart w) k n → (k ≤ t) × (t ≤ n)
-part-found e h = (rw e at h) .bounds
 
 module _ {A B : Type 0} where
   -- what follows a reading is the same where it is the same within the reading's bounds
@@ -63,7 +64,8 @@ pub concrete-took : (l : List ℕ) → Took (concreteOf l) 2 (length l)
 unfolding concreteOf
 concrete-took l = or-took _ _ (specific-took l) (article-took l)
 
-step-agree : (D E : List ℕ → Parsed Duration) (l : List ℕ) → ((m : List ℕ) → length m < length l → D m ≡ E m) → durationStep D l ≡ durationStep E l
+step-agree : (D E : List ℕ → Parsed Duration) (l : List ℕ) → ((m : List ℕ) → length m < length l → D m ≡ E m)
+    → durationStep D l ≡ durationStep E l
 unfolding durationStep
 step-agree D E l agree =
     then-same (concreteOf l) _ _ (concrete-took l) (λ p t a b.
@@ -74,119 +76,201 @@ pub duration-is : (l : List ℕ) → durationOf l ≡ durationStep durationOf l
 unfolding durationOf
 duration-is l = again-is nothing durationStep step-agree l
 
--- what the code joins is what `durationStep` has behind an "and"
-pub joined-is : (ps : Parts) (p : Part) (t : ℕ) (w : Parsed Duration)
-    → joinedOf ps p t (durationAnswer (pushed ps p) w)
-    ≡ durationAnswer ps (ifLet w (λ dur2 u. is (concat p dur2) (t + 1 + u)) (is (part p) t))
-joined-is ps p t (is d u) = refl
-joined-is ps p t nothing = refl
-joined-is ps p t overflow = refl
-
-abbrev Sizes : Parsed Duration → ℕ → Type 0
-Sizes (is d t) n = (2 ≤ t) × (t ≤ n) × (3 * size d ≤ t + 1)
-Sizes nothing n = Unit
-Sizes overflow n = Unit
-
 -- at least two and at most n lexemes, and three for each part but for the last one's connection
-pub record Sized (w : Parsed Duration) (n : ℕ) : Type 0 where
-  pub sizes : Sizes w n
+abbrev Sizes : ℕ → Duration → ℕ → Type 0
+Sizes n d t = (2 ≤ t) × (t ≤ n) × (3 * size d ≤ t + 1)
 
--- a part, its "and", and what is read behind it
-joined-sized : (w : Parsed Duration) (p : Part) {t m n : ℕ} → 2 ≤ t → t + 1 + m ≤ n → Sized w m
-    → Sized (ifLet w (λ dur2 u. is (concat p dur2) (t + 1 + u)) (is (part p) t)) n
-joined-sized (is d u) p a b h = record { sizes = let s = h .sizes in (omega arith, omega arith, omega arith) }
-joined-sized nothing p a b h = record { sizes = (a, omega arith, omega arith) }
-joined-sized overflow p a b h = record { sizes = tt }
-
-pick-sized : (b : Bool) (x y : Parsed Duration) {n : ℕ} → (b ≡ true → Sized x n) → (b ≡ false → Sized y n) → Sized (pick b x y) n
-pick-sized true x y f g = f refl
-pick-sized false x y f g = g refl
-
-then-sized : (w : Parsed Part) (f : Part → ℕ → Parsed Duration) {k m n : ℕ} → Took w k m
-    → ((p : Part) (t : ℕ) → k ≤ t → t ≤ m → Sized (f p t) n) → Sized (andThen w f) n
-then-sized (is p t) f g h = h p t (g .bounds .0) (g .bounds .1)
-then-sized nothing f g h = record { sizes = tt }
-then-sized overflow f g h = record { sizes = tt }
-
-step-sized : (D : List ℕ → Parsed Duration) → ((m : List ℕ) → Sized (D m) (length m)) → (l : List ℕ)
-    → Sized (durationStep D l) (length l)
+step-sized : (D : List ℕ → Parsed Duration) → ((m : List ℕ) → Each (Sizes (length m)) (D m)) → (l : List ℕ)
+    → Each (Sizes (length l)) (durationStep D l)
 unfolding durationStep
 step-sized D sized l =
-    then-sized _ _ (concrete-took l) (λ p t a b.
-    pick-sized (isAt l t lexeme.And) _ _
-    (λ e. let left = length-drop (t + 1) l in let room = there (at-most l t lexeme.And) e in
-    joined-sized _ p a (omega arith) (sized (drop (t + 1) l)))
-    (λ e. record { sizes = (a, b, omega arith) }))
+    then-each (concreteOf l) _ (λ p t e. let b = found e (concrete-took l) in
+    pick-each (isAt l t lexeme.And)
+    (λ h. let left = length-drop (t + 1) l in let room = there (at-most l t lexeme.And) h in
+    if-let-each (D (drop (t + 1) l)) _ _
+    (λ d u f. let s = (rw f at (sized (drop (t + 1) l))) .bounds in record { bounds = (omega arith, omega arith, omega arith) })
+    (record { bounds = (omega arith, omega arith, omega arith) }))
+    (λ h. record { bounds = (omega arith, omega arith, omega arith) }))
+
+duration-sized : (l : List ℕ) → Each (Sizes (length l)) (durationOf l)
+unfolding durationOf
+duration-sized l = again-keeps nothing durationStep (λ m w. Each (Sizes (length m)) w) (λ m. record { bounds = tt }) step-sized l
 
 -- the bounds of a duration
-pub duration-sized : (l : List ℕ) → Sized (durationOf l) (length l)
-unfolding durationOf
-duration-sized l = again-keeps nothing durationStep (λ m w. Sized w (length m)) (λ m. record { sizes = tt }) step-sized l
-
--- the same of a duration that was read
 pub duration-bounds : (l : List ℕ) {d : Duration} {t : ℕ} → durationOf l ≡ is d t → (2 ≤ t) × (t ≤ length l) × (3 * size d ≤ t + 1)
-duration-bounds l e = (rw e at (duration-sized l)) .sizes
+duration-bounds l e = (rw e at (duration-sized l)) .bounds
 
 -- the row has as many parts more as the duration
 pub into-n : (d : Duration) (ps : Parts) → into d ps .n ≡ ps .n + size d
 into-n (part p) ps = refl
 into-n (concat p d) ps = into-n d (pushed ps p) ∙ omega arith
 
-size-pos : (d : Duration) → 0 < size d
-size-pos (part p) = omega arith
-size-pos (concat p d) = omega arith
+taken-counted : (w : Parsed Duration) (n : ℕ) → Each (Sizes n) w → TakenCounted (takenAnswer w) n
+taken-counted (is d t) n h = let s = h .bounds in record { bounds = (omega arith, omega arith) }
+taken-counted nothing n h = record { bounds = omega arith }
+taken-counted overflow n h = record { bounds = omega arith }
 
--- the bounds of the code's answer
-pub counted : (ps : Parts) (w : Parsed Duration) {n : ℕ} → Sized w n → Counted (durationAnswer ps w) (ps .n) n
-counted ps (is d t) h =
-    let s = h .sizes in
-    let k = into-n d ps in
-    let p = size-pos d in
-    record { bounds = (omega arith, omega arith, omega arith, omega arith) }
-counted ps nothing h = record { bounds = refl }
-counted ps overflow h = record { bounds = refl }
-
-counted′ : (w : Taken) (m k n n′ : ℕ) → CountedTaken w m k n → n ≤ n′ → CountedTaken w m k n′
-counted′ (Is t b) m k n n′ h e = (h .0, omega arith, h .2, h .3)
-counted′ Nothing m k n n′ h e = h
-counted′ Overflow m k n n′ h e = h
-
--- the same within more lexemes
-pub counted-wider : {r : DurationFound} {m n n′ : ℕ} → Counted r m n → n ≤ n′ → Counted r m n′
-counted-wider {r} {m} {n} {n′} h e = record { bounds = counted′ (r .taken) m (r .parts .n) n n′ (h .bounds) e }
-
--- what an answer of t lexemes with the row qs says: the duration that was read, and that its parts stand in qs behind those of ps
-pub record DurationRead (ps qs : Parts) (w : Parsed Duration) (t : ℕ) (b : Bool) : Type 0 where
-  pub duration : Duration
-  pub reading : w ≡ is duration t
-  pub parts : qs ≡ into duration ps
-  pub sub-daily : isSubDaily duration ≡ b
-
-abbrev Says : Taken → Parts → Parts → Parsed Duration → Type 0
-Says (Is t b) ps qs w = DurationRead ps qs w t b
-Says Nothing ps qs w = (w ≡ nothing) × (qs ≡ ps)
-Says Overflow ps qs w = (w ≡ overflow) × (qs ≡ ps)
-
-answer-says : (ps : Parts) (w : Parsed Duration) → let r = durationAnswer ps w in Says (r .taken) ps (r .parts) w
-answer-says ps (is d t) = record { duration = d; reading = refl; parts = refl; sub-daily = refl }
-answer-says ps nothing = (refl, refl)
-answer-says ps overflow = (refl, refl)
-
--- what a caller learns of the reading w from the answer that it took apart
-module _ {r : DurationFound} (ps : Parts) (w : Parsed Duration) (answer : r ≡ durationAnswer ps w) where
-  says : Says (r .taken) ps (r .parts) w
-  says = rw answer (answer-says ps w)
-
-  pub duration-read : {t : ℕ} {b : Bool} → r .taken ≡ Is t b → DurationRead ps (r .parts) w t b
-  duration-read e = rw e at says
-
-  pub duration-none : r .taken ≡ Nothing → (w ≡ nothing) × (r .parts ≡ ps)
-  duration-none e = rw e at says
-
-  pub duration-overflow : r .taken ≡ Overflow → (w ≡ overflow) × (r .parts ≡ ps)
-  duration-overflow e = rw e at says
+-- the lexemes of a duration, once the answer is known
+pub taken-found : {r : Taken} {t n : ℕ} {b : Bool} → r ≡ Is t b → TakenCounted r n → (2 ≤ t) × (t ≤ n)
+taken-found e h = (rw e at h) .bounds
 
 -- what `read_duration` promises
-pub duration-promised : {r : DurationFound} (ps : Parts) (l : List ℕ) → r ≡ durationAnswer ps (durationOf l)
-    → (r ≡ durationAnswer ps (durationOf l)) × Counted r (ps .n) (length l)
-duration-promised ps l e = (e, rw e (counted ps _ (duration-sized l)))
+pub taken-promised : {r : Taken} (l : List ℕ) → r ≡ takenAnswer (durationOf l)
+    → (r ≡ takenAnswer (durationOf l)) × TakenCounted r (length l)
+taken-promised l e = (e, rw e (taken-counted (durationOf l) (length l) (duration-sized l)))
+
+-- the duration of which an answer says the lexemes taken
+pub record TakenRead (w : Parsed Duration) (t : ℕ) (b : Bool) : Type 0 where
+  pub duration : Duration
+  pub reading : w ≡ is duration t
+  pub sub-daily : isSubDaily duration ≡ b
+
+abbrev TakenSays : Taken → Parsed Duration → Type 0
+TakenSays (Is t b) w = TakenRead w t b
+TakenSays Nothing w = w ≡ nothing
+TakenSays Overflow w = w ≡ overflow
+
+taken-answer-says : (w : Parsed Duration) → TakenSays (takenAnswer w) w
+taken-answer-says (is d t) = record { duration = d; reading = refl; sub-daily = refl }
+taken-answer-says nothing = refl
+taken-answer-says overflow = refl
+
+-- what a caller learns of the reading w from the answer that it took apart
+module _ {r : Taken} (w : Parsed Duration) (answer : r ≡ takenAnswer w) where
+  taken-says : TakenSays r w
+  taken-says = rw answer (taken-answer-says w)
+
+  pub taken-read : {t : ℕ} {b : Bool} → r ≡ Is t b → TakenRead w t b
+  taken-read e = rw e at taken-says
+
+  pub taken-none : r ≡ Nothing → w ≡ nothing
+  taken-none e = rw e at taken-says
+
+  pub taken-overflow : r ≡ Overflow → w ≡ overflow
+  taken-overflow e = rw e at taken-says
+
+-- what a test finds behind the place a
+at-drop : (l : List ℕ) (a t x : ℕ) → isAt (drop a l) t x ≡ isAt l (a + t) x
+unfolding isAt
+at-drop l a t x = rw (getD-drop, go (ltb t (length (drop a l))) refl)
+  where
+    go : (b : Bool) → ltb t (length (drop a l)) ≡ b → ltb t (length (drop a l)) ≡ ltb (a + t) (length l)
+    go true e = let h = ltb-true t _ e in let left = length-drop a l in e ∙ sym (lt-ltb (a + t) (length l) (omega arith))
+    go false e = let h = ltb-false t _ e in let left = length-drop a l in e ∙ sym (le-ltb (a + t) (length l) (omega arith))
+
+-- what a loop keeps of the parts that it passes, and what it answers where they end
+pub record Passing (A R : Type 0) : Type 0 where
+  pub add : A → Part → A
+  pub all : Duration → A → A
+  pub one : (p : Part) (a : A) → all (part p) a ≡ add a p
+  pub more : (p : Part) (d : Duration) (a : A) → all (concat p d) a ≡ all d (add a p)
+  pub ends : A → ℕ → R
+  pub over : R
+
+module _ {A R : Type 0} (k : Passing A R) where
+  -- the answer, once the duration at the place at is read; `none` where there is none
+  abbrev pub onward : Parsed Duration → ℕ → A → R → R
+  onward (is d u) at a none = k .ends (k .all d a) (at + u)
+  onward nothing at a none = none
+  onward overflow at a none = k .over
+
+  -- the answer behind a part that ends at e
+  abbrev pub joined : List ℕ → ℕ → A → R
+  joined l e a = cond (isAt l e lexeme.And) (onward (durationOf (drop (e + 1) l)) (e + 1) a (k .ends a e)) (k .ends a e)
+
+  part-passed : (l : List ℕ) (at : ℕ) (a : A) (none : R) {p : Part} {t : ℕ} → concreteOf (drop at l) ≡ is p t →
+      onward (durationOf (drop at l)) at a none ≡ joined l (at + t) (k .add a p)
+  unfolding durationStep
+  part-passed l at a none {p} {t} e =
+      let same : at + (t + 1) ≡ at + t + 1 = omega arith in
+      rw (duration-is (drop at l), e, at-drop l at t lexeme.And, drop-drop (t + 1) at l, same)
+      (go (isAt l (at + t) lexeme.And) (durationOf (drop (at + t + 1) l)))
+    where
+      go : (b : Bool) (w : Parsed Duration) →
+          onward (pick b (ifLet w (λ dur2 u. is (concat p dur2) (t + 1 + u)) (is (part p) t)) (is (part p) t)) at a none
+          ≡ cond b (onward w (at + t + 1) (k .add a p) (k .ends (k .add a p) (at + t))) (k .ends (k .add a p) (at + t))
+      go true (is d u) = let same : at + (t + 1 + u) ≡ at + t + 1 + u = omega arith in rw (k .more p d a, same)
+      go true nothing = rw (k .one p a)
+      go true overflow = refl
+      go false w = rw (k .one p a)
+
+  -- the answer r, where a part is looked for at the place at
+  pub record Looking (r : R) (l : List ℕ) (at : ℕ) (a : A) (none : R) : Type 0 where
+    pub same : r ≡ onward (durationOf (drop at l)) at a none
+    pub within : at ≤ length l
+
+  -- the answer r, behind a part that ends at e
+  pub record Joined (r : R) (l : List ℕ) (e : ℕ) (a : A) : Type 0 where
+    pub same : r ≡ joined l e a
+
+  -- what the code's answer for the part at the place at says
+  abbrev Said : R → List ℕ → ℕ → A → R → PartFound → Type 0
+  Said r l at a none (IsPart p t) = Joined r l (at + t) (k .add a p)
+  Said r l at a none NoPart = r ≡ none
+  Said r l at a none PartOverflow = r ≡ k .over
+
+  pub part-learnt : {r none : R} {l m : List ℕ} {at : ℕ} {a : A} {w z : PartFound} → Looking r l at a none →
+      m ≡ drop at l → parsedPart w ≡ concreteOf m → w ≡ z → Said r l at a none z
+  unfolding durationStep
+  part-learnt {r} {none} {l} {m} {at} {a} {w} {z} g here answer e = go z (rw (← here, ← answer, e))
+    where
+      go : (z : PartFound) → concreteOf (drop at l) ≡ parsedPart z → Said r l at a none z
+      go (IsPart p t) f = record { same = g .same ∙ part-passed l at a none f }
+      go NoPart f = g .same ∙ rw (duration-is (drop at l), f)
+      go PartOverflow f = g .same ∙ rw (duration-is (drop at l), f)
+
+  -- an "and" behind it, or none
+  module _ {r : R} {l : List ℕ} {e : ℕ} {a : A} {b : Bool} (g : Joined r l e a) (test : b ≡ isAt l e lexeme.And) where
+    pub and-behind : b ≡ true → Looking r l (e + 1) a (k .ends a e)
+    and-behind h =
+        let here : isAt l e lexeme.And ≡ true = rw (← test) h in
+        let room = there (at-most l e lexeme.And) here in
+        record { same = rw (← test, h) at (g .same); within = omega arith }
+
+    pub no-and : b ≡ false → k .ends a e ≡ r
+    no-and h = sym (rw (← test, h) at (g .same))
+
+pub or-assoc : (a b c : Bool) → a || (b || c) ≡ (a || b) || c
+or-assoc true b c = refl
+or-assoc false b c = refl
+
+-- `read_duration` keeps whether there were hours or minutes
+abbrev pub subDailyKept : Passing Bool Taken
+subDailyKept =
+    record {
+      add = λ b p. b || isSubDailyPart p;
+      all = λ d b. b || isSubDaily d;
+      one = λ p b. refl;
+      more = λ p d b. or-assoc b (isSubDailyPart p) (isSubDaily d);
+      ends = λ b e. Is e b;
+      over = Overflow;
+    }
+
+-- `with_parts` keeps the row
+abbrev pub rowKept : Parts → Passing Parts Rowed
+rowKept ps =
+    record {
+      add = pushed;
+      all = into;
+      one = λ p qs. refl;
+      more = λ p d qs. refl;
+      ends = λ qs e. record { parts = qs; end = e };
+      over = record { parts = ps; end = 0 };
+    }
+
+-- from the front on
+pub taken-looking : (l : List ℕ) → Looking subDailyKept (takenAnswer (durationOf l)) l 0 false Nothing
+taken-looking l = record { same = go (durationOf l); within = omega arith }
+  where
+    go : (w : Parsed Duration) → takenAnswer w ≡ onward subDailyKept w 0 false Nothing
+    go (is d t) = let e : 0 + t ≡ t = omega arith in rw e
+    go nothing = refl
+    go overflow = refl
+
+pub row-looking : (ps : Parts) (l : List ℕ) → Looking (rowKept ps) (rowed ps (durationOf l)) l 0 ps (record { parts = ps; end = 0 })
+row-looking ps l = record { same = go (durationOf l); within = omega arith }
+  where
+    go : (w : Parsed Duration) → rowed ps w ≡ onward (rowKept ps) w 0 ps (record { parts = ps; end = 0 })
+    go (is d t) = let e : 0 + t ≡ t = omega arith in rw e
+    go nothing = refl
+    go overflow = refl

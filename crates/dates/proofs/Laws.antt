@@ -42,7 +42,7 @@ module _ {ks : List ℕ} where
   date-arm DateOverflow k = record { tags = k }
 
 -- a number is none of two others
-neither : (a b c : ℕ) {A : Type 0} → (a ≡ b → ⊥) → (a ≡ c → ⊥) → OneOf (b ∷ c ∷ []) a → A
+pub neither : (a b c : ℕ) {A : Type 0} → (a ≡ b → ⊥) → (a ≡ c → ⊥) → OneOf (b ∷ c ∷ []) a → A
 neither a b c p q k = ⊎-elim (λ e. absurd (p e)) (λ e. absurd (q e)) k
 
 module _ {A : Type 0} where
@@ -113,11 +113,8 @@ module _ {A : Type 0} where
   if-let-took nothing f b g h z = z
   if-let-took overflow f b g h z = record { bounds = tt }
 
-number-took′ : (w : Found) (k n : ℕ) → Read w k n → Took (parsedNumber w) k n
-number-took′ (Is v t) k n h = record { bounds = let b = h .bounds in omega arith }
-number-took′ Nothing k n h = nothing-took
-number-took′ Overflow k n h = record { bounds = tt }
-
 -- the bounds of a number reader
-pub number-took : {w : Found} {k n : ℕ} → Read w k n → Took (parsedNumber w) k n
-number-took {w} {k} {n} h = number-took′ w k n h
+pub number-took : (w : Found) {k n : ℕ} → Read w k n → Took (parsedNumber w) k n
+number-took (Is v t) h = record { bounds = let b = h .bounds in omega arith }
+number-took Nothing h = nothing-took
+number-took Overflow h = record { bounds = tt }

@@ -1,3 +1,5 @@
+pub mod Each
 pub mod Laws
 pub mod Bounds
 pub mod Durations
+pub mod Small

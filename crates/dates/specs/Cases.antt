@@ -3,7 +3,7 @@
 use mathlib.Core.Path.{_≡_, refl}
 use mathlib.Core.Bool.{Bool, true, false}
 use mathlib.Core.List.{List, [], _∷_, map}
-use Prim.Native.Nat.{ℕ, _+_}
+use Prim.Native.Nat.{ℕ}
 use Rattle.lexer.specs.Lexemes as lexeme
 use Rattle.numbers.specs.Slices.{get, isAt, within}
 use Rattle.numbers.specs.Answers.{fitsOf}
@@ -11,6 +11,7 @@ use Rattle.numbers.specs.Numbers.{isEnding, wordOf, literalOf, onesOf, teensOf,
 use Rattle.numbers.specs.Numbers.{numTripleOf, numTripleUnitOf, unitsOf, numStep, numOf}
 use Rattle.numbers.specs.Again.{turns, again}
 use Rattle.dates.specs.Parsed.{Parsed, is, nothing, overflow}
+use Rattle.dates.specs.Rows.{Num}
 use Rattle.dates.specs.declared.units.Unit.{Unit}
 use Rattle.dates.specs.declared.units.Unit.the-variants.{Day, Week, Hour, Minute, Month, Year}
 use Rattle.dates.specs.declared.units.RelativeSpecifier.{RelativeSpecifier}
@@ -39,10 +40,6 @@ pub record Word : Type 0 where
   pub month : Parsed ℕ
   pub weekday : Parsed ℕ
   pub specifier : Parsed RelativeSpecifier
-
--- the literal n
-abbrev Num : ℕ → ℕ
-Num n = lexeme.NUM + n
 
 abbrev row : List ℕ → Parsed Date → Parsed Time → Case
 row l d t = record { lexemes = l; date = d; time = t }

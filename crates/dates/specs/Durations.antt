@@ -1,5 +1,5 @@
 -- `enum Duration` and its parsers. The code keeps a duration as the row of its parts.
-use Prim.Native.Nat.{ℕ, suc, _+_, _*_, _≤_, _<_}
+use Prim.Native.Nat.{ℕ, suc, _+_, _≤_}
 use mathlib.Core.Path.{_≡_}
 use mathlib.Core.Bool.{Bool, true, false, _||_}
 use mathlib.Core.List.{List}
@@ -19,7 +19,7 @@ use Rattle.dates.specs.declared.duration.PartFound.the-variants.{Is as I
 use Rattle.dates.specs.declared.duration.Parts.{Parts}
 use Rattle.dates.specs.declared.duration.Taken.{Taken}
 use Rattle.dates.specs.declared.duration.Taken.the-variants.{Is, Nothing, Overflow}
-use Rattle.dates.specs.declared.duration.DurationFound.{DurationFound}
+use Rattle.dates.specs.declared.duration.Rowed.{Rowed}
 
 -- `enum Duration`: `Article` and `Specific` are parts, and the first of a `Concat` is always one, since `parse_concrete` reads it
 pub data Duration : Type 0 where
@@ -38,7 +38,7 @@ isSubDailyUnit Minute = true
 -- of a part
 abbrev pub isSubDailyPart : Part → Bool
 isSubDailyPart (Article u) = isSubDailyUnit u
-isSubDailyPart (Specific n u) = isSubDailyUnit u
+isSubDailyPart (Specific u n) = isSubDailyUnit u
 
 -- of a duration
 abbrev pub isSubDaily : Duration → Bool
@@ -47,7 +47,7 @@ isSubDaily (concat p d) = isSubDailyPart p || isSubDaily d
 
 -- <num> <unit>
 unfoldable pub specificOf : List ℕ → Parsed Part
-specificOf l = andThen (parsedNumber (numOf l)) (λ num t. andThen (unitOf (drop t l)) (λ u k. is (Specific num u) (t + k)))
+specificOf l = andThen (parsedNumber (numOf l)) (λ num t. andThen (unitOf (drop t l)) (λ u k. is (Specific u num) (t + k)))
 
 -- <article> <unit>
 unfoldable pub articleOf : List ℕ → Parsed Part
@@ -89,31 +89,24 @@ abbrev pub size : Duration → ℕ
 size (part p) = 1
 size (concat p d) = suc (size d)
 
--- the code's answer: the lexemes taken, whether the duration is sub-daily, and its parts behind those that were there
-abbrev pub durationAnswer : Parts → Parsed Duration → DurationFound
-durationAnswer ps (is d t) = record { taken = Is t (isSubDaily d); parts = into d ps }
-durationAnswer ps nothing = record { taken = Nothing; parts = ps }
-durationAnswer ps overflow = record { taken = Overflow; parts = ps }
+-- the code's answer without the parts: the lexemes taken, and whether the duration is sub-daily
+abbrev pub takenAnswer : Parsed Duration → Taken
+takenAnswer (is d t) = Is t (isSubDaily d)
+takenAnswer nothing = Nothing
+takenAnswer overflow = Overflow
 
--- the code's answer for one part of t lexemes
-abbrev pub onePart : Parts → Part → ℕ → DurationFound
-onePart ps p t = record { taken = Is t (isSubDailyPart p); parts = pushed ps p }
+-- the bounds of `TakenCounted`
+abbrev pub TakenBounds : Taken → ℕ → Type 0
+TakenBounds (Is t b) n = (2 ≤ t) × (t ≤ n)
+TakenBounds Nothing n = 0 ≤ n
+TakenBounds Overflow n = 0 ≤ n
 
-abbrev joinedTaken : Taken → Parts → Part → ℕ → Parts → DurationFound
-joinedTaken (Is u b) ps p t qs = record { taken = Is (t + 1 + u) (isSubDailyPart p || b); parts = qs }
-joinedTaken Nothing ps p t qs = onePart ps p t
-joinedTaken Overflow ps p t qs = record { taken = Overflow; parts = ps }
+-- at least two and at most n lexemes
+pub record TakenCounted (r : Taken) (n : ℕ) : Type 0 where
+  pub bounds : TakenBounds r n
 
--- a part of t lexemes, and what was read behind its "and": `joined-is` says that it is what `durationStep` has there
-abbrev pub joinedOf : Parts → Part → ℕ → DurationFound → DurationFound
-joinedOf ps p t next = joinedTaken (next .taken) ps p t (next .parts)
-
--- the bounds of `Counted`, by what was taken, for a row of k parts
-abbrev pub CountedTaken : Taken → ℕ → ℕ → ℕ → Type 0
-CountedTaken (Is t b) m k n = (2 ≤ t) × (t ≤ n) × (m < k) × (3 * k ≤ 3 * m + t + 1)
-CountedTaken Nothing m k n = k ≡ m
-CountedTaken Overflow m k n = k ≡ m
-
--- behind m parts: at least two and at most n lexemes, and three for each part but for the last one's connection
-pub record Counted (r : DurationFound) (m n : ℕ) : Type 0 where
-  pub bounds : CountedTaken (r .taken) m (r .parts .n) n
+-- the code's answer with the parts: a row with those of the duration, and where that ends; with none, the row
+abbrev pub rowed : Parts → Parsed Duration → Rowed
+rowed ps (is d t) = record { parts = into d ps; end = t }
+rowed ps nothing = record { parts = ps; end = 0 }
+rowed ps overflow = record { parts = ps; end = 0 }

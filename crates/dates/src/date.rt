@@ -53,7 +53,6 @@ fn date_stopped(a: Found) -> DateFound
 // today, tomorrow, yesterday
 fn read_named_day(l: &[u64]) -> DateFound
     ensures { λ r. ⌜ parsedDate r ≡ namedDayOf (now (l .entry)) ⌝ }
-    ensures { λ r. ⌜ Took (parsedDate r) 1 (length (now (l .entry))) ⌝ }
 {
     if is_at(l, 0, TODAY) {
         return DateFound::Is(Date::Today, 1);
@@ -71,7 +70,6 @@ fn read_named_day(l: &[u64]) -> DateFound
 fn read_day_month_year(l: &[u64], a: Found) -> DateFound
     requires { ⌜ (a ≡ numOf (now l)) × Read a 1 (length (now l)) ⌝ }
     ensures { λ r. ⌜ parsedDate r ≡ dayMonthYearOf (now (l .entry)) ⌝ }
-    ensures { λ r. ⌜ Took (parsedDate r) 1 (length (now (l .entry))) ⌝ }
 {
     let Found::Is(day, t) = a else {
         return date_stopped(a);
@@ -90,7 +88,6 @@ fn read_day_month_year(l: &[u64], a: Found) -> DateFound
 fn read_month_day(l: &[u64], month: u32) -> DateFound
     requires { ⌜ 1 ≤ length (now l) ⌝ }
     ensures { λ r. ⌜ parsedDate r ≡ monthDayOf month (now (l .entry)) ⌝ }
-    ensures { λ r. ⌜ Took (parsedDate r) 1 (length (now (l .entry))) ⌝ }
 {
     let a = num(rest(l, 1));
     let Found::Is(day, t) = a else {
@@ -141,9 +138,7 @@ fn two_numbers(delim: u64, num1: u32, num2: u32) -> Date
 
 // Behind the second number, which ends at t.
 fn behind_second(l: &[u64], delim: u64, num1: u32, num2: u32, t: usize) -> DateFound
-    requires { ⌜ (1 ≤ t) × (t ≤ length (now l)) ⌝ }
     ensures { λ r. ⌜ parsedDate r ≡ behindSecondOf delim num1 num2 t (now (l .entry)) ⌝ }
-    ensures { λ r. ⌜ Took (parsedDate r) 1 (length (now (l .entry))) ⌝ }
 {
     if l.len() <= t {
         return DateFound::Nothing;
@@ -162,7 +157,6 @@ fn behind_second(l: &[u64], delim: u64, num1: u32, num2: u32, t: usize) -> DateF
 fn read_delimited(l: &[u64], a: Found) -> DateFound
     requires { ⌜ (a ≡ numOf (now l)) × Read a 1 (length (now l)) ⌝ }
     ensures { λ r. ⌜ parsedDate r ≡ delimitedOf (now (l .entry)) ⌝ }
-    ensures { λ r. ⌜ Took (parsedDate r) 1 (length (now (l .entry))) ⌝ }
 {
     let Found::Is(num1, t) = a else {
         return date_stopped(a);

@@ -14,12 +14,12 @@ ghost use Prim.Native.Nat.{_+_, _*_, _≤_, _<_};
 ghost use lib.ListN.{length};
 ghost use Rattle.dates.specs.Parsed.{Took, stopped, parsedNumber};
 ghost use Rattle.dates.specs.Durations.{isSubDailyUnit, isSubDailyPart, specificOf, articleOf, concreteOf, durationOf};
-ghost use Rattle.dates.specs.Durations.{parsedPart, pushed, onePart, joinedOf, durationAnswer, Counted};
+ghost use Rattle.dates.specs.Durations.{parsedPart, pushed, takenAnswer, TakenCounted, rowed};
 
 // One part of a duration: `Duration::Article`, `Duration::Specific`.
 pub enum Part {
     Article(Unit),
-    Specific(u32, Unit),
+    Specific(Unit, u32),
 }
 
 // A part and the lexemes taken.
@@ -47,10 +47,10 @@ pub enum Taken {
     Overflow,
 }
 
-// What a duration takes, and its parts behind those that were there; they stand first, so that the row is copied in one go.
-pub struct DurationFound {
+// A row with the parts of a duration, and where that ends.
+pub struct Rowed {
     pub parts: Parts,
-    pub taken: Taken,
+    pub end: usize,
 }
 
 // Duration::is_sub_daily, of a unit
@@ -69,7 +69,7 @@ fn is_sub_daily(p: Part) -> bool
 {
     match p {
         Part::Article(u) => is_sub_daily_unit(u),
-        Part::Specific(_, u) => is_sub_daily_unit(u),
+        Part::Specific(u, _) => is_sub_daily_unit(u),
     }
 }
 
@@ -95,7 +95,7 @@ fn read_specific(l: &[u64]) -> PartFound
     let UnitFound::Is(u) = read_unit(rest(l, t)) else {
         return PartFound::Nothing;
     };
-    PartFound::Is(Part::Specific(n, u), t + 1)
+    PartFound::Is(Part::Specific(u, n), t + 1)
 }
 
 // <article> <unit>
@@ -136,36 +136,6 @@ fn push(parts: Parts, part: Part) -> Parts
     q
 }
 
-// Where no part is found, the row stays as it was.
-fn duration_stopped(c: PartFound, parts: Parts) -> DurationFound
-    ensures { λ r. ⌜ r ≡ durationAnswer parts (stopped (parsedPart c)) ⌝ }
-{
-    let PartFound::Overflow = c else {
-        return DurationFound {
-            taken: Taken::Nothing,
-            parts,
-        };
-    };
-    DurationFound {
-        taken: Taken::Overflow,
-        parts,
-    }
-}
-
-// A duration of one part.
-fn single(parts: Parts, part: Part, t: usize) -> DurationFound
-    requires { ⌜ parts .n < 21 ⌝ }
-    ensures { λ r. ⌜ r ≡ onePart parts part t ⌝ }
-{
-    DurationFound {
-        taken: Taken::Is {
-            taken: t,
-            sub_daily: is_sub_daily(part),
-        },
-        parts: push(parts, part),
-    }
-}
-
 // Whether the first or the second has hours or minutes.
 fn either(a: bool, b: bool) -> bool
     ensures { λ r. ⌜ r ≡ a || b ⌝ }
@@ -173,47 +143,75 @@ fn either(a: bool, b: bool) -> bool
     if a { true } else { b }
 }
 
-// A part of t lexemes, "and", and what was read behind it; with nothing behind it the "and" is not taken.
-fn joined(parts: Parts, part: Part, t: usize, next: DurationFound) -> DurationFound
-    requires { ⌜ (parts .n < 21) × (t ≤ 64) × Counted next (parts .n + 1) 64 ⌝ }
-    ensures { λ r. ⌜ r ≡ joinedOf parts part t next ⌝ }
+// Where no part is found: nothing, or the overflow.
+fn taken_stopped(c: PartFound) -> Taken
+    ensures { λ r. ⌜ r ≡ takenAnswer (stopped (parsedPart c)) ⌝ }
 {
-    let taken = next.taken;
-    match taken {
-        Taken::Is {
-            taken: u,
-            sub_daily,
-        } => {
-            let both = next.parts;
-            DurationFound {
-                taken: Taken::Is {
-                    taken: t + 1 + u,
-                    sub_daily: either(is_sub_daily(part), sub_daily),
-                },
-                parts: both,
-            }
-        }
-        Taken::Nothing => single(parts, part, t),
-        Taken::Overflow => DurationFound {
-            taken: Taken::Overflow,
-            parts,
-        },
-    }
+    let PartFound::Overflow = c else {
+        return Taken::Nothing;
+    };
+    Taken::Overflow
 }
 
-// Duration::parse: the parts go behind those of `parts`, where 64 lexemes leave room for them.
-pub fn read_duration(l: &[u64], parts: Parts) -> DurationFound
-    requires { ⌜ 3 * parts .n + length (now l) ≤ 64 ⌝ }
-    ensures { λ r. ⌜ r ≡ durationAnswer parts (durationOf (now (l .entry))) ⌝ }
-    ensures { λ r. ⌜ Counted r (parts .n) (length (now (l .entry))) ⌝ }
+// Duration::parse, without its parts: an "and" with no part behind it is not taken.
+pub fn read_duration(l: &[u64]) -> Taken
+    ensures { λ r. ⌜ r ≡ takenAnswer (durationOf (now (l .entry))) ⌝ }
+    ensures { λ r. ⌜ TakenCounted r (length (now (l .entry))) ⌝ }
 {
     let c = read_concrete(l);
     let PartFound::Is(part, t) = c else {
-        return duration_stopped(c, parts);
+        return taken_stopped(c);
     };
-    if is_at(l, t, AND) {
-        let next = read_duration(rest(l, t + 1), push(parts, part));
-        return joined(parts, part, t, next);
+    let mut end = t;
+    let mut sub_daily = is_sub_daily(part);
+    while is_at(l, end, AND) {
+        match read_concrete(rest(l, end + 1)) {
+            PartFound::Is(next, u) => {
+                end = end + 1 + u;
+                sub_daily = either(sub_daily, is_sub_daily(next));
+            }
+            PartFound::Nothing => {
+                return Taken::Is {
+                    taken: end,
+                    sub_daily,
+                };
+            }
+            PartFound::Overflow => {
+                return Taken::Overflow;
+            }
+        }
     }
-    single(parts, part, t)
+    Taken::Is {
+        taken: end,
+        sub_daily,
+    }
+}
+
+// The parts of the duration at the front of l behind those of a row, where 64 lexemes leave room for them. With no duration there, the row.
+pub fn with_parts(l: &[u64], parts: Parts) -> Rowed
+    requires { ⌜ 3 * parts .n + length (now l) ≤ 64 ⌝ }
+    ensures { λ r. ⌜ r ≡ rowed parts (durationOf (now (l .entry))) ⌝ }
+{
+    let mut row = parts;
+    let mut end: usize = 0;
+    let mut at: usize = 0;
+    loop {
+        match read_concrete(rest(l, at)) {
+            PartFound::Is(part, t) => {
+                row = push(row, part);
+                end = at + t;
+            }
+            PartFound::Nothing => {
+                return Rowed { parts: row, end };
+            }
+            PartFound::Overflow => {
+                return Rowed { parts, end: 0 };
+            }
+        }
+        if is_at(l, end, AND) {
+            at = end + 1;
+        } else {
+            return Rowed { parts: row, end };
+        }
+    }
 }

@@ -9,7 +9,6 @@ use numbers::num;
 use numbers::slices::is_at;
 use numbers::slices::rest;
 ghost use mathlib.Core.Path.{_≡_};
-ghost use Prim.Native.Nat.{_≤_};
 ghost use lib.ListN.{length};
 ghost use Rattle.dates.specs.Parsed.{Took, stopped, parsedNumber};
 ghost use Rattle.dates.specs.Times.{minuteOf, halfOf, clockOf, timeOf, parsedTime};
@@ -62,9 +61,7 @@ fn read_minute(l: &[u64]) -> Found
 
 // [am | pm] behind hour and minute, which end at t.
 fn read_half(l: &[u64], hour: u32, minute: u32, t: usize) -> TimeFound
-    requires { ⌜ (1 ≤ t) × (t ≤ length (now l)) ⌝ }
     ensures { λ r. ⌜ parsedTime r ≡ halfOf hour minute t (now (l .entry)) ⌝ }
-    ensures { λ r. ⌜ Took (parsedTime r) 1 (length (now (l .entry))) ⌝ }
 {
     if is_at(l, t, AM) {
         return TimeFound::Is(Time::HourMinAM(hour, minute), t + 1);
@@ -78,7 +75,6 @@ fn read_half(l: &[u64], hour: u32, minute: u32, t: usize) -> TimeFound
 // <num> [: [<num>]] [am | pm]
 fn read_clock(l: &[u64]) -> TimeFound
     ensures { λ r. ⌜ parsedTime r ≡ clockOf (now (l .entry)) ⌝ }
-    ensures { λ r. ⌜ Took (parsedTime r) 1 (length (now (l .entry))) ⌝ }
 {
     let a = num(l);
     let Found::Is(hour, t) = a else {

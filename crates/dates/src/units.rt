@@ -55,7 +55,7 @@ pub enum SpecifierFound {
 }
 
 // Article::parse: whether an article stands here. Which of the three it is is never looked at.
-pub fn is_article(l: &[u64]) -> bool
+pub(crate) fn is_article(l: &[u64]) -> bool
     ensures { λ r. ⌜ r ≡ isArticle (now (l .entry)) ⌝ }
     ensures { λ r. ⌜ oneIf r ≤ length (now (l .entry)) ⌝ }
 {
@@ -87,7 +87,7 @@ pub fn read_unit(l: &[u64]) -> UnitFound
 }
 
 // Month::parse: January is 1.
-pub fn read_month(l: &[u64]) -> Found
+pub(crate) fn read_month(l: &[u64]) -> Found
     ensures { λ r. ⌜ parsedNumber r ≡ monthOf (now (l .entry)) ⌝ }
     ensures { λ r. ⌜ Took (parsedNumber r) 1 (length (now (l .entry))) ⌝ }
 {

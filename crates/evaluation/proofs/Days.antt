@@ -6,7 +6,7 @@ use native.Mathlib.Omega.{arith}
 use native.Mathlib.Nat.{sub-zero}
 use borrow.Author.Tests.{le-leb, lt-leb}
 use Rattle.calendar.specs.Moments.{onDay}
-use Rattle.calendar.specs.declared.Moment.{Moment}
+use Rattle.calendar.specs.declared.moments.Moment.{Moment}
 use Rattle.calendar.proofs.Below.{le-or-lt}
 use Rattle.evaluation.specs.Weekdays.{daysBack}
 

@@ -1,4 +1,3 @@
-pub mod Laws
 pub mod Days
 pub mod Rows
 pub mod Links

@@ -7,7 +7,7 @@ use mathlib.Core.List.{List, [], _∷_}
 use lib.ListN.{length, getD, take}
 use lib.Seq.{slice, slice-cons, slice-empty}
 use Rattle.calendar.specs.Moments.{Outcome, moment, refused, andThen}
-use Rattle.calendar.specs.declared.Moment.{Moment}
+use Rattle.calendar.specs.declared.moments.Moment.{Moment}
 use Rattle.dates.specs.Durations.{Duration}
 use Rattle.dates.specs.declared.duration.Slot.{Slot}
 use Rattle.phrase.specs.Tree.{DateTime, around}

@@ -7,7 +7,7 @@ use mathlib.Core.List.{List, [], _∷_}
 use lib.ListN.{length, getD}
 use lib.Seq.{slice, slice-cons, slice-empty}
 use Rattle.calendar.specs.Moments.{Outcome, moment, refused, andThen}
-use Rattle.calendar.specs.declared.Moment.{Moment}
+use Rattle.calendar.specs.declared.moments.Moment.{Moment}
 use Rattle.dates.specs.Durations.{Duration, part, concat}
 use Rattle.dates.specs.declared.duration.Part.{Part}
 use Rattle.dates.specs.declared.duration.Slot.{Slot}

@@ -6,8 +6,8 @@ use Prim.Native.Nat.{ℕ}
 use Rattle.calendar.specs.Gregorian.{leapYear, monthLength, daysBeforeMonth, daysOfYears, dayNumber}
 use Rattle.calendar.specs.Gregorian.{yearsBefore, yearOf, dayOfYear, monthOf, monthOfDay, dayOf}
 use Rattle.calendar.specs.Moments.{Outcome, moment, refused, andThen, isDate, isTime, firstMoment, lastMoment, withDate, withTime}
-use Rattle.calendar.specs.Moments.{onDay, later, earlier, monthsLater, monthsEarlier, yearsLater, yearsEarlier}
-use Rattle.calendar.specs.declared.Moment.{Moment}
+use Rattle.calendar.specs.Moments.{onDay, minutesStep, monthsStep, yearsStep}
+use Rattle.calendar.specs.declared.moments.Moment.{Moment}
 use Rattle.dates.specs.Durations.{part, concat}
 use Rattle.dates.specs.declared.duration.Part.the-variants.{Article, Specific}
 use Rattle.dates.specs.declared.units.Unit.the-variants.{Day, Week, Month, Year}
@@ -32,11 +32,11 @@ row f t o = record { rule = f; from = t; answer = o }
 
 -- "A is 2026-02-11 09:30:15 (Wednesday)"
 abbrev pub A : Moment
-A = record { year = 2026; month = 2; day = 11; hour = 9; minute = 30; second = 15 }
+A = withDate 2026 2 11 (withTime 9 30 15 firstMoment)
 
 -- "B is 2024-02-29 12:00:00."
 abbrev pub B : Moment
-B = record { year = 2024; month = 2; day = 29; hour = 12; minute = 0; second = 0 }
+B = withDate 2024 2 29 (withTime 12 0 0 firstMoment)
 
 -- an answer at the time of day of A
 abbrev day : ℕ → ℕ → ℕ → Outcome
@@ -103,15 +103,15 @@ cases =
     ∷ time (HourMinPM 13 30) (refused 11)
     -- durations: a year is not twelve months, and parts act first to last
     ∷ row (durationStep false (part (Article Year))) B (refused 13)
-    ∷ row (durationStep false (part (Specific 12 Month))) B (moment (withDate 2025 2 28 B))
-    ∷ row (durationStep false (part (Specific 4294967295 Year))) A (refused 12)
+    ∷ row (durationStep false (part (Specific Month 12))) B (moment (withDate 2025 2 28 B))
+    ∷ row (durationStep false (part (Specific Year 4294967295))) A (refused 12)
     ∷ row (durationStep false (concat (Article Month) (part (Article Day)))) B (moment (withDate 2024 3 30 B))
     ∷ row (durationStep false (concat (Article Day) (part (Article Month)))) B (moment (withDate 2024 4 1 B))
-    ∷ row (durationStep true (concat (Specific 2024 Year) (part (Article Day)))) B (refused 12)
+    ∷ row (durationStep true (concat (Specific Year 2024) (part (Article Day)))) B (refused 12)
     ∷ []
 
 -- each rule answers as listed
 pub answers-as-listed : map (λ c. c .rule (c .from)) cases ≡ map (λ c. c .answer) cases
 unfolding cases leapYear monthLength daysBeforeMonth daysOfYears dayNumber yearsBefore yearOf dayOfYear monthOf monthOfDay dayOf
-    isDate isTime onDay later earlier monthsLater monthsEarlier yearsLater yearsEarlier daysBack
+    isDate isTime onDay minutesStep monthsStep yearsStep daysBack
 answers-as-listed = refl

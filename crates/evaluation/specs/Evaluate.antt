@@ -6,8 +6,8 @@ use mathlib.Core.List.{List, [], _∷_, map}
 use Rattle.calendar.specs.Gregorian.{leapYear, monthLength, daysBeforeMonth, daysOfYears, dayNumber}
 use Rattle.calendar.specs.Gregorian.{yearsBefore, yearOf, dayOfYear, monthOf, monthOfDay, dayOf}
 use Rattle.calendar.specs.Moments.{Outcome, moment, refused, andThen, isDate, isTime, withDate, withTime}
-use Rattle.calendar.specs.Moments.{onDay, later, earlier, monthsLater, monthsEarlier, yearsLater, yearsEarlier}
-use Rattle.calendar.specs.declared.Moment.{Moment}
+use Rattle.calendar.specs.Moments.{onDay, minutesStep, monthsStep, yearsStep}
+use Rattle.calendar.specs.declared.moments.Moment.{Moment}
 use Rattle.dates.specs.Durations.{part, isSubDailyUnit}
 use Rattle.dates.specs.declared.date.Date.{Date}
 use Rattle.dates.specs.declared.date.Date.the-variants.{YearMonthNumDay, MonthNumDayYear, DayMonthYear, MonthDayYear}
@@ -21,7 +21,7 @@ use Rattle.dates.specs.declared.units.RelativeSpecifier.the-variants.{This, Nex
 use Rattle.expressions.specs.Tree.{DateExpr, date, dateRelative, dateExpressionAfter, dateExpressionBefore, unitRelative}
 use Rattle.expressions.specs.Tree.{relativeWeekday, weekdayRelative, weekdayExpressionBefore, before, after, weekday, empty}
 use Rattle.phrase.specs.Tree.{DateTime, dateTime, timeDate, durationAfter, durationBefore, now}
-use Rattle.evaluation.specs.Refusals.{NoSense}
+use Rattle.refusals.specs.Table as refusal
 use Rattle.evaluation.specs.Steps.{unitStep, durationStep}
 use Rattle.evaluation.specs.Weekdays.{inWeek, fromToday, backTo}
 use Rattle.evaluation.specs.Dates.{dateAt}
@@ -31,8 +31,8 @@ use Rattle.evaluation.specs.Cases.{Case, row, A, B}
 -- a date moved by a year, by its specifier
 abbrev pub byYear : RelativeSpecifier → Moment → Outcome
 byYear This t = moment t
-byYear Next t = yearsLater 1 t
-byYear Last t = yearsEarlier 1 t
+byYear Next t = yearsStep false 1 t
+byYear Last t = yearsStep true 1 t
 
 -- `matches!(unit, Unit::Year)`
 abbrev pub isYear : Unit → Bool
@@ -67,21 +67,21 @@ isMonthAndDay Empty = false
 
 -- 9: "a `DateRelative` whose unit isn't year or whose date isn't `MonthNumDay` or `MonthDay`"
 abbrev pub dateRelativeAt : Date → RelativeSpecifier → Unit → Moment → Outcome
-dateRelativeAt d s u t = cond (isYear u && isMonthAndDay d) (andThen (dateAt d t) (byYear s)) (refused NoSense)
+dateRelativeAt d s u t = cond (isYear u && isMonthAndDay d) (andThen (dateAt d t) (byYear s)) (refused refusal.NoSense)
 
 -- one unit on or back
 abbrev pub byUnit : RelativeSpecifier → Unit → Moment → Outcome
 byUnit Next u t = unitStep false 1 u t
 byUnit Last u t = unitStep true 1 u t
-byUnit This u t = refused NoSense
+byUnit This u t = refused refusal.NoSense
 
 -- 9: "a `UnitRelative` of "this", or of hour or minute"
 abbrev pub unitRelativeAt : RelativeSpecifier → Unit → Moment → Outcome
-unitRelativeAt s u t = cond (isSubDailyUnit u) (refused NoSense) (byUnit s u t)
+unitRelativeAt s u t = cond (isSubDailyUnit u) (refused refusal.NoSense) (byUnit s u t)
 
 -- 9: "a `WeekdayRelative` whose unit isn't week"
 abbrev pub weekdayRelativeAt : ℕ → RelativeSpecifier → Unit → Moment → Outcome
-weekdayRelativeAt w s u t = cond (isWeek u) (inWeek s (w % 7) t) (refused NoSense)
+weekdayRelativeAt w s u t = cond (isWeek u) (inWeek s (w % 7) t) (refused refusal.NoSense)
 
 -- `DateExpr::to_chrono`; a reading's weekdays are 0 to 6, and % 7 makes one of any other number
 abbrev pub dateExprAt : DateExpr → Moment → Outcome
@@ -118,7 +118,7 @@ trees =
     ∷ row (evaluate (dateTime (date (MonthDay 1 32)) (HourMin 25 0))) A (refused 10)
     ∷ row (evaluate (timeDate (HourMin 25 0) (date (MonthDay 1 31)))) A (refused 11)
     -- then outer durations: 11 where the way would leave the calendar too, and an hour from a stated time
-    ∷ row (evaluate (durationAfter (part (Specific 4294967295 Day)) (dateTime (date Today) (HourMin 25 0)))) A (refused 11)
+    ∷ row (evaluate (durationAfter (part (Specific Day 4294967295)) (dateTime (date Today) (HourMin 25 0)))) A (refused 11)
     ∷ row (evaluate (durationAfter (part (Article Hour)) (timeDate (HourMin 23 30) empty))) B (moment (withTime 0 30 0 (withDate 2024 3 1 B)))
     -- innermost first: the day and then the month
     ∷ row (evaluate (durationBefore (part (Article Month)) (durationAfter (part (Article Day)) now))) B (moment (withDate 2024 2 1 B))
@@ -137,5 +137,5 @@ trees =
 -- each tree evaluates as listed
 pub trees-as-listed : map (λ c. c .rule (c .from)) trees ≡ map (λ c. c .answer) trees
 unfolding trees evaluate leapYear monthLength daysBeforeMonth daysOfYears dayNumber yearsBefore yearOf dayOfYear monthOf monthOfDay dayOf
-    isDate isTime onDay later earlier monthsLater monthsEarlier yearsLater yearsEarlier
+    isDate isTime onDay minutesStep monthsStep yearsStep
 trees-as-listed = refl

@@ -6,10 +6,7 @@ use lib.ListN.{getD}
 use lib.Seq.{slice}
 use Rattle.phrase.specs.Tree.{DateTime as Tree}
 use Rattle.phrase.specs.Flat.{rowDuration, baseFrom, blankLink}
-use Rattle.expressions.specs.declared.expr.Expr.{Expr}
-use Rattle.expressions.specs.declared.expr.Expr.the-variants.{Date, DateRelative, DateExpressionAfter, DateExpressionBefore, UnitRelative}
-use Rattle.expressions.specs.declared.expr.Expr.the-variants.{RelativeWeekday, WeekdayRelative, WeekdayExpressionBefore, Before, After}
-use Rattle.expressions.specs.declared.expr.Expr.the-variants.{Weekday, Empty}
+use Rattle.expressions.specs.Shapes.{hasDuration}
 use Rattle.phrase.specs.declared.reading.Base.{Base}
 use Rattle.phrase.specs.declared.reading.Base.the-variants.{Now, DateTime, TimeDate}
 use Rattle.phrase.specs.declared.reading.Reading.{Reading}
@@ -18,22 +15,7 @@ use Rattle.phrase.specs.declared.reading.Reading.{Reading}
 abbrev pub baseOf : Reading → Tree
 baseOf r = baseFrom (r .base) (r .time) (rowDuration (slice (r .own) (r .parts .n) (r .parts .items)))
 
--- whether a date expression has a duration
-abbrev pub hasDuration : Expr → Bool
-hasDuration (Date d) = false
-hasDuration (DateRelative d s u) = false
-hasDuration (DateExpressionAfter d) = true
-hasDuration (DateExpressionBefore d) = true
-hasDuration (UnitRelative s u) = false
-hasDuration (RelativeWeekday s w) = false
-hasDuration (WeekdayRelative w s u) = false
-hasDuration (WeekdayExpressionBefore w) = true
-hasDuration (Before d) = true
-hasDuration (After d) = true
-hasDuration (Weekday w) = false
-hasDuration Empty = false
-
--- whether a base has one
+-- whether a base has a duration
 abbrev pub baseDuration : Base → Bool
 baseDuration Now = false
 baseDuration (DateTime e) = hasDuration e

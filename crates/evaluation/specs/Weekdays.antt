@@ -4,10 +4,10 @@ use mathlib.Core.Bool.{cond}
 use lib.Dec.{leb}
 use Rattle.calendar.specs.Gregorian.{weekday}
 use Rattle.calendar.specs.Moments.{Outcome, refused, dayOfMoment, onDay}
-use Rattle.calendar.specs.declared.Moment.{Moment}
+use Rattle.calendar.specs.declared.moments.Moment.{Moment}
 use Rattle.dates.specs.declared.units.RelativeSpecifier.{RelativeSpecifier}
 use Rattle.dates.specs.declared.units.RelativeSpecifier.the-variants.{This, Next, Last}
-use Rattle.evaluation.specs.Refusals.{Outside}
+use Rattle.refusals.specs.Table as refusal
 
 -- the Monday of the ISO week of a day
 abbrev pub mondayOf : ℕ → ℕ
@@ -15,7 +15,7 @@ mondayOf n = n - weekday n
 
 -- the day that lies b days before day n
 unfoldable pub daysBack : ℕ → ℕ → Moment → Outcome
-daysBack n b t = cond (leb b n) (onDay (n - b) t) (refused Outside)
+daysBack n b t = cond (leb b n) (onDay (n - b) t) (refused refusal.Outside)
 
 -- "that weekday in the following, preceding or same ISO week"
 abbrev pub inWeek : RelativeSpecifier → ℕ → Moment → Outcome

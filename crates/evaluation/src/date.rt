@@ -1,14 +1,12 @@
 // Dates at a now.
-use super::refusal::NO_DATE;
-use super::refusal::OUTSIDE;
-use super::step::Reached;
-use super::step::minutes_step;
-use calendar::Moment;
-use calendar::valid_date;
+use calendar::moments::Moment;
+use calendar::moments::Reached;
+use calendar::moments::valid_date;
 use dates::date::Date;
+use refusals::NO_DATE;
+use refusals::OUTSIDE;
 ghost use mathlib.Core.Path.{_≡_};
-ghost use Rattle.calendar.specs.Moments.{IsMoment};
-ghost use Rattle.evaluation.specs.Steps.{reachedOf, Valid};
+ghost use Rattle.calendar.specs.Moments.{IsMoment, reachedOf, Valid};
 ghost use Rattle.evaluation.specs.Dates.{statedDate, dateAt};
 
 // A stated date at the time of day of t: the year's range before month and day.
@@ -37,8 +35,8 @@ pub fn date_at(date: Date, t: Moment) -> Reached
 {
     match date {
         Date::Today => Reached::At(t),
-        Date::Yesterday => minutes_step(true, 1440, t),
-        Date::Tomorrow => minutes_step(false, 1440, t),
+        Date::Yesterday => t.minutes_step(true, 1440),
+        Date::Tomorrow => t.minutes_step(false, 1440),
         Date::MonthNumDay(m, d) => stated_date(t.year, m, d, t),
         Date::MonthNumDayYear(m, d, y) => stated_date(y, m, d, t),
         Date::YearMonthNumDay(y, m, d) => stated_date(y, m, d, t),

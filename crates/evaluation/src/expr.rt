@@ -1,32 +1,30 @@
 // Date expressions at a now. Their durations are the parts of the reading from `own` on.
 use super::date::date_at;
-use super::refusal::NO_SENSE;
-use super::step::Reached;
 use super::step::duration_step;
 use super::step::unit_step;
-use super::step::years_step;
 use super::weekday::back_to;
 use super::weekday::from_today;
 use super::weekday::in_week;
-use calendar::Moment;
+use calendar::moments::Moment;
+use calendar::moments::Reached;
 use dates::date::Date;
 use dates::duration::Parts;
 use dates::duration::is_sub_daily_unit;
 use dates::units::RelativeSpecifier;
 use dates::units::Unit;
 use expressions::expr::Expr;
+use refusals::NO_SENSE;
 ghost use mathlib.Core.Path.{_≡_};
 ghost use mathlib.Core.Bool.{true};
 ghost use Prim.Native.Nat.{_≤_, _<_, _%_};
 ghost use lib.Seq.{slice};
-ghost use Rattle.calendar.specs.Moments.{IsMoment, andThen};
-ghost use Rattle.expressions.specs.Shapes.{exprFrom};
+ghost use Rattle.calendar.specs.Moments.{IsMoment, andThen, reachedOf, Valid};
+ghost use Rattle.expressions.specs.Shapes.{exprFrom, hasDuration};
 ghost use Rattle.phrase.specs.Flat.{rowDuration};
-ghost use Rattle.evaluation.specs.Steps.{reachedOf, Valid, durationStep};
+ghost use Rattle.evaluation.specs.Steps.{durationStep};
 ghost use Rattle.evaluation.specs.Weekdays.{backTo};
 ghost use Rattle.evaluation.specs.Evaluate.{byYear, isYear, isWeek, isMonthAndDay};
 ghost use Rattle.evaluation.specs.Evaluate.{dateRelativeAt, unitRelativeAt, weekdayRelativeAt, dateExprAt};
-ghost use Rattle.evaluation.specs.Formed.{hasDuration};
 
 // A date moved by a year, by its specifier.
 fn by_year(specifier: RelativeSpecifier, x: Reached) -> Reached
@@ -39,8 +37,8 @@ fn by_year(specifier: RelativeSpecifier, x: Reached) -> Reached
     };
     match specifier {
         RelativeSpecifier::This => x,
-        RelativeSpecifier::Next => years_step(false, 1, t),
-        RelativeSpecifier::Last => years_step(true, 1, t),
+        RelativeSpecifier::Next => t.years_step(false, 1),
+        RelativeSpecifier::Last => t.years_step(true, 1),
     }
 }
 
@@ -138,7 +136,7 @@ fn weekday_before(w: u32, parts: Parts, own: u8, t: Moment) -> Reached
 }
 
 // DateExpr::to_chrono, at the time of day of t.
-pub fn expr_at(expr: Expr, parts: Parts, own: u8, t: Moment) -> Reached
+pub(crate) fn expr_at(expr: Expr, parts: Parts, own: u8, t: Moment) -> Reached
     requires { ⌜ IsMoment t × (parts .n ≤ 21) × (hasDuration expr ≡ true → own < parts .n) ⌝ }
     ensures { λ r. ⌜ reachedOf r ≡ dateExprAt (exprFrom expr (rowDuration (slice own (parts .n) (parts .items)))) t ⌝ }
     ensures { λ r. ⌜ Valid (reachedOf r) ⌝ }

@@ -2,7 +2,6 @@
 pub mod date;
 pub mod expr;
 pub mod reading;
-pub mod refusal;
-pub mod step;
+mod step;
 pub mod time;
 pub mod weekday;

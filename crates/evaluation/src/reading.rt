@@ -1,16 +1,15 @@
 // A flat reading at a now: date, time of day, then the durations around them, innermost first.
 use super::expr::expr_at;
-use super::step::Reached;
 use super::step::duration_step;
 use super::time::time_at;
-use calendar::Moment;
+use calendar::moments::Moment;
+use calendar::moments::Reached;
 use dates::time::Time;
 use phrase::reading::Base;
 use phrase::reading::Reading;
 ghost use mathlib.Core.Path.{_≡_};
-ghost use Rattle.calendar.specs.Moments.{IsMoment, andThen};
+ghost use Rattle.calendar.specs.Moments.{IsMoment, andThen, reachedOf, Valid};
 ghost use Rattle.phrase.specs.Flat.{treeOf};
-ghost use Rattle.evaluation.specs.Steps.{reachedOf, Valid};
 ghost use Rattle.evaluation.specs.Times.{timeAt};
 ghost use Rattle.evaluation.specs.Evaluate.{evaluate};
 ghost use Rattle.evaluation.specs.Formed.{baseOf, Formed};

@@ -1,12 +1,11 @@
 // A time of day on a date.
-use super::refusal::NO_TIME;
-use super::step::Reached;
-use calendar::Moment;
-use calendar::valid_time;
+use calendar::moments::Moment;
+use calendar::moments::Reached;
+use calendar::moments::valid_time;
 use dates::time::Time;
+use refusals::NO_TIME;
 ghost use mathlib.Core.Path.{_≡_};
-ghost use Rattle.calendar.specs.Moments.{IsMoment, inRange};
-ghost use Rattle.evaluation.specs.Steps.{reachedOf, Valid};
+ghost use Rattle.calendar.specs.Moments.{IsMoment, inRange, reachedOf, Valid};
 ghost use Rattle.evaluation.specs.Times.{statedTime, timeAt};
 
 // A stated time has second 0.

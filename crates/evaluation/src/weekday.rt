@@ -1,16 +1,14 @@
 // Weekdays by walking from day to day, as the Rust does. Days are counted from two weeks before the first one, so that no walk
 // falls below 0.
-use super::refusal::OUTSIDE;
-use super::step::Reached;
-use super::step::outcome;
-use calendar::Moment;
-use calendar::weekday_of;
+use calendar::moments::Moment;
+use calendar::moments::Reached;
+use calendar::moments::weekday_of;
 use dates::units::RelativeSpecifier;
+use refusals::OUTSIDE;
 ghost use mathlib.Core.Path.{_≡_};
 ghost use Prim.Native.Nat.{_+_, _-_, _*_, _/_, _%_, _≤_, _<_};
 ghost use Rattle.calendar.specs.Gregorian.{days};
-ghost use Rattle.calendar.specs.Moments.{IsMoment};
-ghost use Rattle.evaluation.specs.Steps.{reachedOf, Valid};
+ghost use Rattle.calendar.specs.Moments.{IsMoment, reachedOf, Valid};
 ghost use Rattle.evaluation.specs.Weekdays.{daysBack, inWeek, fromToday, backTo};
 
 // Two weeks.
@@ -75,7 +73,7 @@ fn on_counted(n: u32, t: Moment) -> Reached
     if n < MARGIN {
         return Reached::Refused(OUTSIDE);
     }
-    outcome(t.on_day(n - MARGIN))
+    t.on_day(n - MARGIN)
 }
 
 // That weekday in the following, preceding or same week.

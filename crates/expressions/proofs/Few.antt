@@ -1,240 +1,188 @@
--- Three lexemes are taken for each part of a tree, so that 64 lexemes have at most 21.
-use Prim.Native.Nat.{ℕ, _+_, _*_, _≤_}
+-- Three lexemes are taken for each part of a date expression, and its duration stands at its place.
+use Prim.Native.Nat.{ℕ, _+_, _*_, _≤_, _<_}
 use native.Mathlib.Omega.{arith}
+use native.Mathlib.Nat.{add-zero}
 use mathlib.Core.Path.{_≡_, refl}
 use mathlib.Core.Bool.{Bool, true, false, _&&_, not}
-use mathlib.Core.List.{List}
+use mathlib.Core.List.{List, [], _∷_}
 use lib.ListN.{length, drop, length-drop}
+use lib.Seq.{drop-drop}
 use Rattle.lexer.specs.Lexemes as lexeme
 use Rattle.numbers.specs.Slices.{isAt}
 use Rattle.numbers.proofs.Places.{at-most, there}
-use Rattle.dates.specs.Parsed.{Parsed, is, nothing, overflow, pick, ifLet, andThen, Took}
+use Rattle.dates.specs.Parsed.{Parsed, is, ifLet, andThen}
 use Rattle.dates.specs.Units.{unitOf, weekdayOf, relativeSpecifierOf}
-use Rattle.dates.specs.Durations.{Duration, size, durationOf, isSubDaily}
+use Rattle.dates.specs.Durations.{Duration, into, size, isSubDaily, durationOf}
 use Rattle.dates.specs.Dates.{dateOf}
 use Rattle.dates.specs.declared.date.Date.{Date}
 use Rattle.dates.specs.declared.duration.Parts.{Parts}
+use Rattle.dates.proofs.Each.{Each, let-each, pick-each, if-let-each, then-each}
+use Rattle.dates.proofs.Laws.{found}
 use Rattle.dates.proofs.Bounds.{unit-took, weekday-took, specifier-took, date-took}
-use Rattle.dates.proofs.Durations.{Sized, duration-sized, into-n}
-use Rattle.expressions.specs.Tree.{DateExpr, date, dateRelative, dateExpressionAfter, dateExpressionBefore, unitRelative}
-use Rattle.expressions.specs.Tree.{relativeWeekday, weekdayRelative, weekdayExpressionBefore, before, after, weekday, empty}
+use Rattle.dates.proofs.Durations.{duration-bounds, into-n}
+use Rattle.expressions.specs.Tree.{DateExpr, after}
 use Rattle.expressions.specs.DateExprs.{Tail, relative, ago, inside, stray, inTailOf, durationTailOf, tailOf, withDate, withWeekday}
 use Rattle.expressions.specs.DateExprs.{withDurationOf, relativeExprOf, weekdayExprOf, undatedOf, dateExprOf}
-use Rattle.expressions.specs.Shapes.{sizeExpr, intoExpr}
-use Rattle.expressions.specs.ExprAnswers.{tailAnswer, TailBounds, TailCounted, exprAnswer, ExprCounted}
-use Rattle.expressions.specs.declared.expr.Tail.{Tail as TailTaken}
-use Rattle.expressions.specs.declared.expr.Tail.the-variants.{Relative, Ago, Inside, Stray, Nothing as NoTail, Overflow as TailOverflow}
-use Rattle.expressions.specs.declared.expr.TailFound.{TailFound}
-use Rattle.expressions.specs.declared.expr.ExprFound.{ExprFound}
+use Rattle.expressions.specs.Shapes.{ownOf, ofOwn, intoExpr, sizeExpr, OwnStands}
+use Rattle.expressions.specs.ExprAnswers.{tailPlace, placeLet, tailAt, weekdayPlace, undatedPlace, exprPlace, placeAt}
 
-abbrev Bounds : {A : Type 0} → (A → ℕ) → Parsed A → ℕ → ℕ → Type 0
-Bounds parts (is v t) k n = (k ≤ t) × (t ≤ n) × (3 * parts v ≤ t)
-Bounds parts nothing k n = Unit
-Bounds parts overflow k n = Unit
+-- t lexemes were read of l: three for each part of a duration that stands at p, if there is one
+pub record Read (own : List Duration) (p t : ℕ) (l : List ℕ) : Type 0 where
+  pub least : 1 ≤ t
+  pub most : t ≤ length l
+  pub few : 3 * ofOwn 0 size own ≤ t
+  pub within : p ≤ t
+  pub stands : OwnStands own (drop p l)
 
--- at least k and at most n lexemes are taken, and three for each part
-pub record Few {A : Type 0} (parts : A → ℕ) (p : Parsed A) (k n : ℕ) : Type 0 where
-  pub bounds : Bounds parts p k n
+-- with no duration
+bare : {t : ℕ} {l : List ℕ} → 1 ≤ t → t ≤ length l → Read [] 0 t l
+bare a b = record { least = a; most = b; few = omega arith; within = omega arith; stands = tt }
 
-module _ {A : Type 0} {parts : A → ℕ} where
-  pub nothing-few : {k n : ℕ} → Few parts nothing k n
-  nothing-few = record { bounds = tt }
+-- with a duration of u lexemes
+held : (l : List ℕ) (p : ℕ) {dur : Duration} {u : ℕ} (t : ℕ) → durationOf (drop p l) ≡ is dur u → u < t → p ≤ t → t ≤ length l
+    → Read (dur ∷ []) p t l
+held l p {u = u} t e a b c =
+    let s = duration-bounds (drop p l) e in
+    record { least = omega arith; most = c; few = omega arith; within = b; stands = record { taken = u; reading = e } }
 
-  -- a test, with what it says on either side
-  pub pick-few : (b : Bool) (x y : Parsed A) {k n : ℕ} →
-      (b ≡ true → Few parts x k n) → (b ≡ false → Few parts y k n) → Few parts (pick b x y) k n
-  pick-few true x y f g = f refl
-  pick-few false x y f g = g refl
+-- the same from t lexemes before on
+further : {own : List Duration} {p u : ℕ} (t : ℕ) (l : List ℕ) → t ≤ length l → Read own p u (drop t l) → Read own (t + p) (t + u) l
+further {own} {p} {u} t l a h =
+    let left = length-drop t l in
+    let m = h .most in
+    record {
+      least = omega (arith, h .least);
+      most = omega arith;
+      few = omega (arith, h .few);
+      within = omega (arith, h .within);
+      stands = rw (drop-drop p t l) at (h .stands);
+    }
 
-  -- what follows a reader of one kind or another, which has bounds of its own
-  pub then-few : {B : Type 0} (p : Parsed B) (f : B → ℕ → Parsed A) {i m k n : ℕ} →
-      Took p i m → ((v : B) (t : ℕ) → i ≤ t → t ≤ m → Few parts (f v t) k n) → Few parts (andThen p f) k n
-  then-few (is v t) f g h = let b = g .bounds in h v t (omega arith) (omega arith)
-  then-few nothing f g h = nothing-few
-  then-few overflow f g h = record { bounds = tt }
+abbrev ownTail : Tail → List Duration
+ownTail (relative s u) = []
+ownTail (ago dur) = dur ∷ []
+ownTail (inside dur) = dur ∷ []
+ownTail stray = []
 
-  -- what follows it, and what stands where it finds nothing
-  pub if-let-few : {B : Type 0} (p : Parsed B) (f : B → ℕ → Parsed A) (b : Parsed A) {i m k n : ℕ} →
-      Took p i m → ((v : B) (t : ℕ) → i ≤ t → t ≤ m → Few parts (f v t) k n) → Few parts b k n → Few parts (ifLet p f b) k n
-  if-let-few (is v t) f b g h z = let e = g .bounds in h v t (omega arith) (omega arith)
-  if-let-few nothing f b g h z = z
-  if-let-few overflow f b g h z = record { bounds = tt }
+abbrev TailRead : List ℕ → Tail → ℕ → Type 0
+TailRead l x t = Read (ownTail x) (tailPlace (is x t)) t l
 
-  -- the same behind a reader whose own parts count
-  pub if-let-parts : {B : Type 0} {own : B → ℕ} (p : Parsed B) (f : B → ℕ → Parsed A) (b : Parsed A) {i m k n : ℕ} →
-      Few own p i m → ((v : B) (t : ℕ) → i ≤ t → t ≤ m → 3 * own v ≤ t → Few parts (f v t) k n) →
-      Few parts b k n → Few parts (ifLet p f b) k n
-  if-let-parts (is v t) f b g h z = let e = g .bounds in h v t (omega arith) (omega arith) (omega arith)
-  if-let-parts nothing f b g h z = z
-  if-let-parts overflow f b g h z = record { bounds = tt }
+abbrev pub ExprRead : List ℕ → ℕ → DateExpr → ℕ → Type 0
+ExprRead l p x t = Read (ownOf x) (placeAt p x) t l
 
-  -- the same behind a duration, whose last part has its connection still to come
-  pub if-let-duration : (p : Parsed Duration) (f : Duration → ℕ → Parsed A) (b : Parsed A) {m k n : ℕ} →
-      Sized p m → ((d : Duration) (t : ℕ) → 2 ≤ t → t ≤ m → 3 * size d ≤ t + 1 → Few parts (f d t) k n) →
-      Few parts b k n → Few parts (ifLet p f b) k n
-  if-let-duration (is d t) f b g h z = let e = g .sizes in h d t (omega arith) (omega arith) (omega arith)
-  if-let-duration nothing f b g h z = z
-  if-let-duration overflow f b g h z = record { bounds = tt }
-
--- the parts of a tail's duration
-abbrev sizeTail : Tail → ℕ
-sizeTail (relative s u) = 0
-sizeTail (ago d) = size d
-sizeTail (inside d) = size d
-sizeTail stray = 0
+in-tail-read : (l : List ℕ) → Each (TailRead l) (inTailOf l)
+unfolding inTailOf
+in-tail-read l =
+    pick-each (isAt l 0 lexeme.In)
+    (λ e. let some = there (at-most l 0 lexeme.In) e in
+    if-let-each (durationOf (drop 1 l)) _ _
+    (λ dur t f. let left = length-drop 1 l in let s = duration-bounds (drop 1 l) f in
+    pick-each (isSubDaily dur) (λ g. record { bounds = bare (omega arith) (omega arith) })
+    (λ g. record { bounds = held l 1 (1 + t) f (omega arith) (omega arith) (omega arith) }))
+    (record { bounds = bare (omega arith) (omega arith) }))
+    (λ e. record { bounds = tt })
 
 both : (p q : Bool) → p && q ≡ true → p ≡ true
 both true q e = refl
 both false q e = e
 
-pub in-tail-few : (l : List ℕ) → Few sizeTail (inTailOf l) 0 (length l)
-unfolding inTailOf
-in-tail-few l =
-    pick-few (isAt l 0 lexeme.In) _ _
-    (λ e. let some = there (at-most l 0 lexeme.In) e in
-    if-let-duration (durationOf (drop 1 l)) _ _ (duration-sized (drop 1 l))
-    (λ d t a b c. let left = length-drop 1 l in
-    pick-few (isSubDaily d) _ _ (λ f. record { bounds = omega arith }) (λ f. record { bounds = omega arith }))
-    (record { bounds = omega arith }))
-    (λ e. nothing-few)
-
-pub duration-tail-few : (l : List ℕ) → Few sizeTail (durationTailOf l) 0 (length l)
+duration-tail-read : (l : List ℕ) → Each (TailRead l) (durationTailOf l)
 unfolding durationTailOf
-duration-tail-few l =
-    if-let-duration (durationOf l) _ _ (duration-sized l)
-    (λ d t a b c. pick-few (isAt l t lexeme.Ago && not (isSubDaily d)) _ _
-    (λ e. let some = there (at-most l t lexeme.Ago) (both (isAt l t lexeme.Ago) _ e) in record { bounds = omega arith })
-    (λ e. record { bounds = omega arith }))
-    (in-tail-few l)
+duration-tail-read l =
+    if-let-each (durationOf l) _ _
+    (λ dur t e. let s = duration-bounds l e in
+    pick-each (isAt l t lexeme.Ago && not (isSubDaily dur))
+    (λ f. let some = there (at-most l t lexeme.Ago) (both (isAt l t lexeme.Ago) _ f) in
+    record { bounds = held l 0 (t + 1) e (omega arith) (omega arith) (omega arith) })
+    (λ f. record { bounds = bare (omega arith) (omega arith) }))
+    (in-tail-read l)
 
--- the tail behind a date or a weekday
-pub tail-few : (l : List ℕ) → Few sizeTail (tailOf l) 0 (length l)
+tail-read : (l : List ℕ) → Each (TailRead l) (tailOf l)
 unfolding tailOf
-tail-few l =
-    if-let-few (relativeSpecifierOf l) _ _ (specifier-took l)
-    (λ s t a b. let left = length-drop t l in
-    if-let-few (unitOf (drop t l)) _ _ (unit-took (drop t l))
-    (λ u k c d. record { bounds = omega arith })
-    (record { bounds = omega arith }))
-    (duration-tail-few l)
+tail-read l =
+    if-let-each (relativeSpecifierOf l) _ _
+    (λ s t e. let a = found e (specifier-took l) in let left = length-drop t l in
+    if-let-each (unitOf (drop t l)) _ _
+    (λ u k f. let b = found f (unit-took (drop t l)) in record { bounds = bare (omega arith) (omega arith) })
+    (record { bounds = bare (a .0) (a .1) }))
+    (duration-tail-read l)
 
--- the bounds of the code's answer for a tail
-tail-counted : (ps : Parts) (p : Parsed Tail) {n : ℕ} → Few sizeTail p 0 n → TailCounted (tailAnswer ps p) (ps .n) n
-tail-counted ps (is (relative s u) t) h = let b = h .bounds in record { bounds = (refl, omega arith) }
-tail-counted ps (is (ago d) t) h = let b = h .bounds in let k = into-n d ps in record { bounds = (omega arith, omega arith) }
-tail-counted ps (is (inside d) t) h = let b = h .bounds in let k = into-n d ps in record { bounds = (omega arith, omega arith) }
-tail-counted ps (is stray t) h = let b = h .bounds in record { bounds = (refl, omega arith) }
-tail-counted ps nothing h = record { bounds = refl }
-tail-counted ps overflow h = record { bounds = refl }
+module _ (l : List ℕ) (t : ℕ) (a : (1 ≤ t) × (t ≤ length l)) where
+  abbrev Tailed : (Tail → ℕ → Parsed DateExpr) → Type 0
+  Tailed f = (x : Tail) (u : ℕ) → Read (ownTail x) (t + tailPlace (is x u)) (t + u) l → Each (ExprRead l (t + tailPlace (is x u))) (f x u)
 
-tail-wider′ : (w : TailTaken) (m k n n′ : ℕ) → n ≤ n′ → TailBounds w m k n → TailBounds w m k n′
-tail-wider′ (Relative s u t) m k n n′ e h = (h .0, omega arith)
-tail-wider′ (Ago t) m k n n′ e h = (h .0, omega arith)
-tail-wider′ (Inside t) m k n n′ e h = (h .0, omega arith)
-tail-wider′ (Stray t) m k n n′ e h = (h .0, omega arith)
-tail-wider′ NoTail m k n n′ e h = h
-tail-wider′ TailOverflow m k n n′ e h = h
+  date-tailed : (d : Date) → Tailed (withDate d t)
+  date-tailed d (relative s k) u h = record { bounds = bare (h .least) (h .most) }
+  date-tailed d (ago dur) u h = record { bounds = h }
+  date-tailed d (inside dur) u h = record { bounds = h }
+  date-tailed d stray u h = record { bounds = bare (a .0) (a .1) }
 
--- the same within more lexemes
-pub tail-wider : {r : TailFound} {m n n′ : ℕ} → TailCounted r m n → n ≤ n′ → TailCounted r m n′
-tail-wider {r} {m} {n} {n′} h e = record { bounds = tail-wider′ (r .tail) m (r .parts .n) n n′ e (h .bounds) }
+  weekday-tailed : (w : ℕ) → Tailed (withWeekday w t)
+  weekday-tailed w (relative s k) u h = record { bounds = bare (h .least) (h .most) }
+  weekday-tailed w (ago dur) u h = record { bounds = h }
+  weekday-tailed w (inside dur) u h = record { bounds = h }
+  weekday-tailed w stray u h = record { bounds = bare (h .least) (h .most) }
 
--- what a reader of a tail promises
-pub tail-promised : {r : TailFound} (ps : Parts) {p : Parsed Tail} {n : ℕ} →
-    r ≡ tailAnswer ps p → Few sizeTail p 0 n → (r ≡ tailAnswer ps p) × TailCounted r (ps .n) n
-tail-promised ps {p} e h = (e, rw e (tail-counted ps p h))
+  -- a head of t lexemes, and its tail
+  head-read : (f : Tail → ℕ → Parsed DateExpr) (x : DateExpr) → ownOf x ≡ [] → Tailed f
+      → Each (ExprRead l (tailAt l t)) (ifLet (tailOf (drop t l)) f (is x t))
+  head-read f x e g =
+      let-each (λ w. ExprRead l (t + tailPlace w)) (tailOf (drop t l)) _ _
+      (λ y u e. g y u (further t l (a .1) ((rw e at (tail-read (drop t l))) .bounds)))
+      (record { bounds = rw e (bare (a .0) (a .1)) })
 
-with-date-few : (d : Date) (t : ℕ) (x : Tail) (u n : ℕ) → 1 ≤ t → t + u ≤ n → 3 * sizeTail x ≤ u → Few sizeExpr (withDate d t x u) 1 n
-with-date-few d t (relative s k) u n a b c = record { bounds = omega arith }
-with-date-few d t (ago dur) u n a b c = record { bounds = omega arith }
-with-date-few d t (inside dur) u n a b c = record { bounds = omega arith }
-with-date-few d t stray u n a b c = record { bounds = omega arith }
+-- a word behind a duration of t lexemes, and u lexemes more
+behind : (l : List ℕ) {dur : Duration} {t : ℕ} (x u : ℕ) → durationOf l ≡ is dur t → isAt l t x ≡ true → u ≤ length (drop (t + 1) l)
+    → Read (dur ∷ []) 0 (t + 1 + u) l
+behind l {t = t} x u e f a =
+    let some = there (at-most l t x) f in
+    let left = length-drop (t + 1) l in
+    held l 0 (t + 1 + u) e (omega arith) (omega arith) (omega arith)
 
-with-weekday-few : (w t : ℕ) (x : Tail) (u n : ℕ) → 1 ≤ t → t + u ≤ n → 3 * sizeTail x ≤ u → Few sizeExpr (withWeekday w t x u) 1 n
-with-weekday-few w t (relative s k) u n a b c = record { bounds = omega arith }
-with-weekday-few w t (ago dur) u n a b c = record { bounds = omega arith }
-with-weekday-few w t (inside dur) u n a b c = record { bounds = omega arith }
-with-weekday-few w t stray u n a b c = record { bounds = omega arith }
-
--- the date behind a duration of t lexemes and its connection
-after-few : (l : List ℕ) (dur : Duration) (t : ℕ) → t + 1 ≤ length l → 3 * size dur ≤ t + 1 →
-    Few sizeExpr (andThen (dateOf (drop (t + 1) l)) (λ d u. is (after dur d) (t + 1 + u))) 1 (length l)
-after-few l dur t a b =
-    then-few (dateOf (drop (t + 1) l)) _ (date-took (drop (t + 1) l))
-    (λ d u c e. let left = length-drop (t + 1) l in record { bounds = omega arith })
-
-with-duration-few : (l : List ℕ) (dur : Duration) (t : ℕ) → t ≤ length l → 3 * size dur ≤ t + 1 →
-    Few sizeExpr (withDurationOf dur t l) 1 (length l)
+with-duration-read : (l : List ℕ) (dur : Duration) (t : ℕ) → durationOf l ≡ is dur t → Each (ExprRead l 0) (withDurationOf dur t l)
 unfolding withDurationOf
-with-duration-few l dur t a b =
-    pick-few (isSubDaily dur) _ _ (λ e. nothing-few)
-    (λ e. pick-few (isAt l t lexeme.Ago) _ _
-    (λ f. let some = there (at-most l t lexeme.Ago) f in record { bounds = omega arith })
-    (λ f. pick-few (isAt l t lexeme.After) _ _
-    (λ g. let some = there (at-most l t lexeme.After) g in after-few l dur t (omega arith) b)
-    (λ g. pick-few (isAt l t lexeme.From) _ _
-    (λ h. let some = there (at-most l t lexeme.From) h in after-few l dur t (omega arith) b)
-    (λ h. nothing-few))))
+with-duration-read l dur t e =
+    pick-each (isSubDaily dur) (λ f. record { bounds = tt })
+    (λ f. pick-each (isAt l t lexeme.Ago) (λ g. record { bounds = rw (← (add-zero (t + 1))) (behind l lexeme.Ago 0 e g (omega arith)) })
+    (λ g. pick-each (isAt l t lexeme.After) (dated lexeme.After)
+    (λ h. pick-each (isAt l t lexeme.From) (dated lexeme.From) (λ i. record { bounds = tt }))))
+  where
+    dated : (x : ℕ) → isAt l t x ≡ true → Each (ExprRead l 0) (andThen (dateOf (drop (t + 1) l)) (λ d u. is (after dur d) (t + 1 + u)))
+    dated x f = then-each _ _ (λ d u g. record { bounds = behind l x u e f (found g (date-took (drop (t + 1) l)) .1) })
 
-pub relative-few : (l : List ℕ) → Few sizeExpr (relativeExprOf l) 1 (length l)
+relative-read : (l : List ℕ) → Each (ExprRead l 0) (relativeExprOf l)
 unfolding relativeExprOf
-relative-few l =
-    then-few (relativeSpecifierOf l) _ (specifier-took l)
-    (λ s t a b. let left = length-drop t l in
-    if-let-few (weekdayOf (drop t l)) _ _ (weekday-took (drop t l))
-    (λ w u c d. record { bounds = omega arith })
-    (then-few (unitOf (drop t l)) _ (unit-took (drop t l)) (λ k u c d. record { bounds = omega arith })))
+relative-read l =
+    then-each (relativeSpecifierOf l) _ (λ s t e. let a = found e (specifier-took l) in let left = length-drop t l in
+    if-let-each (weekdayOf (drop t l)) _ _
+    (λ w u f. let b = found f (weekday-took (drop t l)) in record { bounds = bare (omega arith) (omega arith) })
+    (then-each (unitOf (drop t l)) _
+    (λ u k f. let b = found f (unit-took (drop t l)) in record { bounds = bare (omega arith) (omega arith) })))
 
-pub weekday-few : (l : List ℕ) → Few sizeExpr (weekdayExprOf l) 1 (length l)
+weekday-read : (l : List ℕ) → Each (ExprRead l (weekdayPlace l)) (weekdayExprOf l)
 unfolding weekdayExprOf
-weekday-few l =
-    if-let-few (weekdayOf l) _ _ (weekday-took l)
-    (λ w t a b. let left = length-drop t l in
-    if-let-parts (tailOf (drop t l)) _ _ (tail-few (drop t l))
-    (λ x u c d e. with-weekday-few w t x u (length l) a (omega arith) e)
-    (record { bounds = omega arith }))
-    (relative-few l)
+weekday-read l =
+    let-each (λ w. ExprRead l (placeLet w (tailAt l) 0)) (weekdayOf l) _ _
+    (λ w t e. let a = found e (weekday-took l) in head-read l t a _ _ refl (weekday-tailed l t a w))
+    (relative-read l)
 
-pub undated-few : (l : List ℕ) → Few sizeExpr (undatedOf l) 1 (length l)
+undated-read : (l : List ℕ) → Each (ExprRead l (undatedPlace l)) (undatedOf l)
 unfolding undatedOf
-undated-few l =
-    if-let-duration (durationOf l) _ _ (duration-sized l)
-    (λ d t a b c. with-duration-few l d t b c)
-    (weekday-few l)
+undated-read l =
+    let-each (λ w. ExprRead l (placeLet w (λ t. 0) (weekdayPlace l))) (durationOf l) _ _ (with-duration-read l) (weekday-read l)
 
 -- a date expression
-pub expr-few : (l : List ℕ) → Few sizeExpr (dateExprOf l) 1 (length l)
+pub expr-few : (l : List ℕ) → Each (ExprRead l (exprPlace l)) (dateExprOf l)
 unfolding dateExprOf
 expr-few l =
-    if-let-few (dateOf l) _ _ (date-took l)
-    (λ d t a b. let left = length-drop t l in
-    if-let-parts (tailOf (drop t l)) _ _ (tail-few (drop t l))
-    (λ x u c e f. with-date-few d t x u (length l) a (omega arith) f)
-    (record { bounds = omega arith }))
-    (undated-few l)
+    let-each (λ w. ExprRead l (placeLet w (tailAt l) (undatedPlace l))) (dateOf l) _ _
+    (λ d t e. let a = found e (date-took l) in head-read l t a _ _ refl (date-tailed l t a d))
+    (undated-read l)
 
 -- the row has as many parts more as the date expression
 pub into-expr-n : (x : DateExpr) (ps : Parts) → intoExpr x ps .n ≡ ps .n + sizeExpr x
-into-expr-n (date d) ps = omega arith
-into-expr-n (dateRelative d s u) ps = omega arith
-into-expr-n (dateExpressionAfter d dur) ps = into-n dur ps
-into-expr-n (dateExpressionBefore d dur) ps = into-n dur ps
-into-expr-n (unitRelative s u) ps = omega arith
-into-expr-n (relativeWeekday s w) ps = omega arith
-into-expr-n (weekdayRelative w s u) ps = omega arith
-into-expr-n (weekdayExpressionBefore w dur) ps = into-n dur ps
-into-expr-n (before dur d) ps = into-n dur ps
-into-expr-n (after dur d) ps = into-n dur ps
-into-expr-n (weekday w) ps = omega arith
-into-expr-n empty ps = omega arith
-
--- the bounds of the code's answer for a date expression
-expr-counted : (ps : Parts) (p : Parsed DateExpr) {n : ℕ} → Few sizeExpr p 1 n → ExprCounted (exprAnswer ps p) (ps .n) n
-expr-counted ps (is x t) h = let b = h .bounds in let k = into-expr-n x ps in record { bounds = (omega arith, omega arith, omega arith) }
-expr-counted ps nothing h = record { bounds = refl }
-expr-counted ps overflow h = record { bounds = refl }
-
--- what a reader of a date expression promises
-pub expr-promised : {r : ExprFound} (ps : Parts) {p : Parsed DateExpr} {n : ℕ} →
-    r ≡ exprAnswer ps p → Few sizeExpr p 1 n → (r ≡ exprAnswer ps p) × ExprCounted r (ps .n) n
-expr-promised ps {p} e h = (e, rw e (expr-counted ps p h))
+into-expr-n x ps = go (ownOf x)
+  where
+    go : (own : List Duration) → ofOwn ps (λ dur. into dur ps) own .n ≡ ps .n + ofOwn 0 size own
+    go [] = omega arith
+    go (dur ∷ none) = into-n dur ps

@@ -1,2 +1,3 @@
-pub mod Answers
 pub mod Few
+pub mod Own
+pub mod Small

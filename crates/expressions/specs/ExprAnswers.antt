@@ -1,108 +1,83 @@
--- The answers of the code's readers of date expressions: a tree's shape and count, and its parts behind those that were there.
-use Prim.Native.Nat.{ℕ, _+_, _*_, _≤_}
-use mathlib.Core.Path.{_≡_}
-use mathlib.Core.Bool.{Bool, cond}
+-- The code's answer for a date expression: its shape, its count, and the place of its duration among the lexemes that it was read of.
+use Prim.Native.Nat.{ℕ, _+_, _≤_}
 use mathlib.Core.List.{List}
 use lib.ListN.{drop}
-use Rattle.lexer.specs.Lexemes as lexeme
-use Rattle.numbers.specs.Slices.{isAt}
-use Rattle.dates.specs.Parsed.{Parsed, is, nothing, overflow}
-use Rattle.dates.specs.Durations.{into}
+use Rattle.dates.specs.Parsed.{Parsed, is, nothing, overflow, ifLet}
+use Rattle.dates.specs.Units.{weekdayOf}
+use Rattle.dates.specs.Durations.{durationOf}
 use Rattle.dates.specs.Dates.{dateOf}
-use Rattle.dates.specs.declared.date.Date.{Date}
-use Rattle.dates.specs.declared.date.Date.the-variants.{Empty}
-use Rattle.dates.specs.declared.duration.Parts.{Parts}
 use Rattle.expressions.specs.Tree.{DateExpr}
-use Rattle.expressions.specs.DateExprs.{Tail, relative, ago, inside, stray}
-use Rattle.expressions.specs.Shapes.{shape, intoExpr}
-use Rattle.expressions.specs.declared.expr.Expr.{Expr}
-use Rattle.expressions.specs.declared.expr.Expr.the-variants as e
-use Rattle.expressions.specs.declared.expr.Tail.{Tail as TailTaken}
-use Rattle.expressions.specs.declared.expr.Tail.the-variants.{Relative, Ago, Inside, Stray, Nothing as NoTail, Overflow as TailOverflow}
-use Rattle.expressions.specs.declared.expr.TailFound.{TailFound}
+use Rattle.expressions.specs.DateExprs.{Tail, relative, ago, inside, stray, tailOf, withDate, withWeekday}
+use Rattle.expressions.specs.Shapes.{shape, ownOf, ofOwn}
+use Rattle.expressions.specs.declared.expr.Head.{Head}
+use Rattle.expressions.specs.declared.expr.Head.the-variants.{Date, Weekday}
 use Rattle.expressions.specs.declared.expr.ExprTaken.{ExprTaken}
 use Rattle.expressions.specs.declared.expr.ExprTaken.the-variants.{Is, Nothing, Overflow}
-use Rattle.expressions.specs.declared.expr.ExprFound.{ExprFound}
 
--- the code's answer for a tail
-abbrev pub tailAnswer : Parts → Parsed Tail → TailFound
-tailAnswer ps (is (relative s u) t) = record { tail = Relative s u t; parts = ps }
-tailAnswer ps (is (ago d) t) = record { tail = Ago t; parts = into d ps }
-tailAnswer ps (is (inside d) t) = record { tail = Inside t; parts = into d ps }
-tailAnswer ps (is stray t) = record { tail = Stray t; parts = ps }
-tailAnswer ps nothing = record { tail = NoTail; parts = ps }
-tailAnswer ps overflow = record { tail = TailOverflow; parts = ps }
+-- where the duration of a tail begins: behind its "in"
+abbrev pub tailPlace : Parsed Tail → ℕ
+tailPlace (is (relative s u) t) = 0
+tailPlace (is (ago d) t) = 0
+tailPlace (is (inside d) t) = 1
+tailPlace (is stray t) = 0
+tailPlace nothing = 0
+tailPlace overflow = 0
 
--- the code's answer for a date expression
-abbrev pub exprAnswer : Parts → Parsed DateExpr → ExprFound
-exprAnswer ps (is x t) = record { expr = Is (shape x) t; parts = intoExpr x ps }
-exprAnswer ps nothing = record { expr = Nothing; parts = ps }
-exprAnswer ps overflow = record { expr = Overflow; parts = ps }
+-- a place behind what was read, and z where nothing was
+abbrev pub placeLet : {A : Type 0} → Parsed A → (ℕ → ℕ) → ℕ → ℕ
+placeLet (is v t) at z = at t
+placeLet nothing at z = z
+placeLet overflow at z = 0
 
-abbrev found : Expr → ℕ → Parts → ExprFound
-found x t ps = record { expr = Is x t; parts = ps }
+-- the duration of a tail that stands at t
+abbrev pub tailAt : List ℕ → ℕ → ℕ
+tailAt l t = t + tailPlace (tailOf (drop t l))
 
-abbrev dateTailTaken : Date → ℕ → TailTaken → Parts → Parts → ExprFound
-dateTailTaken d t (Relative s u k) with ps = found (e.DateRelative d s u) (t + k) with
-dateTailTaken d t (Ago k) with ps = found (e.DateExpressionBefore d) (t + k) with
-dateTailTaken d t (Inside k) with ps = found (e.DateExpressionAfter d) (t + k) with
-dateTailTaken d t (Stray k) with ps = found (e.Date d) t ps
-dateTailTaken d t NoTail with ps = found (e.Date d) t ps
-dateTailTaken d t TailOverflow with ps = record { expr = Overflow; parts = ps }
+-- where a duration begins, in the order of `dateExprOf`: from the weekday on
+abbrev pub weekdayPlace : List ℕ → ℕ
+weekdayPlace l = placeLet (weekdayOf l) (tailAt l) 0
 
--- a date of t lexemes with the tail that was read behind it: `date-tailed` says that it is what `dateExprOf` has there
-abbrev pub dateTailed : Date → ℕ → TailFound → Parts → ExprFound
-dateTailed d t r ps = dateTailTaken d t (r .tail) (r .parts) ps
+-- from the duration on
+abbrev pub undatedPlace : List ℕ → ℕ
+undatedPlace l = placeLet (durationOf l) (λ t. 0) (weekdayPlace l)
 
-abbrev weekdayTailTaken : ℕ → ℕ → TailTaken → Parts → Parts → ExprFound
-weekdayTailTaken w t (Relative s u k) with ps = found (e.WeekdayRelative w s u) (t + k) with
-weekdayTailTaken w t (Ago k) with ps = found (e.WeekdayExpressionBefore w) (t + k) with
-weekdayTailTaken w t (Inside k) with ps = found (e.WeekdayExpressionBefore w) (t + k) with
-weekdayTailTaken w t (Stray k) with ps = found (e.Weekday w) (t + k) ps
-weekdayTailTaken w t NoTail with ps = found (e.Weekday w) t ps
-weekdayTailTaken w t TailOverflow with ps = record { expr = Overflow; parts = ps }
+-- of a whole date expression
+abbrev pub exprPlace : List ℕ → ℕ
+exprPlace l = placeLet (dateOf l) (tailAt l) (undatedPlace l)
 
--- a weekday of t lexemes with the tail that was read behind it: `weekday-tailed` says that it is what `weekdayExprOf` has there
-abbrev pub weekdayTailed : ℕ → ℕ → TailFound → Parts → ExprFound
-weekdayTailed w t r ps = weekdayTailTaken w t (r .tail) (r .parts) ps
+-- p for a date expression with a duration, 0 for one without
+abbrev pub placeAt : ℕ → DateExpr → ℕ
+placeAt p x = ofOwn 0 (λ dur. p) (ownOf x)
 
--- the date behind a duration and its connection of t lexemes, once it is read
-abbrev pub afterTaken : Parsed Date → ℕ → Parts → Parts → ExprFound
-afterTaken (is d u) t with ps = found (e.After d) (t + u) with
-afterTaken nothing t with ps = record { expr = Nothing; parts = ps }
-afterTaken overflow t with ps = record { expr = Overflow; parts = ps }
+-- where the duration of a date expression begins among the lexemes that it was read of
+abbrev pub ownPlace : List ℕ → DateExpr → ℕ
+ownPlace l x = placeAt (exprPlace l) x
 
--- the same, from the lexemes
-abbrev pub afterAnswer : List ℕ → ℕ → Parts → Parts → ExprFound
-afterAnswer l t with ps = afterTaken (dateOf (drop t l)) t with ps
+-- the code's answer, whose duration begins at p
+abbrev pub answerAt : ℕ → Parsed DateExpr → ExprTaken
+answerAt p (is x t) = Is (shape x) t (placeAt p x)
+answerAt p nothing = Nothing
+answerAt p overflow = Overflow
 
--- what stands behind a duration of t lexemes: `duration-behind` says that it is what `withDurationOf` gives
-abbrev pub withDurationAnswer : List ℕ → ℕ → Bool → Parts → Parts → ExprFound
-withDurationAnswer l t subDaily with ps =
-    cond subDaily (record { expr = Nothing; parts = ps })
-    (cond (isAt l t lexeme.Ago) (found (e.Before Empty) (t + 1) with)
-    (cond (isAt l t lexeme.After) (afterAnswer l (t + 1) with ps)
-    (cond (isAt l t lexeme.From) (afterAnswer l (t + 1) with ps)
-    (record { expr = Nothing; parts = ps }))))
+-- the code's answer for a date expression that was read of l: `Is (shape x) t (ownPlace l x)` of `is x t`
+abbrev pub exprAnswer : List ℕ → Parsed DateExpr → ExprTaken
+exprAnswer l w = answerAt (exprPlace l) w
 
--- what a tail says of the parts: k of them behind m, and of its lexemes, at most n
-abbrev pub TailBounds : TailTaken → ℕ → ℕ → ℕ → Type 0
-TailBounds (Relative s u t) m k n = (k ≡ m) × (t ≤ n)
-TailBounds (Ago t) m k n = (3 * k ≤ 3 * m + t) × (t ≤ n)
-TailBounds (Inside t) m k n = (3 * k ≤ 3 * m + t) × (t ≤ n)
-TailBounds (Stray t) m k n = (k ≡ m) × (t ≤ n)
-TailBounds NoTail m k n = k ≡ m
-TailBounds TailOverflow m k n = k ≡ m
+-- a head with the tail that was read behind it
+abbrev pub withHead : Head → ℕ → Tail → ℕ → Parsed DateExpr
+withHead (Date d) t x u = withDate d t x u
+withHead (Weekday w) t x u = withWeekday w t x u
 
--- behind m parts: at most n lexemes, and three for each part
-pub record TailCounted (r : TailFound) (m n : ℕ) : Type 0 where
-  pub bounds : TailBounds (r .tail) m (r .parts .n) n
+-- the code's answer for a head of t lexemes and what was read behind it; alone it is as with a tail of no lexemes that is given up
+abbrev pub tailedAnswer : Head → ℕ → Parsed Tail → ExprTaken
+tailedAnswer h t p = answerAt (t + tailPlace p) (ifLet p (withHead h t) (withHead h t stray 0))
 
-abbrev ExprBounds : ExprTaken → ℕ → ℕ → ℕ → Type 0
-ExprBounds (Is x t) m k n = (3 * k ≤ 3 * m + t) × (1 ≤ t) × (t ≤ n)
-ExprBounds Nothing m k n = k ≡ m
-ExprBounds Overflow m k n = k ≡ m
+-- the bounds of `ExprCounted`
+abbrev pub ExprBounds : ExprTaken → ℕ → Type 0
+ExprBounds (Is x t p) n = (1 ≤ t) × (t ≤ n) × (p ≤ t)
+ExprBounds Nothing n = Unit
+ExprBounds Overflow n = Unit
 
--- behind m parts: at least one and at most n lexemes, and three for each part
-pub record ExprCounted (r : ExprFound) (m n : ℕ) : Type 0 where
-  pub bounds : ExprBounds (r .expr) m (r .parts .n) n
+-- at least one and at most n lexemes, and the duration begins within them
+pub record ExprCounted (r : ExprTaken) (n : ℕ) : Type 0 where
+  pub bounds : ExprBounds r n

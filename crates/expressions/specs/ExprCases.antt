@@ -1,12 +1,13 @@
 -- Worked cases: what `DateExpr::parse` gives for each row of lexemes, computed.
 use mathlib.Core.Path.{_≡_, refl}
 use mathlib.Core.List.{List, [], _∷_, map}
-use Prim.Native.Nat.{ℕ, _+_}
+use Prim.Native.Nat.{ℕ}
 use Rattle.lexer.specs.Lexemes as lexeme
 use Rattle.numbers.specs.Slices.{get, isAt, within}
 use Rattle.numbers.specs.Answers.{fitsOf}
 use Rattle.numbers.specs.Numbers as number
-use Rattle.dates.specs.Parsed.{Parsed, is, nothing, overflow}
+use Rattle.dates.specs.Parsed.{is, nothing, overflow}
+use Rattle.dates.specs.Rows.{Row, row, Num}
 use Rattle.dates.specs.Units.{isArticle, unitOf, monthOf, weekdayOf, relativeSpecifierOf}
 use Rattle.numbers.specs.Again.{turns, again}
 use Rattle.dates.specs.Durations.{Duration, part, specificOf, articleOf, concreteOf, durationStep, durationOf}
@@ -22,24 +23,12 @@ use Rattle.expressions.specs.Tree.{relativeWeekday, weekdayRelative, wee
 use Rattle.expressions.specs.DateExprs.{inTailOf, durationTailOf, tailOf, withDurationOf}
 use Rattle.expressions.specs.DateExprs.{relativeExprOf, weekdayExprOf, undatedOf, dateExprOf}
 
--- a row: the lexemes, and what is read of them
-pub record Case : Type 0 where
-  pub lexemes : List ℕ
-  pub reading : Parsed DateExpr
-
--- the literal n
-abbrev Num : ℕ → ℕ
-Num n = lexeme.NUM + n
-
 -- n of a unit
 abbrev of : ℕ → Unit → Duration
-of n u = part (Specific n u)
-
-abbrev row : List ℕ → Parsed DateExpr → Case
-row l r = record { lexemes = l; reading = r }
+of n u = part (Specific u n)
 
 -- the table
-unfoldable pub cases : List Case
+unfoldable pub cases : List (Row DateExpr)
 cases =
     -- a date alone, with each tail, and with a tail that is given up: the count is rolled back
     row (lexeme.Today ∷ []) (is (date Today) 1)

@@ -1,11 +1,19 @@
--- A date expression without its duration, its parts, and the way back.
+-- A date expression without its duration, its duration, and the way back.
 use Prim.Native.Nat.{ℕ}
-use Rattle.dates.specs.Durations.{Duration, into, size}
+use mathlib.Core.Bool.{Bool, true, false}
+use mathlib.Core.Path.{_≡_}
+use mathlib.Core.List.{List, [], _∷_}
+use Rattle.dates.specs.Parsed.{is}
+use Rattle.dates.specs.Durations.{Duration, part, durationOf, into, size}
+use Rattle.dates.specs.declared.duration.Part.the-variants.{Article}
 use Rattle.dates.specs.declared.duration.Parts.{Parts}
+use Rattle.dates.specs.declared.units.Unit.the-variants.{Day}
 use Rattle.expressions.specs.Tree.{DateExpr, date, dateRelative, dateExpressionAfter, dateExpressionBefore, unitRelative}
 use Rattle.expressions.specs.Tree.{relativeWeekday, weekdayRelative, weekdayExpressionBefore, before, after, weekday, empty}
 use Rattle.expressions.specs.declared.expr.Expr.{Expr}
-use Rattle.expressions.specs.declared.expr.Expr.the-variants.{Date as Dated, DateRelative, DateExpressionAfter, DateExpressionBefore, UnitRelative, RelativeWeekday, WeekdayRelative, WeekdayExpressionBefore, Before, After, Weekday, Empty}
+use Rattle.expressions.specs.declared.expr.Expr.the-variants.{Date as Dated, DateRelative, DateExpressionAfter, DateExpressionBefore}
+use Rattle.expressions.specs.declared.expr.Expr.the-variants.{UnitRelative, RelativeWeekday, WeekdayRelative, WeekdayExpressionBefore}
+use Rattle.expressions.specs.declared.expr.Expr.the-variants.{Before, After, Weekday, Empty}
 
 -- a date expression without its duration
 abbrev pub shape : DateExpr → Expr
@@ -22,20 +30,20 @@ shape (after dur d) = After d
 shape (weekday w) = Weekday w
 shape empty = Empty
 
--- the parts of its duration, where it has one, behind those of a row
-abbrev pub intoExpr : DateExpr → Parts → Parts
-intoExpr (date d) ps = ps
-intoExpr (dateRelative d s u) ps = ps
-intoExpr (dateExpressionAfter d dur) ps = into dur ps
-intoExpr (dateExpressionBefore d dur) ps = into dur ps
-intoExpr (unitRelative s u) ps = ps
-intoExpr (relativeWeekday s w) ps = ps
-intoExpr (weekdayRelative w s u) ps = ps
-intoExpr (weekdayExpressionBefore w dur) ps = into dur ps
-intoExpr (before dur d) ps = into dur ps
-intoExpr (after dur d) ps = into dur ps
-intoExpr (weekday w) ps = ps
-intoExpr empty ps = ps
+-- its duration, where it has one
+abbrev pub ownOf : DateExpr → List Duration
+ownOf (date d) = []
+ownOf (dateRelative d s u) = []
+ownOf (dateExpressionAfter d dur) = dur ∷ []
+ownOf (dateExpressionBefore d dur) = dur ∷ []
+ownOf (unitRelative s u) = []
+ownOf (relativeWeekday s w) = []
+ownOf (weekdayRelative w s u) = []
+ownOf (weekdayExpressionBefore w dur) = dur ∷ []
+ownOf (before dur d) = dur ∷ []
+ownOf (after dur d) = dur ∷ []
+ownOf (weekday w) = []
+ownOf empty = []
 
 -- a date expression with its duration
 abbrev pub exprFrom : Expr → Duration → DateExpr
@@ -52,17 +60,29 @@ exprFrom (After d) dur = after dur d
 exprFrom (Weekday w) dur = weekday w
 exprFrom Empty dur = empty
 
+-- z where there is no duration, and f of it where there is one
+abbrev pub ofOwn : {A : Type 0} → A → (Duration → A) → List Duration → A
+ofOwn z f [] = z
+ofOwn z f (dur ∷ none) = f dur
+
+-- whether a duration belongs to it: "a day", given to it, is its own
+abbrev pub hasDuration : Expr → Bool
+hasDuration e = ofOwn false (λ dur. true) (ownOf (exprFrom e (part (Article Day))))
+
+-- the parts of its duration, where it has one, behind those of a row
+abbrev pub intoExpr : DateExpr → Parts → Parts
+intoExpr x ps = ofOwn ps (λ dur. into dur ps) (ownOf x)
+
 -- how many parts its duration has
 abbrev pub sizeExpr : DateExpr → ℕ
-sizeExpr (date d) = 0
-sizeExpr (dateRelative d s u) = 0
-sizeExpr (dateExpressionAfter d dur) = size dur
-sizeExpr (dateExpressionBefore d dur) = size dur
-sizeExpr (unitRelative s u) = 0
-sizeExpr (relativeWeekday s w) = 0
-sizeExpr (weekdayRelative w s u) = 0
-sizeExpr (weekdayExpressionBefore w dur) = size dur
-sizeExpr (before dur d) = size dur
-sizeExpr (after dur d) = size dur
-sizeExpr (weekday w) = 0
-sizeExpr empty = 0
+sizeExpr x = ofOwn 0 size (ownOf x)
+
+-- a duration stands at the front of lexemes
+pub record Stands (dur : Duration) (l : List ℕ) : Type 0 where
+  pub taken : ℕ
+  pub reading : durationOf l ≡ is dur taken
+
+-- the duration that a date expression may have stands at the front of lexemes
+abbrev pub OwnStands : List Duration → List ℕ → Type 0
+OwnStands [] l = Unit
+OwnStands (dur ∷ none) l = Stands dur l

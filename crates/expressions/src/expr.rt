@@ -2,7 +2,6 @@
 use dates::date::Date;
 use dates::date::DateFound;
 use dates::date::read_date;
-use dates::duration::Parts;
 use dates::duration::Taken;
 use dates::duration::read_duration;
 use dates::units::RelativeSpecifier;
@@ -20,11 +19,16 @@ use numbers::Found;
 use numbers::slices::is_at;
 use numbers::slices::rest;
 ghost use mathlib.Core.Path.{_≡_};
-ghost use Prim.Native.Nat.{_+_, _*_, _≤_};
+ghost use Prim.Native.Nat.{ℕ, _+_, _≤_};
 ghost use lib.ListN.{length, drop};
-ghost use Rattle.expressions.specs.DateExprs.{inTailOf, durationTailOf, tailOf, relativeExprOf, weekdayExprOf, undatedOf, dateExprOf};
-ghost use Rattle.expressions.specs.ExprAnswers.{tailAnswer, TailCounted, dateTailed, weekdayTailed};
-ghost use Rattle.expressions.specs.ExprAnswers.{exprAnswer, ExprCounted, afterAnswer, withDurationAnswer};
+ghost use Rattle.dates.specs.Parsed.{is, andThen};
+ghost use Rattle.dates.specs.Durations.{Duration, isSubDaily};
+ghost use Rattle.dates.specs.Dates.{dateOf};
+ghost use Rattle.expressions.specs.Tree.{after};
+ghost use Rattle.expressions.specs.DateExprs.{relative, ago, inside, stray, inTailOf, durationTailOf, tailOf, withDurationOf};
+ghost use Rattle.expressions.specs.DateExprs.{relativeExprOf, weekdayExprOf, undatedOf, dateExprOf};
+ghost use Rattle.expressions.specs.Shapes.{hasDuration};
+ghost use Rattle.expressions.specs.ExprAnswers.{tailedAnswer, answerAt, weekdayPlace, undatedPlace, exprAnswer, ExprCounted};
 
 // `enum DateExpr` without its durations, whose parts stand in the reading; a weekday is a number, Monday 0.
 pub enum Expr {
@@ -42,366 +46,225 @@ pub enum Expr {
     Empty,
 }
 
-// What stands behind a date or a weekday, and the lexemes taken; `Stray` where lexemes were passed and no alternative is whole.
-pub enum Tail {
-    Relative(RelativeSpecifier, Unit, usize),
-    Ago(usize),
-    Inside(usize),
-    Stray(usize),
-    Nothing,
-    Overflow,
+// What a tail stands behind.
+enum Head {
+    Date(Date),
+    Weekday(u32),
 }
 
-// A tail, with the parts of its duration behind those that were there.
-pub struct TailFound {
-    pub parts: Parts,
-    pub tail: Tail,
-}
-
-// A date expression and the lexemes taken.
+// A date expression, the lexemes taken, and the place of the first lexeme of its duration, 0 where it has none.
 pub enum ExprTaken {
-    Is(Expr, usize),
+    Is(Expr, usize, usize),
     Nothing,
     Overflow,
 }
 
-// A date expression, with the parts of its duration behind those that were there.
-pub struct ExprFound {
-    pub parts: Parts,
-    pub expr: ExprTaken,
+// Whether a duration belongs to it.
+pub fn has_duration(e: Expr) -> bool
+    ensures { λ r. ⌜ r ≡ hasDuration e ⌝ }
+{
+    match e {
+        Expr::DateExpressionAfter(_)
+        | Expr::DateExpressionBefore(_)
+        | Expr::WeekdayExpressionBefore(_)
+        | Expr::Before(_)
+        | Expr::After(_) => true,
+        _ => false,
+    }
 }
 
-// in <duration>, unless that is sub-daily
-fn read_in_tail(l: &[u64], parts: Parts) -> TailFound
-    requires { ⌜ 3 * parts .n + length (now l) ≤ 64 ⌝ }
-    ensures { λ r. ⌜ r ≡ tailAnswer parts (inTailOf (now (l .entry))) ⌝ }
-    ensures { λ r. ⌜ TailCounted r (parts .n) (length (now (l .entry))) ⌝ }
+// A head of t lexemes, and a tail that is given up, which ends at s: behind a date the count is rolled back.
+fn stray(h: Head, t: usize, s: usize) -> ExprTaken
+    ensures { λ r. ⌜ ((u : ℕ) → s ≡ t + u → r ≡ tailedAnswer h t (is stray u)) ⌝ }
 {
-    if is_at(l, 0, IN) {
-        let d = read_duration(rest(l, 1), parts);
-        let with = d.parts;
-        let taken = d.taken;
-        match taken {
+    match h {
+        Head::Date(d) => ExprTaken::Is(Expr::Date(d), t, 0),
+        Head::Weekday(w) => ExprTaken::Is(Expr::Weekday(w), s, 0),
+    }
+}
+
+// A head and a relative tail, which ends at s.
+fn relative(h: Head, spec: RelativeSpecifier, unit: Unit, s: usize) -> ExprTaken
+    ensures { λ r. ⌜ ((t u : ℕ) → s ≡ t + u → r ≡ tailedAnswer h t (is (relative spec unit) u)) ⌝ }
+{
+    match h {
+        Head::Date(d) => ExprTaken::Is(Expr::DateRelative(d, spec, unit), s, 0),
+        Head::Weekday(w) => ExprTaken::Is(Expr::WeekdayRelative(w, spec, unit), s, 0),
+    }
+}
+
+// A head and a tail with "ago", whose duration begins at t, and which ends at s.
+fn ago(h: Head, t: usize, s: usize) -> ExprTaken
+    ensures { λ r. ⌜ ((dur : Duration) (u : ℕ) → s ≡ t + u → r ≡ tailedAnswer h t (is (ago dur) u)) ⌝ }
+{
+    match h {
+        Head::Date(d) => ExprTaken::Is(Expr::DateExpressionBefore(d), s, t),
+        Head::Weekday(w) => ExprTaken::Is(Expr::WeekdayExpressionBefore(w), s, t),
+    }
+}
+
+// A head and a tail with "in", whose duration begins at p, and which ends at s: behind a weekday it goes back as "ago" does.
+fn inside(h: Head, p: usize, s: usize) -> ExprTaken
+    ensures { λ r. ⌜ ((dur : Duration) (t u : ℕ) → p ≡ t + 1 → s ≡ t + u → r ≡ tailedAnswer h t (is (inside dur) u)) ⌝ }
+{
+    match h {
+        Head::Date(d) => ExprTaken::Is(Expr::DateExpressionAfter(d), s, p),
+        Head::Weekday(w) => ExprTaken::Is(Expr::WeekdayExpressionBefore(w), s, p),
+    }
+}
+
+// in <duration>, unless that is sub-daily, behind a head of t lexemes
+fn read_in_tail(l: &[u64], h: Head, t: usize) -> ExprTaken
+    requires { ⌜ t ≤ length (now l) ⌝ }
+    ensures { λ r. ⌜ r ≡ tailedAnswer h t (inTailOf (drop t (now (l .entry)))) ⌝ }
+{
+    let tail = rest(l, t);
+    if is_at(tail, 0, IN) {
+        let p = t + 1;
+        match read_duration(rest(tail, 1)) {
             Taken::Is {
-                taken: t,
+                taken: u,
                 sub_daily,
             } => {
                 if sub_daily {
-                    return TailFound {
-                        tail: Tail::Stray(1),
-                        parts,
-                    };
+                    return stray(h, t, p);
                 }
-                return TailFound {
-                    tail: Tail::Inside(1 + t),
-                    parts: with,
-                };
+                return inside(h, p, p + u);
             }
             Taken::Nothing => {
-                return TailFound {
-                    tail: Tail::Stray(1),
-                    parts,
-                };
+                return stray(h, t, p);
             }
             Taken::Overflow => {
-                return TailFound {
-                    tail: Tail::Overflow,
-                    parts,
-                };
+                return ExprTaken::Overflow;
             }
         }
     }
-    TailFound {
-        tail: Tail::Nothing,
-        parts,
-    }
+    stray(h, t, t)
 }
 
 // <duration> ago, unless that is sub-daily; else in <duration>
-fn read_duration_tail(l: &[u64], parts: Parts) -> TailFound
-    requires { ⌜ 3 * parts .n + length (now l) ≤ 64 ⌝ }
-    ensures { λ r. ⌜ r ≡ tailAnswer parts (durationTailOf (now (l .entry))) ⌝ }
-    ensures { λ r. ⌜ TailCounted r (parts .n) (length (now (l .entry))) ⌝ }
+fn read_duration_tail(l: &[u64], h: Head, t: usize) -> ExprTaken
+    requires { ⌜ t ≤ length (now l) ⌝ }
+    ensures { λ r. ⌜ r ≡ tailedAnswer h t (durationTailOf (drop t (now (l .entry)))) ⌝ }
 {
-    let d = read_duration(l, parts);
-    let with = d.parts;
-    let taken = d.taken;
-    match taken {
+    let tail = rest(l, t);
+    match read_duration(tail) {
         Taken::Is {
-            taken: t,
+            taken: u,
             sub_daily,
         } => {
-            if is_at(l, t, AGO) {
+            if is_at(tail, u, AGO) {
                 if sub_daily {
-                    return TailFound {
-                        tail: Tail::Stray(t),
-                        parts,
-                    };
+                    return stray(h, t, t + u);
                 }
-                return TailFound {
-                    tail: Tail::Ago(t + 1),
-                    parts: with,
-                };
+                return ago(h, t, t + u + 1);
             }
-            TailFound {
-                tail: Tail::Stray(t),
-                parts,
-            }
+            stray(h, t, t + u)
         }
-        Taken::Nothing => read_in_tail(l, parts),
-        Taken::Overflow => TailFound {
-            tail: Tail::Overflow,
-            parts,
-        },
+        Taken::Nothing => read_in_tail(l, h, t),
+        Taken::Overflow => ExprTaken::Overflow,
     }
 }
 
-// <relative_specifier> <unit> | <duration> ago | in <duration>
-fn read_tail(l: &[u64], parts: Parts) -> TailFound
-    requires { ⌜ 3 * parts .n + length (now l) ≤ 64 ⌝ }
-    ensures { λ r. ⌜ r ≡ tailAnswer parts (tailOf (now (l .entry))) ⌝ }
-    ensures { λ r. ⌜ TailCounted r (parts .n) (length (now (l .entry))) ⌝ }
-{
-    let SpecifierFound::Is(spec) = read_specifier(l) else {
-        return read_duration_tail(l, parts);
-    };
-    let UnitFound::Is(unit) = read_unit(rest(l, 1)) else {
-        return TailFound {
-            tail: Tail::Stray(1),
-            parts,
-        };
-    };
-    TailFound {
-        tail: Tail::Relative(spec, unit, 2),
-        parts,
-    }
-}
-
-// A date of t lexemes and its tail: with no whole tail the count is rolled back.
-fn with_date(d: Date, t: usize, tail: TailFound, parts: Parts) -> ExprFound
-    requires { ⌜ (t ≤ 64) × TailCounted tail (parts .n) 64 ⌝ }
-    ensures { λ r. ⌜ r ≡ dateTailed d t tail parts ⌝ }
-{
-    let with = tail.parts;
-    let k = tail.tail;
-    match k {
-        Tail::Relative(spec, unit, u) => ExprFound {
-            expr: ExprTaken::Is(Expr::DateRelative(d, spec, unit), t + u),
-            parts: with,
-        },
-        Tail::Ago(u) => ExprFound {
-            expr: ExprTaken::Is(Expr::DateExpressionBefore(d), t + u),
-            parts: with,
-        },
-        Tail::Inside(u) => ExprFound {
-            expr: ExprTaken::Is(Expr::DateExpressionAfter(d), t + u),
-            parts: with,
-        },
-        Tail::Stray(_) => ExprFound {
-            expr: ExprTaken::Is(Expr::Date(d), t),
-            parts,
-        },
-        Tail::Nothing => ExprFound {
-            expr: ExprTaken::Is(Expr::Date(d), t),
-            parts,
-        },
-        Tail::Overflow => ExprFound {
-            expr: ExprTaken::Overflow,
-            parts,
-        },
-    }
-}
-
-// A weekday of t lexemes and its tail: the count is not rolled back, and "in" is read as "ago".
-fn with_weekday(w: u32, t: usize, tail: TailFound, parts: Parts) -> ExprFound
-    requires { ⌜ (t ≤ 64) × TailCounted tail (parts .n) 64 ⌝ }
-    ensures { λ r. ⌜ r ≡ weekdayTailed w t tail parts ⌝ }
-{
-    let with = tail.parts;
-    let k = tail.tail;
-    match k {
-        Tail::Relative(spec, unit, u) => ExprFound {
-            expr: ExprTaken::Is(Expr::WeekdayRelative(w, spec, unit), t + u),
-            parts: with,
-        },
-        Tail::Ago(u) => ExprFound {
-            expr: ExprTaken::Is(Expr::WeekdayExpressionBefore(w), t + u),
-            parts: with,
-        },
-        Tail::Inside(u) => ExprFound {
-            expr: ExprTaken::Is(Expr::WeekdayExpressionBefore(w), t + u),
-            parts: with,
-        },
-        Tail::Stray(u) => ExprFound {
-            expr: ExprTaken::Is(Expr::Weekday(w), t + u),
-            parts,
-        },
-        Tail::Nothing => ExprFound {
-            expr: ExprTaken::Is(Expr::Weekday(w), t),
-            parts,
-        },
-        Tail::Overflow => ExprFound {
-            expr: ExprTaken::Overflow,
-            parts,
-        },
-    }
-}
-
-// A date of t lexemes and what stands behind it: no tail is looked for where no lexeme is left.
-fn read_date_tail(l: &[u64], d: Date, t: usize, parts: Parts) -> ExprFound
-    requires { ⌜ (t ≤ length (now l)) × (3 * parts .n + length (now l) ≤ 64) ⌝ }
-    ensures { λ r. ⌜ r ≡ dateTailed d t (tailAnswer parts (tailOf (drop t (now (l .entry))))) parts ⌝ }
+// <relative_specifier> <unit> | <duration> ago | in <duration>, behind a head of t lexemes; not looked for where no lexeme is left
+fn read_tail(l: &[u64], h: Head, t: usize) -> ExprTaken
+    requires { ⌜ t ≤ length (now l) ⌝ }
+    ensures { λ r. ⌜ r ≡ tailedAnswer h t (tailOf (drop t (now (l .entry)))) ⌝ }
 {
     if l.len() <= t {
-        return ExprFound {
-            expr: ExprTaken::Is(Expr::Date(d), t),
-            parts,
-        };
+        return stray(h, t, t);
     }
-    with_date(d, t, read_tail(rest(l, t), parts), parts)
-}
-
-// A weekday of t lexemes and what stands behind it: no tail is looked for where no lexeme is left.
-fn read_weekday_tail(l: &[u64], w: u32, t: usize, parts: Parts) -> ExprFound
-    requires { ⌜ (t ≤ length (now l)) × (3 * parts .n + length (now l) ≤ 64) ⌝ }
-    ensures { λ r. ⌜ r ≡ weekdayTailed w t (tailAnswer parts (tailOf (drop t (now (l .entry))))) parts ⌝ }
-{
-    if l.len() <= t {
-        return ExprFound {
-            expr: ExprTaken::Is(Expr::Weekday(w), t),
-            parts,
-        };
-    }
-    with_weekday(w, t, read_tail(rest(l, t), parts), parts)
+    let tail = rest(l, t);
+    let SpecifierFound::Is(spec) = read_specifier(tail) else {
+        return read_duration_tail(l, h, t);
+    };
+    let UnitFound::Is(unit) = read_unit(rest(tail, 1)) else {
+        return stray(h, t, t + 1);
+    };
+    relative(h, spec, unit, t + 2)
 }
 
 // after <date> | from <date>: the date behind a duration and its connection, which end at t
-fn read_after(l: &[u64], t: usize, with: Parts, parts: Parts) -> ExprFound
-    requires { ⌜ (t ≤ length (now l)) × (length (now l) ≤ 64) ⌝ }
-    ensures { λ r. ⌜ r ≡ afterAnswer (now (l .entry)) t with parts ⌝ }
+fn read_after(l: &[u64], t: usize) -> ExprTaken
+    requires { ⌜ t ≤ length (now l) ⌝ }
+    ensures { λ r. ⌜ ((dur : Duration) → r ≡ answerAt 0 (andThen (dateOf (drop t (now (l .entry)))) (λ d u. is (after dur d) (t + u)))) ⌝ }
 {
     match read_date(rest(l, t)) {
-        DateFound::Is(d, u) => ExprFound {
-            expr: ExprTaken::Is(Expr::After(d), t + u),
-            parts: with,
-        },
-        DateFound::Nothing => ExprFound {
-            expr: ExprTaken::Nothing,
-            parts,
-        },
-        DateFound::Overflow => ExprFound {
-            expr: ExprTaken::Overflow,
-            parts,
-        },
+        DateFound::Is(d, u) => ExprTaken::Is(Expr::After(d), t + u, 0),
+        DateFound::Nothing => ExprTaken::Nothing,
+        DateFound::Overflow => ExprTaken::Overflow,
     }
 }
 
-// What stands behind a duration of t lexemes, whose parts are the last of `with`; a sub-daily one is given up.
-fn with_duration(l: &[u64], t: usize, sub_daily: bool, with: Parts, parts: Parts) -> ExprFound
-    requires { ⌜ (t ≤ length (now l)) × (length (now l) ≤ 64) ⌝ }
-    ensures { λ r. ⌜ r ≡ withDurationAnswer (now (l .entry)) t «sub_daily» with parts ⌝ }
+// What stands behind a duration of t lexemes; a sub-daily one is given up.
+fn with_duration(l: &[u64], t: usize, sub_daily: bool) -> ExprTaken
+    requires { ⌜ t ≤ length (now l) ⌝ }
+    ensures { λ r. ⌜ ((dur : Duration) → isSubDaily dur ≡ «sub_daily» → r ≡ answerAt 0 (withDurationOf dur t (now (l .entry)))) ⌝ }
 {
     if sub_daily {
-        return ExprFound {
-            expr: ExprTaken::Nothing,
-            parts,
-        };
+        return ExprTaken::Nothing;
     }
     if is_at(l, t, AGO) {
-        return ExprFound {
-            expr: ExprTaken::Is(Expr::Before(Date::Empty), t + 1),
-            parts: with,
-        };
+        return ExprTaken::Is(Expr::Before(Date::Empty), t + 1, 0);
     }
     if is_at(l, t, AFTER) {
-        return read_after(l, t + 1, with, parts);
+        return read_after(l, t + 1);
     }
     if is_at(l, t, FROM) {
-        return read_after(l, t + 1, with, parts);
+        return read_after(l, t + 1);
     }
-    ExprFound {
-        expr: ExprTaken::Nothing,
-        parts,
-    }
+    ExprTaken::Nothing
 }
 
 // <relative_specifier> <weekday> | <relative_specifier> <unit>
-fn read_relative(l: &[u64], parts: Parts) -> ExprFound
-    requires { ⌜ 3 * parts .n + length (now l) ≤ 64 ⌝ }
-    ensures { λ r. ⌜ r ≡ exprAnswer parts (relativeExprOf (now (l .entry))) ⌝ }
-    ensures { λ r. ⌜ ExprCounted r (parts .n) (length (now (l .entry))) ⌝ }
+fn read_relative(l: &[u64]) -> ExprTaken
+    ensures { λ r. ⌜ r ≡ answerAt 0 (relativeExprOf (now (l .entry))) ⌝ }
 {
     let SpecifierFound::Is(spec) = read_specifier(l) else {
-        return ExprFound {
-            expr: ExprTaken::Nothing,
-            parts,
-        };
+        return ExprTaken::Nothing;
     };
     let after = rest(l, 1);
     let Found::Is(w, u) = read_weekday(after) else {
         let UnitFound::Is(unit) = read_unit(after) else {
-            return ExprFound {
-                expr: ExprTaken::Nothing,
-                parts,
-            };
+            return ExprTaken::Nothing;
         };
-        return ExprFound {
-            expr: ExprTaken::Is(Expr::UnitRelative(spec, unit), 2),
-            parts,
-        };
+        return ExprTaken::Is(Expr::UnitRelative(spec, unit), 2, 0);
     };
-    ExprFound {
-        expr: ExprTaken::Is(Expr::RelativeWeekday(spec, w), 1 + u),
-        parts,
-    }
+    ExprTaken::Is(Expr::RelativeWeekday(spec, w), 1 + u, 0)
 }
 
 // A weekday and its tail, or a relative specifier.
-fn read_weekday_expr(l: &[u64], parts: Parts) -> ExprFound
-    requires { ⌜ 3 * parts .n + length (now l) ≤ 64 ⌝ }
-    ensures { λ r. ⌜ r ≡ exprAnswer parts (weekdayExprOf (now (l .entry))) ⌝ }
-    ensures { λ r. ⌜ ExprCounted r (parts .n) (length (now (l .entry))) ⌝ }
+fn read_weekday_expr(l: &[u64]) -> ExprTaken
+    ensures { λ r. ⌜ r ≡ answerAt (weekdayPlace (now (l .entry))) (weekdayExprOf (now (l .entry))) ⌝ }
 {
     let Found::Is(w, t) = read_weekday(l) else {
-        return read_relative(l, parts);
+        return read_relative(l);
     };
-    read_weekday_tail(l, w, t, parts)
+    read_tail(l, Head::Weekday(w), t)
 }
 
 // A duration and what stands behind it, or what begins with a weekday or a relative specifier.
-fn read_undated(l: &[u64], parts: Parts) -> ExprFound
-    requires { ⌜ 3 * parts .n + length (now l) ≤ 64 ⌝ }
-    ensures { λ r. ⌜ r ≡ exprAnswer parts (undatedOf (now (l .entry))) ⌝ }
-    ensures { λ r. ⌜ ExprCounted r (parts .n) (length (now (l .entry))) ⌝ }
+fn read_undated(l: &[u64]) -> ExprTaken
+    ensures { λ r. ⌜ r ≡ answerAt (undatedPlace (now (l .entry))) (undatedOf (now (l .entry))) ⌝ }
 {
-    let d = read_duration(l, parts);
-    let with = d.parts;
-    let taken = d.taken;
-    match taken {
+    match read_duration(l) {
         Taken::Is {
             taken: t,
             sub_daily,
-        } => with_duration(l, t, sub_daily, with, parts),
-        Taken::Nothing => read_weekday_expr(l, parts),
-        Taken::Overflow => ExprFound {
-            expr: ExprTaken::Overflow,
-            parts,
-        },
+        } => with_duration(l, t, sub_daily),
+        Taken::Nothing => read_weekday_expr(l),
+        Taken::Overflow => ExprTaken::Overflow,
     }
 }
 
-// DateExpr::parse
-pub fn read_expr(l: &[u64], parts: Parts) -> ExprFound
-    requires { ⌜ 3 * parts .n + length (now l) ≤ 64 ⌝ }
-    ensures { λ r. ⌜ r ≡ exprAnswer parts (dateExprOf (now (l .entry))) ⌝ }
-    ensures { λ r. ⌜ ExprCounted r (parts .n) (length (now (l .entry))) ⌝ }
+// DateExpr::parse: its shape, and where its duration begins
+pub fn read_expr(l: &[u64]) -> ExprTaken
+    ensures { λ r. ⌜ r ≡ exprAnswer (now (l .entry)) (dateExprOf (now (l .entry))) ⌝ }
+    ensures { λ r. ⌜ ExprCounted r (length (now (l .entry))) ⌝ }
 {
     match read_date(l) {
-        DateFound::Is(d, t) => read_date_tail(l, d, t, parts),
-        DateFound::Nothing => read_undated(l, parts),
-        DateFound::Overflow => ExprFound {
-            expr: ExprTaken::Overflow,
-            parts,
-        },
+        DateFound::Is(d, t) => read_tail(l, Head::Date(d), t),
+        DateFound::Nothing => read_undated(l),
+        DateFound::Overflow => ExprTaken::Overflow,
     }
 }

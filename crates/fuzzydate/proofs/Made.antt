@@ -25,7 +25,7 @@ pub record Holds (s : List ℕ) (r : Ready) : Type 0 where
 -- a refusal that a struct holds
 pub record Refuses (s : List ℕ) (r : Ready) : Type 0 where
   pub is : readyOf keywords s ≡ refusedReady (r .number) (r .place) (r .end)
-  pub part : Short (r .place) (r .end)
+  pub part : Short s (r .place) (r .end)
 
 held : (s : List ℕ) (w : ReadyPhrase) → readyOf keywords s ≡ w → readyAnswer w .number ≡ 0 → Holds s (readyAnswer w)
 unfolding planOf

@@ -1,13 +1,12 @@
 -- What an app gets: one number, and what is written into the array that it lends.
 use Prim.Native.Nat.{ℕ, _+_, _-_, _*_}
-use mathlib.Core.Path.{_≡_}
 use mathlib.Core.List.{List, [], _∷_}
 use lib.ListN.{length}
 use lib.Seq.{sets}
-use Rattle.calendar.specs.declared.Moment.{Moment}
+use Rattle.calendar.specs.declared.moments.Moment.{Moment}
 use Rattle.answer.specs.Answer.{Answer, at, refusedAt}
 use Rattle.ready.specs.Ready.{ReadyPhrase, refusedReady, steps}
-use Rattle.records.specs.Records.{encodeOf, decodeOf}
+use Rattle.records.specs.Records.{encodeOf}
 
 -- a refusal's number, its place from bit 16 on, and the length of its part from bit 32 on
 abbrev pub code : ℕ → ℕ → ℕ → ℕ
@@ -22,7 +21,7 @@ codeOf (refusedAt k a e) = code k a e
 abbrev pub six : Moment → List ℕ
 six t = t .year ∷ t .month ∷ t .day ∷ t .hour ∷ t .minute ∷ t .second ∷ []
 
--- "nothing written on a refusal"
+-- what they are written over; on a refusal it stays
 abbrev pub momentAfter : Answer → List ℕ → List ℕ
 momentAfter (at t) lent = six t
 momentAfter (refusedAt k a e) lent = lent
@@ -36,8 +35,3 @@ readyCode (steps ss) = 4294967296 * (16 * length ss)
 abbrev pub readyAfter : ReadyPhrase → List ℕ → List ℕ
 readyAfter (refusedReady k a e) lent = lent
 readyAfter (steps ss) lent = sets lent 0 (encodeOf ss)
-
--- what was written can be read back
-abbrev pub ReadBack : ReadyPhrase → Type 0
-ReadBack (refusedReady k a e) = _≡_ {A = ℕ} 0 0
-ReadBack (steps ss) = decodeOf (encodeOf ss) ≡ ss

@@ -1,8 +1,8 @@
 // What apps call: phrases, nows and ready phrases as numbers and byte slices.
 use answer::Answered;
 use answer::answer;
-use calendar::Moment;
-use evaluation::step::Reached;
+use calendar::moments::Moment;
+use calendar::moments::Reached;
 use ready::make_ready;
 use records::record::encode;
 use records::run::run_ready;
@@ -13,7 +13,7 @@ ghost use Rattle.answer.specs.Answer.{momentOf, placed, answerOf};
 ghost use Rattle.steps.specs.Running.{runOf};
 ghost use Rattle.ready.specs.Ready.{readyOf};
 ghost use Rattle.records.specs.Records.{decodeOf};
-ghost use Rattle.fuzzydate.specs.Called.{code, codeOf, momentAfter, readyCode, readyAfter, ReadBack};
+ghost use Rattle.fuzzydate.specs.Called.{code, codeOf, momentAfter, readyCode, readyAfter};
 
 // Where the place of a refusal stands in an answer, and where the length of its part does.
 const PLACE: u64 = 65536;
@@ -59,7 +59,6 @@ pub extern "C" fn fuzzy_read(
 pub extern "C" fn fuzzy_make_ready(phrase: &[u8], ready: &mut [u8; 384]) -> u64
     ensures { λ r. ⌜ r ≡ readyCode (readyOf keywords (now (phrase .entry))) ⌝ }
     ensures { λ r. ⌜ now (ready .exit) ≡ readyAfter (readyOf keywords (now (phrase .entry))) (now (ready .entry)) ⌝ }
-    ensures { λ r. ⌜ ReadBack (readyOf keywords (now (phrase .entry))) ⌝ }
 {
     let made = make_ready(phrase);
     let number = made.number;

@@ -8,8 +8,8 @@ use Rattle.lexer.specs.Lexemes.{Fifty, Dash, Five, Day, From, January, C
 use Rattle.lexer.specs.Words.{bytesOf}
 use Rattle.lexer.specs.Keywords.{keywords}
 use Rattle.lexer.specs.Classes.{classOf, markOf}
-use Rattle.lexer.specs.Refusals.{TooLong, Meaningless, TooLarge, TooMany}
-use Rattle.lexer.specs.Lex.{numberOf, wordAt, numberAt, tokenAt, Item, item, Lexed, refused, whole, lexed, lineOf}
+use Rattle.refusals.specs.Table as refusal
+use Rattle.lexer.specs.Lex.{numberOf, wordAt, numberAt, tokenAt, Item, item, Lexed, refused, whole, lexed, codesOf, front}
 
 -- a phrase and what is read of it
 record Example : Type 0 where
@@ -29,22 +29,22 @@ abbrev examples : List Example
 examples =
     reads (bytesOf "Fifty-five days FROM January 1, 2010 5:00") (whole mixed) ∷
     -- a word that is no keyword, and a byte with no meaning
-    reads (bytesOf "in forty days") (refused Meaningless 3 8) ∷
-    reads (bytesOf "5 + 5") (refused Meaningless 2 3) ∷
+    reads (bytesOf "in forty days") (refused refusal.Unknown 3 8) ∷
+    reads (bytesOf "5 + 5") (refused refusal.Unknown 2 3) ∷
     -- the largest number is taken, the next one is not
-    reads (bytesOf "04294967295 4294967296") (refused TooLarge 12 22) ∷
+    reads (bytesOf "04294967295 4294967296") (refused refusal.LargeDigits 12 22) ∷
     -- 65 lexemes
-    reads (replicate 65 (code ",")) (refused TooMany 64 65) ∷
+    reads (replicate 65 (code ",")) (refused refusal.TooMany 64 65) ∷
     -- 256 bytes, and 257
     reads (replicate 256 (code " ")) (whole []) ∷
-    reads (replicate 257 (code " ")) (refused TooLong 0 0) ∷
+    reads (replicate 257 (code " ")) (refused refusal.TooLong 0 0) ∷
     []
 
 examples-hold : map (λ (x : Example). lexed keywords (x .phrase)) examples ≡ map (λ (x : Example). x .answer) examples
 unfolding lexed tokenAt wordAt numberAt numberOf classOf markOf keywords
 examples-hold = refl
 
--- 64 lexemes are taken
-most-lexemes : lineOf (lexed keywords (replicate 64 (code ","))) .codes ≡ replicate 64 Comma
-unfolding lexed tokenAt wordAt numberAt numberOf classOf markOf keywords
+-- 64 lexemes are taken in front of the 65th
+most-lexemes : codesOf (front keywords (replicate 65 (code ","))) ≡ replicate 64 Comma
+unfolding front tokenAt wordAt numberAt numberOf classOf markOf keywords
 most-lexemes = refl

@@ -1,7 +1,9 @@
 pub mod Order
 pub mod Sorting
 pub mod Halves
-pub mod Starts
+pub mod Keys
+pub mod Rooms
+pub mod Letters
 pub mod Cells
 pub mod Rows
 pub mod Tabled

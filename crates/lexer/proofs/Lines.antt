@@ -1,31 +1,39 @@
--- The lexemes of a phrase, one after the other, and the arrays that they fill. Assumes nothing.
+-- The lexemes of a phrase, one after the other, and the arrays that they are stored in. Assumes nothing.
 use mathlib.Core.Path.{_≡_, refl, sym, ap, _∙_}
+use mathlib.Core.Bool.{Bool, true, false, cond}
 use mathlib.Core.List.{List, [], _∷_, _++_, map, append-assoc, map-append}
-use Prim.Native.Nat.{ℕ, zero, suc, _-_, _≤_, _<_}
+use Prim.Native.Nat.{ℕ, zero, suc, _+_, _≤_, _<_}
+use native.Mathlib.Nat.{add-zero, zero-add}
+use native.Mathlib.Numerals.{add-one}
 use native.Mathlib.Omega.{arith}
-use lib.ListN.{length, getD, take, set, replicate, length-append, length-replicate, length-map, List·getD-append}
-use lib.Seq.{take-at, set-append-seam, append-snoc}
+use lib.Dec.{leb}
+use lib.ListN.{length, getD, take, drop, set, length-map, List·getD-append}
+use lib.Seq.{take-at, take-suc, length-take-le, sets, sets-eq}
 use Rattle.lexer.specs.Words.{Word}
-use Rattle.lexer.specs.Refusals.{TooMany}
-use Rattle.lexer.specs.Lex.{tokenAt, Item, item, Lexed, refused, whole, ahead, lexFrom, filled}
+use Rattle.refusals.specs.Table as refusal
+use Rattle.lexer.specs.Lex.{tokenAt, Item, item, Lexed, refused, whole, ahead, ifTaken, lexFrom, lexed, ifLexeme, frontFrom, front}
+use Rattle.lexer.specs.declared.lex.Token.{Token}
 use Rattle.lexer.specs.declared.lex.Token.the-variants.{Finish, Taken, Refused}
 
--- what is read from a place on, by the token there
+-- what is read from a place on, and the lexemes in front, by the token there
 module _ (ws : List Word) (s : List ℕ) (at : ℕ) where
-  pub lex-finish : (room : ℕ) → tokenAt ws s at ≡ Finish → lexFrom ws room s at ≡ whole []
-  lex-finish zero h = rw h
-  lex-finish (suc room) h = rw h
+  pub lex-finish : (room : ℕ) → tokenAt ws s at ≡ Finish → (lexFrom ws room s at ≡ whole []) × (frontFrom ws room s at ≡ [])
+  lex-finish zero h = (rw h, refl)
+  lex-finish (suc room) h = (rw h, rw h)
 
-  pub lex-refused : (room n a e : ℕ) → tokenAt ws s at ≡ Refused n a e → lexFrom ws room s at ≡ refused n a e
-  lex-refused zero n a e h = rw h
-  lex-refused (suc room) n a e h = rw h
+  pub lex-refused : (room n a e : ℕ) → tokenAt ws s at ≡ Refused n a e
+      → (lexFrom ws room s at ≡ refused n a e) × (frontFrom ws room s at ≡ [])
+  lex-refused zero n a e h = (rw h, refl)
+  lex-refused (suc room) n a e h = (rw h, rw h)
 
-  pub lex-full : (room k a e : ℕ) → room ≡ 0 → tokenAt ws s at ≡ Taken k a e → lexFrom ws room s at ≡ refused TooMany a e
-  lex-full room k a e z h = rw (z, h)
+  pub lex-full : (room k a e : ℕ) → room ≡ 0 → tokenAt ws s at ≡ Taken k a e
+      → (lexFrom ws room s at ≡ refused refusal.TooMany a e) × (frontFrom ws room s at ≡ [])
+  lex-full room k a e z h = (rw (z, h), rw z)
 
   pub lex-taken : (room left k a e : ℕ) → room ≡ suc left → tokenAt ws s at ≡ Taken k a e
-      → lexFrom ws room s at ≡ ahead (item k a ∷ []) (lexFrom ws left s e)
-  lex-taken room left k a e z h = rw (z, h)
+      → (lexFrom ws room s at ≡ ahead (item k a ∷ []) (lexFrom ws left s e))
+      × (frontFrom ws room s at ≡ item k a ∷ frontFrom ws left s e)
+  lex-taken room left k a e z h = (rw (z, h), rw (z, h))
 
 pub ahead-none : (r : Lexed) → ahead [] r ≡ r
 ahead-none (refused n a e) = refl
@@ -35,24 +43,68 @@ pub ahead-more : (l m : List Item) (r : Lexed) → ahead l (ahead m r) ≡ ahead
 ahead-more l m (refused n a e) = refl
 ahead-more l m (whole k) = ap whole (sym (append-assoc l m k))
 
--- what is filled up begins with the list itself: the codes that a reader takes, and each lexeme's place
-pub filled-taken : (l : List ℕ) (n : ℕ) → length l ≡ n → take n (filled l) ≡ l
-filled-taken l n e = take-at l (replicate (64 - length l) 0) n e
+-- the lexemes in front of the end are all of them
+abbrev Leads : Lexed → List Item → Type 0
+Leads (refused n a e) m = Unit {0}
+Leads (whole l) m = m ≡ l
 
-pub filled-at : (l : List ℕ) (k : ℕ) → k < length l → getD (filled l) k 0 ≡ getD l k 0
-filled-at l k h = List·getD-append l (replicate (64 - length l) 0) 0 k h
+leads-ahead : (i : Item) (r : Lexed) (m : List Item) → Leads r m → Leads (ahead (i ∷ []) r) (i ∷ m)
+leads-ahead i (refused n a e) m h = tt
+leads-ahead i (whole l) m h = ap (_∷_ i) h
 
-pub filled-length : (l : List ℕ) → length l ≤ 64 → length (filled l) ≡ 64
-filled-length l h = simp (length-append, length-replicate) (omega arith)
+leads-token : (t : Token) (g : ℕ → ℕ → ℕ → Lexed) (f : ℕ → ℕ → ℕ → List Item)
+    → ((k a e : ℕ) → Leads (g k a e) (f k a e)) → Leads (ifTaken t g) (ifLexeme t f)
+leads-token Finish g f h = refl
+leads-token (Refused n a e) g f h = tt
+leads-token (Taken k a e) g f h = h k a e
 
--- one more at the end of what is filled up
-filled-more : (l : List ℕ) (n v : ℕ) → length l ≡ n → n < 64 → set (filled l) n v ≡ filled (l ++ (v ∷ []))
-filled-more l n v e h =
-    let r : 64 - length l ≡ suc (63 - length l) = omega arith in
-    let q : 64 - length (l ++ (v ∷ [])) ≡ 63 - length l = omega (arith, length-append l (v ∷ [])) in
-    rw (r, q, ← e) (set-append-seam l 0 (replicate (63 - length l) 0) v ∙ sym (append-snoc l v (replicate (63 - length l) 0)))
+full : (t : Token) → Leads (ifTaken t (λ k a e. refused refusal.TooMany a e)) []
+full Finish = refl
+full (Refused n a e) = tt
+full (Taken k a e) = tt
 
--- an array that holds a field of each lexeme, with one lexeme more
-pub array-more : (f : Item → ℕ) (l : List Item) (i : Item) (n : ℕ) {a : List ℕ} → length l ≡ n → n < 64 → a ≡ filled (map f l)
-    → set a n (f i) ≡ filled (map f (l ++ (i ∷ [])))
-array-more f l i n e h q = rw (q, map-append) (filled-more (map f l) n (f i) (length-map l f ∙ e) h)
+leads-from : (ws : List Word) (room : ℕ) (s : List ℕ) (at : ℕ) → Leads (lexFrom ws room s at) (frontFrom ws room s at)
+leads-from ws zero s at = full (tokenAt ws s at)
+leads-from ws (suc room) s at =
+    leads-token (tokenAt ws s at) (λ k a e. ahead (item k a ∷ []) (lexFrom ws room s e)) (λ k a e. item k a ∷ frontFrom ws room s e)
+    (λ k a e. leads-ahead (item k a) (lexFrom ws room s e) (frontFrom ws room s e) (leads-from ws room s e))
+
+leads : (ws : List Word) (s : List ℕ) → Leads (lexed ws s) (front ws s)
+unfolding lexed front
+leads ws s = go (leb (length s) 256)
+  where
+    go : (b : Bool) → Leads (cond b (lexFrom ws 64 s 0) (refused refusal.TooLong 0 0)) (cond b (frontFrom ws 64 s 0) [])
+    go true = leads-from ws 64 s 0
+    go false = tt
+
+-- where nothing is refused, the lexemes in front are all lexemes
+pub front-whole : (ws : List Word) (s : List ℕ) (l : List Item) → lexed ws s ≡ whole l → front ws s ≡ l
+front-whole ws s l e = rw e at (leads ws s)
+
+-- values stored one behind the other
+pub sets-append : (l m a : List ℕ) (i : ℕ) → sets a i (l ++ m) ≡ sets (sets a i l) (i + length l) m
+sets-append [] m a i = ap (λ (k : ℕ). sets a k m) (sym (add-zero i))
+sets-append (x ∷ l) m a i = sets-append l m (set a i x) (suc i) ∙ ap (λ (k : ℕ). sets (sets (set a i x) (suc i) l) k m) (omega arith)
+
+-- one more of a list that is copied
+pub sets-take : (l a : List ℕ) (i : ℕ) → i < length l → set (sets a 0 (take i l)) i (getD l i 0) ≡ sets a 0 (take (i + 1) l)
+sets-take l a i h =
+    let n : 0 + length (take i l) ≡ i = omega (arith, length-take-le i l (omega arith)) in
+    rw (add-one, take-suc l i 0, sets-append (take i l) (getD l i 0 ∷ []), n)
+
+-- an array begins with what was stored from its front on: the codes that a reader takes, and each lexeme's place
+module _ (l a : List ℕ) (h : length l ≤ length a) where
+  stored : sets a 0 l ≡ l ++ drop (0 + length l) a
+  stored = sets-eq l a 0 (omega arith)
+
+  pub sets-taken : (n : ℕ) → length l ≡ n → take n (sets a 0 l) ≡ l
+  sets-taken n e = rw stored (take-at l (drop (0 + length l) a) n e)
+
+  pub sets-at : (k : ℕ) → k < length l → getD (sets a 0 l) k 0 ≡ getD l k 0
+  sets-at k b = rw stored (List·getD-append l (drop (0 + length l) a) 0 k b)
+
+-- a field of each lexeme is stored, and then that of one lexeme more
+pub array-more : (f : Item → ℕ) (l : List Item) (i : Item) (n : ℕ) (a : List ℕ) {b : List ℕ} → length l ≡ n → b ≡ sets a 0 (map f l)
+    → set b n (f i) ≡ sets a 0 (map f (l ++ (i ∷ [])))
+array-more f l i n a e q =
+    rw (q, map-append, sets-append, length-map l f, e) (ap (λ (k : ℕ). set (sets a 0 (map f l)) k (f i)) (sym (zero-add n)))

@@ -8,7 +8,7 @@ use lib.Dec.{eqb, leb, ltb}
 use lib.ListN.{length, getD}
 use Rattle.lexer.specs.Words.{Word, meaning, folded}
 use Rattle.lexer.specs.Classes.{Gap, Letter, Digit, Mark, classOf, markOf}
-use Rattle.lexer.specs.Refusals.{TooLong, Meaningless}
+use Rattle.refusals.specs.Table as refusal
 use Rattle.lexer.specs.Lex.{runEnd, between, valueFrom, numberOf, ofWord, wordAt, numberAt, tokenOf, tokenAt, ifTaken}
 use Rattle.lexer.specs.Lex.{Item, Lexed, refused, whole, ahead, lexFrom, lexed}
 use Rattle.lexer.specs.declared.find.Found.{Found}
@@ -39,7 +39,7 @@ unfolding wordAt
 judged-of ws k s a = go (eqb k Letter) (eqb k Digit) (eqb k Mark)
   where
     go : (l d m : Bool) → Judged
-        (cond l (wordAt ws s a) (cond d (numberAt s a) (cond m (Taken (markOf (getD s a 0)) a (a + 1)) (Refused Meaningless a (a + 1)))))
+        (cond l (wordAt ws s a) (cond d (numberAt s a) (cond m (Taken (markOf (getD s a 0)) a (a + 1)) (Refused refusal.Unknown a (a + 1)))))
     go true d m = judged-word (meaning ws (folded (between s a (runEnd Letter s a)))) a (runEnd Letter s a)
     go false true m = judged-number s a
     go false false true = tt
@@ -77,6 +77,6 @@ pub numbered : (ws : List Word) (s : List ℕ) → Numbered (lexed ws s)
 unfolding lexed
 numbered ws s = go (leb (length s) 256)
   where
-    go : (b : Bool) → Numbered (cond b (lexFrom ws 64 s 0) (refused TooLong 0 0))
+    go : (b : Bool) → Numbered (cond b (lexFrom ws 64 s 0) (refused refusal.TooLong 0 0))
     go true = numbered-from ws 64 s 0
     go false = omega arith

@@ -1,13 +1,10 @@
--- How two numbers stand to each other, and byte order: it turns round, it is transitive, and only equal lists are the same. Assumes nothing.
+-- How two numbers stand to each other, and byte order: it turns round, is transitive, and only equal lists are the same. Assumes nothing.
 use mathlib.Core.Path.{_≡_, refl, sym, ap, _∙_}
 use mathlib.Core.Bool.{Bool, true, false, not, cond}
 use mathlib.Core.List.{List, [], _∷_}
-use Prim.Native.Nat.{ℕ, suc, _+_, _≤_, _<_, zero-le, suc-le-suc}
-use native.Mathlib.Numerals.{add-one}
+use Prim.Native.Nat.{ℕ, suc, _≤_, _<_, zero-le, suc-le-suc}
 use native.Mathlib.Omega.{arith}
 use lib.Dec.{T, T-not, eqb, eqb-refl, ltb}
-use lib.ListN.{length, getD, drop, drop-of-length-le}
-use lib.Seq.{drop-cons}
 use borrow.Author.Tests.{lt-ltb, le-ltb, ltb-true, ltb-false}
 use Rattle.lexer.specs.declared.find.Order.{Order}
 use Rattle.lexer.specs.declared.find.Order.the-variants.{Less, Same, More}
@@ -44,13 +41,13 @@ clash {p = p} {q = q} e f t = absurd (T-not (eqb (rank p) (rank q)) t (rw (sym e
 
 -- the first bytes decide, or what follows them
 module _ (x y : ℕ) (xs ys : List ℕ) where
-  pub head-less : x < y → ordered (x ∷ xs) (y ∷ ys) ≡ Less
+  head-less : x < y → ordered (x ∷ xs) (y ∷ ys) ≡ Less
   head-less h = simp (lt-ltb x y h)
 
-  pub head-more : y < x → ordered (x ∷ xs) (y ∷ ys) ≡ More
+  head-more : y < x → ordered (x ∷ xs) (y ∷ ys) ≡ More
   head-more h = let l : y ≤ x = omega arith in simp (le-ltb x y l, lt-ltb y x h)
 
-  pub head-same : x ≡ y → ordered (x ∷ xs) (y ∷ ys) ≡ ordered xs ys
+  head-same : x ≡ y → ordered (x ∷ xs) (y ∷ ys) ≡ ordered xs ys
   head-same e = let h : y ≤ x = omega arith in let l : x ≤ y = omega arith in simp (le-ltb x y h, le-ltb y x l)
 
 pub same-equal : (a b : List ℕ) → ordered a b ≡ Same → a ≡ b
@@ -104,19 +101,3 @@ less-trans (x ∷ xs) (y ∷ ys) (z ∷ zs) h l = go (tri x y) (tri y z) (less-t
         head-same x z xs zs (p ∙ q) ∙ rests (sym (head-same x y xs ys p) ∙ h) (sym (head-same y z ys zs q) ∙ l)
     go (equal p) (above q) rests = clash l (head-more y z ys zs q) tt
     go (above p) t rests = clash h (head-more x y xs ys p) tt
-
--- a comparison that has come to byte j of both: to a and b
-pub opened : (s f : List ℕ) (j a b : ℕ) → j < length s → j < length f → a ≡ getD s j 0 → b ≡ getD f j 0
-    → ordered (drop j s) (drop j f) ≡ ordered (a ∷ drop (j + 1) s) (b ∷ drop (j + 1) f)
-opened s f j a b hs hf ea eb = rw (ea, eb, add-one, drop-cons s j 0, drop-cons f j 0)
-
--- the end of a comparison, where one of both has ended
-module _ (s f : List ℕ) (j : ℕ) where
-  pub end-more : j < length s → length f ≤ j → ordered (drop j s) (drop j f) ≡ More
-  end-more hs hf = rw (drop-of-length-le f hf, drop-cons s j 0)
-
-  pub end-less : length s ≤ j → j < length f → ordered (drop j s) (drop j f) ≡ Less
-  end-less hs hf = rw (drop-of-length-le s hs, drop-cons f j 0)
-
-  pub end-same : length s ≤ j → length f ≤ j → ordered (drop j s) (drop j f) ≡ Same
-  end-same hs hf = rw (drop-of-length-le s hs, drop-of-length-le f hf)

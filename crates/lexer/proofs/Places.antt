@@ -7,22 +7,22 @@ use native.Mathlib.Nat.{not-suc-le-zero, le-of-suc-le-suc}
 use native.Mathlib.Omega.{arith}
 use lib.Dec.{eqb, leb, ltb}
 use borrow.Author.Tests.{ltb-true}
-use lib.ListN.{length, getD, length-map}
+use lib.ListN.{length, getD}
 use Rattle.lexer.specs.Words.{Word, meaning, folded}
 use Rattle.lexer.specs.Classes.{Gap, Letter, Digit, Mark, classOf, markOf}
-use Rattle.lexer.specs.Refusals.{TooLong, Meaningless, TooMany}
+use Rattle.refusals.specs.Table as refusal
 use Rattle.lexer.specs.Lex.{runEnd, between, numberOf, ofWord, ofNumber, wordAt, numberAt, tokenOf, tokenFrom, tokenAt}
-use Rattle.lexer.specs.Lex.{Item, item, Lexed, refused, whole, ahead, ifTaken, lexFrom, lexed}
-use Rattle.lexer.specs.Lex.{codesOf, startsOf, lineOf, Placed, placeOf, offendingOf}
+use Rattle.lexer.specs.Lex.{Item, item, Lexed, refused, whole, ahead, ifTaken, lexFrom, lexed, ifLexeme, frontFrom, front}
+use Rattle.lexer.specs.Lex.{startsOf, endedOf, Placed, placeOf, offendingOf}
 use Rattle.lexer.specs.declared.find.Found.{Found}
 use Rattle.lexer.specs.declared.find.Found.the-variants.{Lexeme, Unknown}
 use Rattle.lexer.specs.declared.lex.Digits.{Digits}
 use Rattle.lexer.specs.declared.lex.Digits.the-variants.{Value, Over}
-use Rattle.lexer.specs.declared.lex.Line.{Line}
+use Rattle.lexer.specs.declared.lex.Ended.{Ended}
 use Rattle.lexer.specs.declared.lex.Token.{Token}
 use Rattle.lexer.specs.declared.lex.Token.the-variants.{Finish, Taken, Refused}
 use Rattle.lexer.proofs.Runs.{run-within}
-use Rattle.lexer.proofs.Lines.{filled-at, filled-length}
+use Rattle.lexer.proofs.Lines.{front-whole}
 
 -- the bytes from a up to e begin and end within the first n
 record Part (a e n : ℕ) : Type 0 where
@@ -64,7 +64,7 @@ module _ (ws : List Word) (s : List ℕ) (a : ℕ) (h : a < length s) where
   token-of-within k = go (eqb k Letter) (eqb k Digit) (eqb k Mark)
     where
       go : (l d m : Bool) → Within (length s)
-          (cond l (wordAt ws s a) (cond d (numberAt s a) (cond m (Taken (markOf (getD s a 0)) a (a + 1)) (Refused Meaningless a (a + 1)))))
+          (cond l (wordAt ws s a) (cond d (numberAt s a) (cond m (Taken (markOf (getD s a 0)) a (a + 1)) (Refused refusal.Unknown a (a + 1)))))
       go true d m = word-within
       go false true m = number-within
       go false false true = byte-part
@@ -80,77 +80,93 @@ token-within ws s at = go (ltb (runEnd Gap s at) (length s)) refl
         simp e (token-of-within ws s a (ltb-true a (length s) e) (classOf (getD s a 0)))
     go false e = simp e tt
 
+-- a lexeme begins within the phrase
+pub taken-below : (ws : List Word) (s : List ℕ) (at k a e : ℕ) → tokenAt ws s at ≡ Taken k a e → a < length s
+taken-below ws s at k a e h = (rw h at (token-within ws s at)) .start-below
+
 -- each lexeme begins within the first n bytes
 abbrev Below : ℕ → List Item → Type 0
 Below n [] = Unit {0}
 Below n (i ∷ l) = (i .start < n) × Below n l
 
--- a refused part within n bytes, or at most so many lexemes that begin within them
-abbrev Fits : ℕ → ℕ → Lexed → Type 0
-Fits room n (refused m a e) = (a ≤ e) × (e ≤ n)
-Fits room n (whole l) = (length l ≤ room) × Below n l
+-- at most so many lexemes, all of them within the first n bytes
+abbrev Few : ℕ → ℕ → List Item → Type 0
+Few room n l = (length l ≤ room) × Below n l
 
-fits-ahead : (room n : ℕ) (i : Item) (r : Lexed) → i .start < n → Fits room n r → Fits (suc room) n (ahead (i ∷ []) r)
-fits-ahead room n i (refused m a e) b h = h
-fits-ahead room n i (whole l) b h = (suc-le-suc (h .0), (b, h .1))
+few-token : (ws : List Word) (room : ℕ) (s : List ℕ) (t : Token) → Within (length s) t
+    → ((at : ℕ) → Few room (length s) (frontFrom ws room s at))
+    → Few (suc room) (length s) (ifLexeme t (λ k a e. item k a ∷ frontFrom ws room s e))
+few-token ws room s Finish p h = (zero-le, tt)
+few-token ws room s (Refused m a e) p h = (zero-le, tt)
+few-token ws room s (Taken k a e) p h = (suc-le-suc (h e .0), (p .start-below, h e .1))
 
-fits-token : (room n : ℕ) (t : Token) (g : ℕ → ℕ → ℕ → Lexed) → Within n t
-    → ((k a e : ℕ) → Part a e n → Fits room n (g k a e)) → Fits room n (ifTaken t g)
-fits-token room n Finish g p h = (zero-le, tt)
-fits-token room n (Taken k a e) g p h = h k a e p
-fits-token room n (Refused m a e) g p h = (p .start-end, p .end-most)
+few-from : (ws : List Word) (room : ℕ) (s : List ℕ) (at : ℕ) → Few room (length s) (frontFrom ws room s at)
+few-from ws zero s at = (zero-le, tt)
+few-from ws (suc room) s at = few-token ws room s (tokenAt ws s at) (token-within ws s at) (few-from ws room s)
 
-fits-from : (ws : List Word) (room : ℕ) (s : List ℕ) (at : ℕ) → Fits room (length s) (lexFrom ws room s at)
-fits-from ws zero s at =
-    fits-token 0 (length s) (tokenAt ws s at) (λ k a e. refused TooMany a e) (token-within ws s at) (λ k a e p. (p .start-end, p .end-most))
-fits-from ws (suc room) s at =
-    fits-token (suc room) (length s) (tokenAt ws s at) (λ k a e. ahead (item k a ∷ []) (lexFrom ws room s e)) (token-within ws s at)
-    (λ k a e p. fits-ahead room (length s) (item k a) (lexFrom ws room s e) (p .start-below) (fits-from ws room s e))
-
-fits : (ws : List Word) (s : List ℕ) → Fits 64 (length s) (lexed ws s)
-unfolding lexed
-fits ws s = go (leb (length s) 256)
+few : (ws : List Word) (s : List ℕ) → Few 64 (length s) (front ws s)
+unfolding front
+few ws s = go (leb (length s) 256)
   where
-    go : (b : Bool) → Fits 64 (length s) (cond b (lexFrom ws 64 s 0) (refused TooLong 0 0))
-    go true = fits-from ws 64 s 0
-    go false = (zero-le, zero-le)
+    go : (b : Bool) → Few 64 (length s) (cond b (frontFrom ws 64 s 0) [])
+    go true = few-from ws 64 s 0
+    go false = (zero-le, tt)
 
 below-at : (n : ℕ) (l : List Item) → Below n l → (k : ℕ) → k < length l → getD (startsOf l) k 0 < n
 below-at n [] b k h = absurd (not-suc-le-zero h)
 below-at n (i ∷ l) b zero h = b .0
 below-at n (i ∷ l) b (suc k) h = below-at n l (b .1) k (le-of-suc-le-suc h)
 
-line-placed : (n : ℕ) (r : Lexed) → Fits 64 n r → Placed n (lineOf r)
-line-placed n (refused m a e) h =
-    record {
-      count-most = zero-le;
-      codes-length = refl;
-      starts-length = refl;
-      place-end = h .0;
-      end-most = h .1;
-      start-below = λ k l. absurd (not-suc-le-zero l);
-    }
-line-placed n (whole l) h =
-    let codes : length (codesOf l) ≡ length l = length-map l (λ (i : Item). i .code) in
-    let starts : length (startsOf l) ≡ length l = length-map l (λ (i : Item). i .start) in
-    record {
-      count-most = h .0;
-      codes-length = filled-length (codesOf l) (omega arith);
-      starts-length = filled-length (startsOf l) (omega arith);
-      place-end = zero-le;
-      end-most = zero-le;
-      start-below = λ k b. rw (filled-at (startsOf l) k (omega arith)) (below-at n l (h .1) k b);
-    }
+-- the lexemes in front: at most 64, and each begins within the phrase
+module _ (ws : List Word) (s : List ℕ) where
+  pub front-most : length (front ws s) ≤ 64
+  front-most = few ws s .0
+
+  pub start-below : (k : ℕ) → k < length (front ws s) → getD (startsOf (front ws s)) k 0 < length s
+  start-below k h = below-at (length s) (front ws s) (few ws s .1) k h
+
+-- a refused part stands within n bytes
+abbrev Fits : ℕ → Lexed → Type 0
+Fits n (refused m a e) = (a ≤ e) × (e ≤ n)
+Fits n (whole l) = Unit {0}
+
+fits-ahead : (n : ℕ) (l : List Item) (r : Lexed) → Fits n r → Fits n (ahead l r)
+fits-ahead n l (refused m a e) h = h
+fits-ahead n l (whole m) h = tt
+
+fits-token : (n : ℕ) (t : Token) (g : ℕ → ℕ → ℕ → Lexed) → Within n t → ((k a e : ℕ) → Part a e n → Fits n (g k a e)) → Fits n (ifTaken t g)
+fits-token n Finish g p h = tt
+fits-token n (Taken k a e) g p h = h k a e p
+fits-token n (Refused m a e) g p h = (p .start-end, p .end-most)
+
+fits-from : (ws : List Word) (room : ℕ) (s : List ℕ) (at : ℕ) → Fits (length s) (lexFrom ws room s at)
+fits-from ws zero s at =
+    fits-token (length s) (tokenAt ws s at) (λ k a e. refused refusal.TooMany a e) (token-within ws s at) (λ k a e p. (p .start-end, p .end-most))
+fits-from ws (suc room) s at =
+    fits-token (length s) (tokenAt ws s at) (λ k a e. ahead (item k a ∷ []) (lexFrom ws room s e)) (token-within ws s at)
+    (λ k a e p. fits-ahead (length s) (item k a ∷ []) (lexFrom ws room s e) (fits-from ws room s e))
+
+fits : (ws : List Word) (s : List ℕ) → Fits (length s) (lexed ws s)
+unfolding lexed
+fits ws s = go (leb (length s) 256)
+  where
+    go : (b : Bool) → Fits (length s) (cond b (lexFrom ws 64 s 0) (refused refusal.TooLong 0 0))
+    go true = fits-from ws 64 s 0
+    go false = (zero-le, zero-le)
 
 -- an answer that is the right one stands where its bounds say
-pub answered : (ws : List Word) (s : List ℕ) {r : Line} → r ≡ lineOf (lexed ws s) → (r ≡ lineOf (lexed ws s)) × Placed (length s) r
-answered ws s e = (e, rw e (line-placed (length s) (lexed ws s) (fits ws s)))
+pub placed : (ws : List Word) (s : List ℕ) {r : Ended} → r ≡ endedOf (lexed ws s) → Placed (length s) r
+placed ws s e = rw e (go (lexed ws s) refl (fits ws s))
+  where
+    go : (w : Lexed) → lexed ws s ≡ w → Fits (length s) w → Placed (length s) (endedOf w)
+    go (refused m b e) q h = record { count-most = zero-le; place-end = h .0; end-most = h .1 }
+    go (whole l) q h = record { count-most = rw (front-whole ws s l q) at (front-most ws s); place-end = zero-le; end-most = zero-le }
 
 -- the place and the part of an answer
-pub line-place : (r : Lexed) → lineOf r .place ≡ placeOf r
-line-place (refused n a e) = refl
-line-place (whole l) = refl
+pub ended-place : (r : Lexed) → endedOf r .place ≡ placeOf r
+ended-place (refused n a e) = refl
+ended-place (whole l) = refl
 
-pub line-part : (s : List ℕ) (r : Lexed) → between s (lineOf r .place) (lineOf r .end) ≡ offendingOf s r
-line-part s (refused n a e) = refl
-line-part s (whole l) = refl
+pub ended-part : (s : List ℕ) (r : Lexed) → between s (endedOf r .place) (endedOf r .end) ≡ offendingOf s r
+ended-part s (refused n a e) = refl
+ended-part s (whole l) = refl

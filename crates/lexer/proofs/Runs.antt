@@ -26,7 +26,7 @@ module _ (k : ℕ) (s : List ℕ) (e : ℕ) where
   pub run-over : length s ≤ e → run k (drop e s) ≡ 0
   run-over h = rw (drop-of-length-le s h)
 
-run-most : (k : ℕ) (l : List ℕ) → run k l ≤ length l
+pub run-most : (k : ℕ) (l : List ℕ) → run k l ≤ length l
 run-most k [] = zero-le
 run-most k (b ∷ bs) = counted (eqb (classOf b) k) true (run k bs) (length bs) (λ e. refl) (run-most k bs)
 

@@ -4,7 +4,7 @@ use Prim.Native.Char.{code}
 use mathlib.Core.Bool.{Bool, _&&_, cond}
 use lib.Dec.{leb, eqb}
 use Rattle.lexer.specs.Lexemes.{Comma, Colon, Slash, Dash, Dot}
-use Rattle.lexer.specs.Words.{lowerOf}
+use Rattle.lexer.specs.Words.{lowerOf, isSmall}
 
 -- it separates
 abbrev pub Gap : ℕ
@@ -28,7 +28,11 @@ Stray = 4
 
 -- a to z and A to Z
 abbrev pub isLetter : ℕ → Bool
-isLetter b = leb (code "a") (lowerOf b) && leb (lowerOf b) (code "z")
+isLetter b = isSmall (lowerOf b)
+
+-- a letter's small one, 0 for any other byte
+unfoldable pub letterOf : ℕ → ℕ
+letterOf b = cond (isLetter b) (lowerOf b) 0
 
 -- 0 to 9
 abbrev pub isDigit : ℕ → Bool

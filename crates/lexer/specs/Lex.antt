@@ -1,22 +1,24 @@
 -- How a phrase is cut into lexemes. Assumes nothing.
-use Prim.Native.Nat.{ℕ, suc, zero, _+_, _-_, _*_, _≤_, _<_}
+use Prim.Native.Nat.{ℕ, suc, zero, _+_, _-_, _*_, _≤_, min}
 use Prim.Native.Char.{code}
-use mathlib.Core.Path.{_≡_}
 use mathlib.Core.Bool.{cond}
 use mathlib.Core.List.{List, [], _∷_, _++_, map}
 use lib.Dec.{ltb, leb, eqb}
-use lib.ListN.{length, getD, take, drop, replicate}
+use lib.ListN.{length, getD, take, drop}
 use Rattle.lexer.specs.Lexemes.{NUM}
 use Rattle.lexer.specs.Words.{Word, meaning, folded}
-use Rattle.lexer.specs.Classes.{Gap, Letter, Digit, Mark, classOf, markOf}
-use Rattle.lexer.specs.Refusals.{TooLong, Meaningless, TooLarge, TooMany}
+use Rattle.lexer.specs.Table.{fixed, bytesFrom, headOf, tailOf}
+use Rattle.lexer.specs.Classes.{Gap, Letter, Digit, Mark, letterOf, classOf, markOf}
+use Rattle.refusals.specs.Table as refusal
 use Rattle.lexer.specs.declared.find.Found.{Found}
 use Rattle.lexer.specs.declared.find.Found.the-variants.{Lexeme, Unknown}
 use Rattle.lexer.specs.declared.lex.Digits.{Digits}
 use Rattle.lexer.specs.declared.lex.Digits.the-variants.{Value, Over}
 use Rattle.lexer.specs.declared.lex.Token.{Token}
 use Rattle.lexer.specs.declared.lex.Token.the-variants.{Finish, Taken, Refused}
-use Rattle.lexer.specs.declared.lex.Line.{Line}
+use Rattle.lexer.specs.declared.lex.Ended.{Ended}
+use Rattle.lexer.specs.declared.word.Block.{Block}
+use Rattle.lexer.specs.declared.word.Key.{Key}
 
 -- how many bytes at the front are of class k
 abbrev pub run : ℕ → List ℕ → ℕ
@@ -43,16 +45,32 @@ numberOf s = cond (leb (valueFrom 0 s) 4294967295) (Value (valueFrom 0 s)) Over
 -- a word from a to e by its meaning
 abbrev pub ofWord : Found → ℕ → ℕ → Token
 ofWord (Lexeme l) a e = Taken l a e
-ofWord Unknown a e = Refused Meaningless a e
+ofWord Unknown a e = Refused refusal.Unknown a e
 
 -- a number from a to e by its value
 abbrev pub ofNumber : Digits → ℕ → ℕ → Token
 ofNumber (Value v) a e = Taken (NUM + v) a e
-ofNumber Over a e = Refused TooLarge a e
+ofNumber Over a e = Refused refusal.LargeDigits a e
 
--- "a run of letters is one word"
+-- "a run of letters is one word": the one that begins at a, as it is looked up
+abbrev pub wordFrom : List ℕ → ℕ → List ℕ
+wordFrom s a = folded (between s a (runEnd Letter s a))
+
+-- its lexeme, or "a word that is no keyword"
 unfoldable pub wordAt : List Word → List ℕ → ℕ → Token
-wordAt ws s a = ofWord (meaning ws (folded (between s a (runEnd Letter s a)))) a (runEnd Letter s a)
+wordAt ws s a = ofWord (meaning ws (wordFrom s a)) a (runEnd Letter s a)
+
+-- the small letter at a place, 0 where there is none
+abbrev pub letterAt : List ℕ → ℕ → ℕ
+letterAt s a = cond (ltb a (length s)) (letterOf (getD s a 0)) 0
+
+-- the letters from a on, n of them at most, as the first n bytes of a word, and where they end
+abbrev pub blockOf : ℕ → List ℕ → ℕ → Block
+blockOf n s a = record { number = bytesFrom 0 (fixed n (wordFrom s a)); end = a + min n (run Letter (drop a s)) }
+
+-- the word that begins at a as two numbers, and where it ends
+abbrev pub keyOf : List ℕ → ℕ → Key
+keyOf s a = record { head = headOf (wordFrom s a); tail = tailOf (wordFrom s a); end = runEnd Letter s a }
 
 -- "a run of digits one number"
 unfoldable pub numberAt : List ℕ → ℕ → Token
@@ -64,7 +82,7 @@ tokenOf ws k s a =
     cond (eqb k Letter) (wordAt ws s a)
     (cond (eqb k Digit) (numberAt s a)
     (cond (eqb k Mark) (Taken (markOf (getD s a 0)) a (a + 1))
-    (Refused Meaningless a (a + 1))))
+    (Refused refusal.Unknown a (a + 1))))
 
 -- what begins at a, or the end of the phrase
 abbrev pub tokenFrom : List Word → List ℕ → ℕ → Token
@@ -101,12 +119,27 @@ ifTaken (Taken k a e) g = g k a e
 
 -- the lexemes from a place on, left to right, with room for so many: a word or number is judged before it is counted
 abbrev pub lexFrom : List Word → ℕ → List ℕ → ℕ → Lexed
-lexFrom ws zero s at = ifTaken (tokenAt ws s at) (λ k a e. refused TooMany a e)
+lexFrom ws zero s at = ifTaken (tokenAt ws s at) (λ k a e. refused refusal.TooMany a e)
 lexFrom ws (suc room) s at = ifTaken (tokenAt ws s at) (λ k a e. ahead (item k a ∷ []) (lexFrom ws room s e))
 
 -- `lex_line`: a phrase of at most 256 bytes and 64 lexemes
 unfoldable pub lexed : List Word → List ℕ → Lexed
-lexed ws s = cond (leb (length s) 256) (lexFrom ws 64 s 0) (refused TooLong 0 0)
+lexed ws s = cond (leb (length s) 256) (lexFrom ws 64 s 0) (refused refusal.TooLong 0 0)
+
+-- a lexeme is handed on; neither the end nor a refusal has lexemes behind it
+abbrev pub ifLexeme : Token → (ℕ → ℕ → ℕ → List Item) → List Item
+ifLexeme Finish g = []
+ifLexeme (Refused n a e) g = []
+ifLexeme (Taken k a e) g = g k a e
+
+-- the lexemes from a place on, in front of the end or the first refusal, with room for so many
+abbrev pub frontFrom : List Word → ℕ → List ℕ → ℕ → List Item
+frontFrom ws zero s at = []
+frontFrom ws (suc room) s at = ifLexeme (tokenAt ws s at) (λ k a e. item k a ∷ frontFrom ws room s e)
+
+-- a phrase's lexemes in front of its end or its first refusal; a phrase that is too long is not begun
+unfoldable pub front : List Word → List ℕ → List Item
+front ws s = cond (leb (length s) 256) (frontFrom ws 64 s 0) []
 
 -- the lexemes' codes: what readers take
 abbrev pub codesOf : List Item → List ℕ
@@ -116,28 +149,16 @@ codesOf l = map (λ (i : Item). i .code) l
 abbrev pub startsOf : List Item → List ℕ
 startsOf l = map (λ (i : Item). i .start) l
 
--- an array of 64 that begins with l, the rest zeros
-abbrev pub filled : List ℕ → List ℕ
-filled l = l ++ replicate (64 - length l) 0
-
--- the code's answer to a phrase that is refused
-abbrev pub refusedLine : ℕ → ℕ → ℕ → Line
-refusedLine n a e = record { number = n; place = a; end = e; count = 0; codes = replicate 64 0; starts = replicate 64 0 }
-
--- the code's answer: a refusal with its number, or number 0 and the lexemes
-abbrev pub lineOf : Lexed → Line
-lineOf (refused n a e) = refusedLine n a e
-lineOf (whole l) =
-    record { number = 0; place = 0; end = 0; count = length l; codes = filled (codesOf l); starts = filled (startsOf l) }
+-- how lexing ends: a refusal with its number, or number 0 and how many lexemes
+abbrev pub endedOf : Lexed → Ended
+endedOf (refused n a e) = record { number = n; place = a; end = e; count = 0 }
+endedOf (whole l) = record { number = 0; place = 0; end = 0; count = length l }
 
 -- where an answer stands in a phrase of n bytes: what callers need of it to cut the phrase and the arrays
-pub record Placed (n : ℕ) (r : Line) : Type 0 where
+pub record Placed (n : ℕ) (r : Ended) : Type 0 where
   pub count-most : r .count ≤ 64
-  pub codes-length : length (r .codes) ≡ 64
-  pub starts-length : length (r .starts) ≡ 64
   pub place-end : r .place ≤ r .end
   pub end-most : r .end ≤ n
-  pub start-below : (k : ℕ) → k < r .count → getD (r .starts) k 0 < n
 
 -- a refusal's place, 0 where nothing is refused
 abbrev pub placeOf : Lexed → ℕ

@@ -3,5 +3,4 @@ pub mod Words
 pub mod Keywords
 pub mod Table
 pub mod Classes
-pub mod Refusals
 pub mod Lex

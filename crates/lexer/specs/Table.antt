@@ -1,12 +1,14 @@
 -- "The 133 words stand in one table in byte order": a word list as the code holds it. Assumes nothing.
-use Prim.Native.Nat.{ℕ, zero, suc, _-_}
+use Prim.Native.Nat.{ℕ, zero, suc, _+_, _*_, _%_, _^_, _≤_}
+use Prim.Native.Char.{code}
+use mathlib.Core.Path.{_≡_}
 use mathlib.Core.Bool.{Bool, true, false, cond}
 use mathlib.Core.List.{List, [], _∷_, _++_}
-use lib.Dec.{ltb}
-use lib.ListN.{length, getD}
+use lib.Dec.{T, eqb, ltb}
+use lib.ListN.{length, getD, drop}
 use Rattle.lexer.specs.declared.find.Order.{Order}
 use Rattle.lexer.specs.declared.find.Order.the-variants.{Less, Same, More}
-use Rattle.lexer.specs.Words.{Word, ordered}
+use Rattle.lexer.specs.Words.{Word, ordered, small}
 
 -- whether the first of two spellings comes strictly before the second
 abbrev pub isLess : Order → Bool
@@ -36,25 +38,55 @@ spellingAt ws i = getD ws i blank .spelling
 abbrev pub lexemeAt : List Word → ℕ → ℕ
 lexemeAt ws i = getD ws i blank .lexeme
 
--- how many rows at the front begin with a byte below b
-abbrev pub firstRow : List Word → ℕ → ℕ
-firstRow [] b = 0
-firstRow (w ∷ ws) b = cond (ltb (getD (w .spelling) 0 0) b) (suc (firstRow ws b)) 0
+-- what stands in a place that a word leaves free, with n places behind it: a dot and a blank in turn
+abbrev pub filler : ℕ → ℕ
+filler n = cond (eqb (n % 2) 0) (code ".") (code " ")
 
--- n places from place i on, each by its number
-abbrev pub places : ℕ → ℕ → List ℕ
-places i zero = []
-places i (suc n) = i ∷ places (suc i) n
+-- "a fixed string of bytes": the first n bytes of a word, and fillers in the places that it leaves free
+abbrev pub fixed : ℕ → List ℕ → List ℕ
+fixed zero w = []
+fixed (suc n) [] = filler n ∷ fixed n []
+fixed (suc n) (b ∷ w) = b ∷ fixed n w
 
--- "a fixed string of bytes": 12 of them, the word's and then the numbers of the places that it leaves free
-abbrev pub fixed : List ℕ → List ℕ
-fixed w = w ++ places (length w) (12 - length w)
-
--- "word rows, each with length and lexeme number"
+-- "word rows, each with length and lexeme number": 8 bytes of the word and 4 more, two fillers, and the two numbers
 abbrev pub rowOf : Word → List ℕ
-rowOf w = fixed (w .spelling) ++ (length (w .spelling) ∷ w .lexeme ∷ [])
+rowOf w = fixed 8 (w .spelling) ++ fixed 4 (drop 8 (w .spelling)) ++ fixed 2 [] ++ (length (w .spelling) ∷ w .lexeme ∷ [])
 
 -- the rows one behind the other
 abbrev pub cells : List Word → List ℕ
 cells [] = []
 cells (w ∷ ws) = rowOf w ++ cells ws
+
+-- the number that bytes say behind v, the first the greatest
+abbrev pub bytesFrom : ℕ → List ℕ → ℕ
+bytesFrom v [] = v
+bytesFrom v (b ∷ bs) = bytesFrom (v * 256 + b) bs
+
+-- there is room for so many bytes behind v in a u64
+pub record Room (v places : ℕ) : Type 0 where
+  pub most : suc v * 256 ^ places ≤ 2 ^ 64
+
+-- 256 to the number of places, 0 where that is no u64
+abbrev pub weightOf : ℕ → ℕ
+weightOf places = cond (ltb places 8) (256 ^ places) 0
+
+-- a word's first 8 bytes as one number, and its next 4
+unfoldable pub headOf : List ℕ → ℕ
+headOf w = bytesFrom 0 (fixed 8 w)
+
+unfoldable pub tailOf : List ℕ → ℕ
+tailOf w = bytesFrom 0 (fixed 4 (drop 8 w))
+
+-- two numbers in order, or what follows where they are the same
+abbrev pub byNumber : ℕ → ℕ → Order → Order
+byNumber x y o = cond (ltb x y) Less (cond (ltb y x) More o)
+
+-- the order of a word and the one that two numbers stand for
+abbrev pub byKey : List ℕ → ℕ → ℕ → Order
+byKey w head tail = byNumber (headOf w) head (byNumber (tailOf w) tail Same)
+
+-- two numbers that stand for a word of small letters
+pub record Stands (head tail : ℕ) (w : List ℕ) : Type 0 where
+  pub letters : T (small w)
+  pub head-is : headOf w ≡ head
+  pub tail-is : tailOf w ≡ tail

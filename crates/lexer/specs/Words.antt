@@ -46,6 +46,15 @@ meaning (x ∷ xs) w = cond (isSame (ordered (x .spelling) w)) (Lexeme (x .lexem
 abbrev pub lowerOf : ℕ → ℕ
 lowerOf b = cond (leb (code "A") b && leb b (code "Z")) (b + 32) b
 
+-- a to z
+abbrev pub isSmall : ℕ → Bool
+isSmall b = leb (code "a") b && leb b (code "z")
+
+-- a word of small letters
+abbrev pub small : List ℕ → Bool
+small [] = true
+small (b ∷ w) = isSmall b && small w
+
 -- a word as it is looked up
 abbrev pub folded : List ℕ → List ℕ
 folded w = map lowerOf w

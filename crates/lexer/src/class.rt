@@ -23,7 +23,7 @@ pub const MARK: u8 = 3;
 const STRAY: u8 = 4;
 
 // The class of a byte.
-pub fn class(b: u8) -> u8
+pub(crate) fn class(b: u8) -> u8
     ensures { λ r. ⌜ r ≡ classOf b ⌝ }
 {
     match b {
@@ -36,7 +36,7 @@ pub fn class(b: u8) -> u8
 }
 
 // The lexeme of a mark, 0 for any other byte.
-pub fn mark(b: u8) -> u64
+pub(crate) fn mark(b: u8) -> u64
     ensures { λ r. ⌜ r ≡ markOf b ⌝ }
 {
     match b {

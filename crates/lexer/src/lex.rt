@@ -1,24 +1,28 @@
 // A phrase cut into lexemes.
 use super::class::DIGIT;
 use super::class::GAP;
-use super::class::LETTER;
 use super::class::MARK;
 use super::class::class;
 use super::class::mark;
 use super::find::Found;
 use super::find::find;
 use super::lexeme::NUM;
-use super::refusal::MEANINGLESS;
-use super::refusal::TOO_LARGE;
-use super::refusal::TOO_LONG;
-use super::refusal::TOO_MANY;
+use super::run::run_end;
 use super::table::rows;
+use super::word::key_at;
+use super::word::letter;
+use refusals::LARGE_DIGITS;
+use refusals::TOO_LONG;
+use refusals::TOO_MANY;
+use refusals::UNKNOWN;
 ghost use mathlib.Core.Path.{_≡_};
-ghost use Prim.Native.Nat.{_-_, _≤_, _<_};
+ghost use Prim.Native.Nat.{_-_, _≤_};
 ghost use lib.ListN.{length};
+ghost use lib.Seq.{sets};
 ghost use Rattle.lexer.specs.Keywords.{keywords};
 ghost use Rattle.lexer.specs.Table.{sorted, cells};
-ghost use Rattle.lexer.specs.Lex.{runEnd, numberOf, wordAt, numberAt, tokenAt, lexed, lineOf, refusedLine, Placed};
+ghost use Rattle.lexer.specs.Lex.{numberOf, wordAt, numberAt, tokenAt};
+ghost use Rattle.lexer.specs.Lex.{refused, lexed, front, codesOf, startsOf, endedOf, Placed};
 
 // What a run of digits says.
 enum Digits {
@@ -41,29 +45,13 @@ pub enum Token {
     },
 }
 
-// A lexed phrase. Number 0: count lexemes, their codes and the places of their first bytes, the rest of both arrays zeros.
-// Else a refusal: its number, its place and the end of the offending part, and no lexemes.
-pub struct Line {
+// How lexing ended. Number 0: at the end of the phrase, with so many lexemes. Else a refusal: its number, its place and the end of the
+// offending part, and count 0.
+pub struct Ended {
     pub number: u8,
     pub place: usize,
     pub end: usize,
     pub count: usize,
-    pub codes: [u64; 64],
-    pub starts: [u64; 64],
-}
-
-// The end of the run of bytes of one class.
-fn run_end(s: &[u8], at: usize, k: u8) -> usize
-    ensures { λ r. ⌜ r ≡ runEnd k (now (s .entry)) at ⌝ }
-{
-    let mut e = at;
-    while e < s.len() {
-        if class(s[e]) != k {
-            return e;
-        }
-        e += 1;
-    }
-    e
 }
 
 // A digit's number, 0 for any byte below the digits.
@@ -93,23 +81,23 @@ fn digits_value(s: &[u8]) -> Digits
 }
 
 // The word that begins at a.
-fn word_at(words: &[u8; 1862], s: &[u8], a: usize) -> Token
-    requires { ⌜ (now words ≡ cells (sorted keywords)) × (a ≤ length (now s)) ⌝ }
+fn word_at(words: &[u8; 2128], s: &[u8], a: usize) -> Token
+    requires { ⌜ now words ≡ cells (sorted keywords) ⌝ }
     ensures { λ r. ⌜ r ≡ wordAt keywords (now (s .entry)) a ⌝ }
 {
-    let e = run_end(s, a, LETTER);
-    let f = find(words, &s[a..e]);
+    let k = key_at(s, a);
+    let f = find(words, k.head, k.tail);
     let Found::Lexeme(code) = f else {
         return Token::Refused {
-            number: MEANINGLESS,
+            number: UNKNOWN,
             start: a,
-            end: e,
+            end: k.end,
         };
     };
     Token::Taken {
         code,
         start: a,
-        end: e,
+        end: k.end,
     }
 }
 
@@ -122,7 +110,7 @@ fn number_at(s: &[u8], a: usize) -> Token
     let d = digits_value(&s[a..e]);
     let Digits::Value(v) = d else {
         return Token::Refused {
-            number: TOO_LARGE,
+            number: LARGE_DIGITS,
             start: a,
             end: e,
         };
@@ -135,7 +123,7 @@ fn number_at(s: &[u8], a: usize) -> Token
 }
 
 // The first lexeme at or after a place, by the rows that are lent; past the last byte there is none.
-fn token_in(words: &[u8; 1862], s: &[u8], at: usize) -> Token
+fn token_in(words: &[u8; 2128], s: &[u8], at: usize) -> Token
     requires { ⌜ now words ≡ cells (sorted keywords) ⌝ }
     ensures { λ r. ⌜ r ≡ tokenAt keywords (now (s .entry)) at ⌝ }
 {
@@ -143,10 +131,10 @@ fn token_in(words: &[u8; 1862], s: &[u8], at: usize) -> Token
     if s.len() <= a {
         return Token::Finish;
     }
-    let k = class(s[a]);
-    if k == LETTER {
+    if letter(s[a]) != 0 {
         return word_at(words, s, a);
     }
+    let k = class(s[a]);
     if k == DIGIT {
         return number_at(s, a);
     }
@@ -158,7 +146,7 @@ fn token_in(words: &[u8; 1862], s: &[u8], at: usize) -> Token
         };
     }
     Token::Refused {
-        number: MEANINGLESS,
+        number: UNKNOWN,
         start: a,
         end: a + 1,
     }
@@ -172,44 +160,41 @@ pub fn token_at(s: &[u8], at: usize) -> Token
     token_in(&words, s, at)
 }
 
-// A refusal's line.
-pub fn refuse(number: u8, place: usize, end: usize) -> Line
-    ensures { λ r. ⌜ r ≡ refusedLine number place end ⌝ }
+// How a refused phrase ends.
+pub fn refuse(number: u8, place: usize, end: usize) -> Ended
+    ensures { λ r. ⌜ r ≡ endedOf (refused number place end) ⌝ }
 {
-    Line {
+    Ended {
         number,
         place,
         end,
         count: 0,
-        codes: [0; 64],
-        starts: [0; 64],
     }
 }
 
-// A phrase's lexemes, left to right, or the first refusal: a word or number is judged before it is counted.
-pub fn lex(s: &[u8]) -> Line
-    ensures { λ r. ⌜ r ≡ lineOf (lexed keywords (now (s .entry))) ⌝ }
+// A phrase's lexemes, left to right, up to the end or the first refusal: a word or number is judged before it is counted.
+// Their codes and the places of their first bytes go into the lent arrays, and what stands behind them there stays.
+pub fn lex(s: &[u8], codes: &mut [u64; 64], starts: &mut [u8; 64]) -> Ended
+    ensures { λ r. ⌜ r ≡ endedOf (lexed keywords (now (s .entry))) ⌝ }
+    ensures codes { λ r. ⌜ now (codes .exit) ≡ sets (now (codes .entry)) 0 (codesOf (front keywords (now (s .entry)))) ⌝ }
+    ensures starts { λ r. ⌜ now (starts .exit) ≡ sets (now (starts .entry)) 0 (startsOf (front keywords (now (s .entry)))) ⌝ }
     ensures bounds { λ r. ⌜ Placed (length (now (s .entry))) r ⌝ }
 {
     if 256 < s.len() {
         return refuse(TOO_LONG, 0, 0);
     }
     let words = rows();
-    let mut codes = [0u64; 64];
-    let mut starts = [0u64; 64];
     let mut n: usize = 0;
     let mut at: usize = 0;
     loop {
         let t = token_in(&words, s, at);
         match t {
             Token::Finish => {
-                return Line {
+                return Ended {
                     number: 0,
                     place: 0,
                     end: 0,
                     count: n,
-                    codes,
-                    starts,
                 };
             }
             Token::Refused { number, start, end } => return refuse(number, start, end),
@@ -218,7 +203,7 @@ pub fn lex(s: &[u8]) -> Line
                     return refuse(TOO_MANY, start, end);
                 }
                 codes[n] = code;
-                starts[n] = start as u64;
+                starts[n] = start as u8;
                 n += 1;
                 at = end;
             }

@@ -5,5 +5,6 @@ mod find;
 pub mod lex;
 pub mod lexeme;
 pub mod part;
-pub mod refusal;
+mod run;
 mod table;
+mod word;

@@ -20,8 +20,10 @@ pub fn offending(s: &[u8]) -> &[u8]
     ensures { λ r. ⌜ now r ≡ offendingOf (now (s .entry)) (lexed keywords (now (s .entry))) ⌝ }
     ensures own { λ r. ⌜ r .ptr ≡ ((s .entry) .ptr .0, placeOf (lexed keywords (now (s .entry))) + (s .entry) .ptr .1) ⌝ }
 {
-    let l = lex(s);
-    let a = l.place;
-    let e = l.end;
+    let mut codes = [0u64; 64];
+    let mut starts = [0u8; 64];
+    let r = lex(s, &mut codes, &mut starts);
+    let a = r.place;
+    let e = r.end;
     part(s, a, e)
 }

@@ -23,14 +23,28 @@ failed false true r e = absurd (true≢false e)
 failed false false r e = (refl, refl, e)
 
 -- a test `within` that failed
-outside : (lo x hi : ℕ) → within lo x hi ≡ false → lo ≤ x → x ≤ hi → ⊥
+pub outside : (lo x hi : ℕ) → within lo x hi ≡ false → lo ≤ x → x ≤ hi → ⊥
 unfolding within
 outside lo x hi e a b = true≢false (rw (le-leb lo x a, le-leb x hi b) at e)
 
 -- a test that cannot hold
-never : (b : Bool) (w : Found) → (b ≡ true → ⊥) → pick b w Nothing ≡ Nothing
+pub never : (b : Bool) (w : Found) → (b ≡ true → ⊥) → pick b w Nothing ≡ Nothing
 never true w h = absurd (h refl)
 never false w h = refl
+
+-- a lexeme that does not stand there
+pub not-at : (l : List ℕ) (i x : ℕ) → (get l i ≡ x → ⊥) → isAt l i x ≡ false
+unfolding isAt get
+not-at l i x h = rw (ne-eqb (get l i) x h) (and-false (ltb i (length l)))
+
+-- no unit word
+pub no-unit : (l : List ℕ) → (Hundred ≤ get l 0 → get l 0 ≤ Billion → ⊥) → numTripleUnitOf l ≡ Nothing
+unfolding numTripleUnitOf
+no-unit l out = rw (
+  not-at l 0 Thousand (λ e. out (omega arith) (omega arith)),
+  not-at l 0 Million (λ e. out (omega arith) (omega arith)),
+  not-at l 0 Billion (λ e. out (omega arith) (omega arith)),
+)
 
 module _ (l : List ℕ) (none : beginsNumber (get l 0) ≡ false) where
   tests : (within One (get l 0) Ninety ≡ false) × (within Hundred (get l 0) Billion ≡ false) × (leb NUM (get l 0) ≡ false)
@@ -48,10 +62,8 @@ module _ (l : List ℕ) (none : beginsNumber (get l 0) ≡ false) where
   unfolding literalOf within
   no-literal lo hi tokens = let h = leb-false NUM (get l 0) (tests .2) in rw (lt-leb (NUM + lo) (get l 0) (omega arith))
 
-  not-at : (x : ℕ) → Hundred ≤ x → x ≤ Billion → isAt l 0 x ≡ false
-  unfolding isAt get
-  not-at x a b =
-      rw (ne-eqb (get l 0) x (λ e. outside Hundred (get l 0) Billion (tests .1) (omega arith) (omega arith))) (and-false (ltb 0 (length l)))
+  no-unit-word : Hundred ≤ get l 0 → get l 0 ≤ Billion → ⊥
+  no-unit-word = outside Hundred (get l 0) Billion (tests .1)
 
   no-ones : onesOf l ≡ Nothing
   unfolding onesOf
@@ -63,13 +75,9 @@ module _ (l : List ℕ) (none : beginsNumber (get l 0) ≡ false) where
 
   no-triple : numTripleOf l ≡ Nothing
   unfolding numTripleOf hundredsOf
-  no-triple = rw (no-ones, not-at Hundred (omega arith) (omega arith), no-double, no-literal 100 999 _)
-
-  no-unit : numTripleUnitOf l ≡ Nothing
-  unfolding numTripleUnitOf
-  no-unit = rw (not-at Thousand (omega arith) (omega arith), not-at Million (omega arith) (omega arith), not-at Billion (omega arith) (omega arith))
+  no-triple = rw (no-ones, not-at l 0 Hundred (λ e. no-unit-word (omega arith) (omega arith)), no-double, no-literal 100 999 _)
 
   -- what no number begins with has none
   pub no-num : numOf l ≡ Nothing
   unfolding numStep unitsOf
-  no-num = rw (num-is l, no-triple, no-unit, no-literal 1000 MAX 1)
+  no-num = rw (num-is l, no-triple, no-unit l no-unit-word, no-literal 1000 MAX 1)

@@ -4,3 +4,4 @@ pub mod Laws
 pub mod Bounds
 pub mod Turns
 pub mod Begins
+pub mod Alone

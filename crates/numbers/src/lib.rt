@@ -82,11 +82,11 @@ fn literal(l: &[u64], lo: u32, hi: u32, tokens: usize) -> Found
     Found::Nothing
 }
 
-// A number word from `first` to hi, or a literal from lo to hi.
-fn word_or_literal(l: &[u64], first: u32, lo: u32, hi: u32, tokens: usize) -> Found
-    ensures { λ r. ⌜ r ≡ orElse (wordOf (now (l .entry)) first hi tokens) (literalOf (now (l .entry)) lo hi tokens) ⌝ }
+// A number word from `first` to `last`, or a literal from lo to hi.
+fn word_or_literal(l: &[u64], first: u32, last: u32, lo: u32, hi: u32, tokens: usize) -> Found
+    ensures { λ r. ⌜ r ≡ orElse (wordOf (now (l .entry)) first last tokens) (literalOf (now (l .entry)) lo hi tokens) ⌝ }
 {
-    let a = word(l, first, hi, tokens);
+    let a = word(l, first, last, tokens);
     let Found::Nothing = a else {
         return a;
     };
@@ -98,7 +98,7 @@ fn ones(l: &[u64]) -> Found
     ensures { λ r. ⌜ r ≡ onesOf (now (l .entry)) ⌝ }
     ensures { λ r. ⌜ Taken r 1 9 (length (now (l .entry))) ⌝ }
 {
-    word_or_literal(l, 1, 0, 9, 1 + take_ending(l, 1))
+    word_or_literal(l, 1, 9, 0, 9, 1 + take_ending(l, 1))
 }
 
 // `Teens::parse`
@@ -106,7 +106,7 @@ fn teens(l: &[u64]) -> Found
     ensures { λ r. ⌜ r ≡ teensOf (now (l .entry)) ⌝ }
     ensures { λ r. ⌜ Taken r 1 19 (length (now (l .entry))) ⌝ }
 {
-    word_or_literal(l, 10, 10, 19, 1 + take_if(l, 1, TH))
+    word_or_literal(l, 10, 19, 10, 19, 1 + take_if(l, 1, TH))
 }
 
 // `Tens::parse`
@@ -261,7 +261,7 @@ fn units(l: &[u64], triple: Found) -> Found
     let s = t + u;
     let required = is_at(l, s, AND);
     let tokens = s + one_if(required);
-    sum(required, head, tokens, num(rest(l, tokens)))
+    sum(required, head, tokens, whole(rest(l, tokens)))
 }
 
 // Does a number begin with the first lexeme? Tested in the order of the codes.
@@ -278,14 +278,11 @@ fn begins_number(l: &[u64]) -> bool
     NUM <= x
 }
 
-// `Num::parse`; the triple is read once for both alternatives that begin with it, and none is tried where no number begins.
-pub fn num(l: &[u64]) -> Found
+// `Num::parse`, each alternative; the triple is read once for both that begin with it.
+fn whole(l: &[u64]) -> Found
     ensures { λ r. ⌜ r ≡ numOf (now (l .entry)) ⌝ }
     ensures { λ r. ⌜ Read r 1 (length (now (l .entry))) ⌝ }
 {
-    if !begins_number(l) {
-        return Found::Nothing;
-    }
     let triple = num_triple(l);
     let scaled = units(l, triple);
     let Found::Nothing = scaled else {
@@ -299,4 +296,30 @@ pub fn num(l: &[u64]) -> Found
         return triple;
     };
     literal(l, 1000, MAX, 1)
+}
+
+// A literal, or a word up to nineteen, is the number where behind it stands no lexeme from `HUNDRED` to `TH`, which could belong to it.
+fn begun(l: &[u64]) -> Found
+    ensures { λ r. ⌜ r ≡ numOf (now (l .entry)) ⌝ }
+    ensures { λ r. ⌜ Read r 1 (length (now (l .entry))) ⌝ }
+{
+    if is_within(HUNDRED, get(l, 1), TH) {
+        return whole(l);
+    }
+    let alone = word_or_literal(l, 1, 19, 0, MAX, 1);
+    let Found::Nothing = alone else {
+        return alone;
+    };
+    whole(l)
+}
+
+// `Num::parse`; no alternative is tried where no number begins.
+pub fn num(l: &[u64]) -> Found
+    ensures { λ r. ⌜ r ≡ numOf (now (l .entry)) ⌝ }
+    ensures { λ r. ⌜ Read r 1 (length (now (l .entry))) ⌝ }
+{
+    if begins_number(l) {
+        return begun(l);
+    }
+    Found::Nothing
 }

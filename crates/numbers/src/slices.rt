@@ -21,7 +21,7 @@ pub fn is_at(l: &[u64], i: usize, x: u64) -> bool
 }
 
 // The lexemes that a test takes: one where it holds.
-pub fn one_if(b: bool) -> usize
+pub(crate) fn one_if(b: bool) -> usize
     ensures { λ r. ⌜ r ≡ oneIf b ⌝ }
     ensures { λ r. ⌜ r ≤ 1 ⌝ }
 {

@@ -16,10 +16,8 @@ use Rattle.expressions.specs.Tree.{DateExpr, date, dateRelative, dateExpression
 use Rattle.expressions.specs.Tree.{relativeWeekday, weekdayRelative, weekdayExpressionBefore, before, after, weekday, empty}
 use Rattle.phrase.specs.Tree.{DateTime}
 use Rattle.phrase.specs.Tree.{dateTime, timeDate, durationAfter, durationBefore, now, around}
-use Rattle.expressions.specs.Shapes.{shape, intoExpr, exprFrom}
-use Rattle.phrase.specs.Flat.{linkedParts, flatFrom, flat, blank, rowDuration, linksFrom, treeOf}
-use Rattle.expressions.specs.Shapes.{sizeExpr}
-use Rattle.phrase.specs.Flat.{sizeTree}
+use Rattle.expressions.specs.Shapes.{shape, ownOf, ofOwn, intoExpr, exprFrom, sizeExpr}
+use Rattle.phrase.specs.Flat.{linkedParts, flatFrom, flat, blank, rowDuration, linksFrom, treeOf, sizeTree}
 use Rattle.phrase.specs.declared.reading.Link.{Link}
 use Rattle.phrase.specs.declared.reading.Reading.{Reading}
 use Rattle.expressions.proofs.Few.{into-expr-n}
@@ -71,18 +69,11 @@ module _ (d : Duration) (ps : Parts) (h : ps .n + size d ≤ length (ps .items))
 
 -- a tree's parts leave those before them as they were
 expr-keeps : (e : DateExpr) (ps : Parts) (k : ℕ) → k ≤ ps .n → take k (intoExpr e ps .items) ≡ take k (ps .items)
-expr-keeps (date d) ps k h = refl
-expr-keeps (dateRelative d s u) ps k h = refl
-expr-keeps (dateExpressionAfter d dur) ps k h = into-keeps dur ps k h
-expr-keeps (dateExpressionBefore d dur) ps k h = into-keeps dur ps k h
-expr-keeps (unitRelative s u) ps k h = refl
-expr-keeps (relativeWeekday s w) ps k h = refl
-expr-keeps (weekdayRelative w s u) ps k h = refl
-expr-keeps (weekdayExpressionBefore w dur) ps k h = into-keeps dur ps k h
-expr-keeps (before dur d) ps k h = into-keeps dur ps k h
-expr-keeps (after dur d) ps k h = into-keeps dur ps k h
-expr-keeps (weekday w) ps k h = refl
-expr-keeps empty ps k h = refl
+expr-keeps e ps k h = go (ownOf e)
+  where
+    go : (own : List Duration) → take k (ofOwn ps (λ dur. into dur ps) own .items) ≡ take k (ps .items)
+    go [] = refl
+    go (dur ∷ none) = into-keeps dur ps k h
 
 tree-keeps : (x : DateTime) (r : Reading) (k : ℕ) → k ≤ r .parts .n → take k (flatFrom r x .parts .items) ≡ take k (r .parts .items)
 tree-keeps (dateTime e t) r k h = expr-keeps e (r .parts) k h

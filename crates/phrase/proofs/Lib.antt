@@ -1,6 +1,6 @@
-pub mod Answers
-pub mod Few
+pub mod Stands
 pub mod Turns
 pub mod Decoded
-pub mod Said
+pub mod Gathering
 pub mod Phrases
+pub mod Small

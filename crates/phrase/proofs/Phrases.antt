@@ -1,130 +1,105 @@
 -- A phrase read whole: what reading takes of lexing, where the offending part stands, and what a reading stands for.
-use Prim.Native.Nat.{ℕ, _≤_, _<_}
+use Prim.Native.Nat.{ℕ, _≤_}
 use native.Mathlib.Omega.{arith}
-use mathlib.Core.Path.{_≡_, refl, ap, sym, _∙_}
+use mathlib.Core.Path.{_≡_, refl, ap, sym}
 use mathlib.Core.Bool.{Bool, true, false, cond}
-use mathlib.Core.List.{List}
+use mathlib.Core.List.{List, []}
 use lib.Dec.{ltb}
-use lib.ListN.{length, getD, take, length-map}
-use borrow.Author.Tests.{ltb-true, ltb-false}
+use lib.ListN.{length, getD, take, replicate, length-map}
+use lib.Seq.{sets, length-sets, length-take-le}
+use borrow.Author.Tests.{ltb-true, ltb-false, ne-eqb}
 use Rattle.lexer.specs.Keywords.{keywords}
-use Rattle.lexer.specs.Lex.{between}
-use Rattle.lexer.specs.Lex.{Item, Lexed, refused, whole, lexed, codesOf, startsOf, filled, lineOf, Placed}
-use Rattle.lexer.specs.declared.lex.Line.{Line}
+use Rattle.lexer.specs.Lex.{between, Item, Lexed, refused, whole, lexed, front, codesOf, startsOf, endedOf, Placed}
+use Rattle.lexer.specs.declared.lex.Ended.{Ended}
 use Rattle.lexer.proofs.Numbered.{Numbered, numbered}
-use Rattle.lexer.proofs.Lines.{filled-taken, filled-at}
-use Rattle.lexer.proofs.Places.{answered}
+use Rattle.lexer.proofs.Lines.{front-whole, sets-taken, sets-at}
+use Rattle.lexer.proofs.Places.{start-below, placed}
 use Rattle.dates.specs.Parsed.{Parsed, is, nothing, overflow}
-use Rattle.phrase.specs.Tree.{DateTime}
+use Rattle.phrase.specs.Tree.{DateTime, now}
 use Rattle.phrase.specs.DateTimes.{dateTimeOf}
-use Rattle.phrase.specs.Flat.{flat, blank, treeOf}
-use Rattle.phrase.specs.Refusals.{LexemesLeft}
-use Rattle.phrase.specs.Read.{ReadPhrase, refusal, tree, readCodes, readLexed, readOf, refusedWith, phraseAnswer, placeOf, offendingOf}
+use Rattle.phrase.specs.Flat.{flat, blank, treeOf, sizeTree}
+use Rattle.phrase.specs.Outlines.{countOf, treeIn, kept, gathered}
+use Rattle.refusals.specs.Table as table
+use Rattle.phrase.specs.Read.{ReadPhrase, refusal, tree, readCodes, readLexed, readOf, refusedEnd, countEnded, judgedOf, phraseAnswer, placeOf, offendingOf}
+use Rattle.phrase.specs.declared.gather.Gathered.{Gathered}
 use Rattle.phrase.specs.declared.reading.Reading.{Reading}
 use Rattle.phrase.specs.declared.read.PhraseRead.{PhraseRead}
-use Rattle.phrase.proofs.Few.{date-time-few, at-most-21}
+use Rattle.dates.proofs.Each.{Each}
+use Rattle.phrase.proofs.Stands.{TreeHolds, date-time-holds}
 use Rattle.phrase.proofs.Decoded.{tree-count, decoded}
 
--- the place of a lexeme from the code's array, which is filled up
-start-filled : (items : List Item) (t : ℕ) → t < length items → getD (filled (startsOf items)) t 0 ≡ getD (startsOf items) t 0
-start-filled items t h = let same = length-map items (λ (i : Item). i .start) in filled-at (startsOf items) t (omega arith)
+-- the code's answer, from how reading ended
+abbrev pub answerOf : Ended → Reading → PhraseRead
+answerOf r x = record { reading = x; number = r .number; place = r .place; end = r .end; taken = r .count }
 
--- and so what is left behind a reading
-starts-filled : (items : List Item) (n : ℕ) (x : Parsed DateTime) →
-    readCodes x (length items) (filled (startsOf items)) n ≡ readCodes x (length items) (startsOf items) n
-starts-filled items n (is x t) = go (ltb t (length items)) refl
+-- of no lexemes nothing is kept
+none-kept : (w : Parsed DateTime) → Each (TreeHolds []) w → treeIn (kept 0 w) ≡ now
+none-kept (is x t) h = let one = h .bounds .one in let most = h .bounds .most in absurd (omega arith)
+none-kept nothing h = refl
+none-kept overflow h = refl
+
+-- of lexemes whose places are stored in front of an array, read as w
+codes-answer : (items : List Item) (a : List ℕ) → length items ≤ length a → (n : ℕ) (w : Parsed DateTime) →
+    answerOf (countEnded (countOf w) (length items) (sets a 0 (startsOf items)) n) (flat (treeIn (kept (length items) w)))
+    ≡ phraseAnswer (readCodes w (length items) (startsOf items) n)
+codes-answer items a h n (is x t) = go (ltb t (length items)) refl
   where
     go : (b : Bool) → ltb t (length items) ≡ b →
-        cond b (refusal LexemesLeft (getD (filled (startsOf items)) t 0) n) (tree x t)
-        ≡ cond b (refusal LexemesLeft (getD (startsOf items) t 0) n) (tree x t)
-    go true e = rw (start-filled items t (ltb-true t (length items) e))
-    go false e = refl
-starts-filled items n nothing = refl
-starts-filled items n overflow = refl
-
--- the code reads a lexed phrase of n bytes by its count, codes and places
-abbrev readLine : Line → ℕ → ReadPhrase
-readLine line n = readCodes (dateTimeOf (take (line .count) (line .codes))) (line .count) (line .starts) n
-
--- the lexemes from the code's arrays are read as the lexemes themselves
-line-read : (items : List Item) (n : ℕ) → readLine (lineOf (whole items)) n ≡ readLexed (whole items) n
-line-read items n =
-    rw (filled-taken (codesOf items) (length items) (length-map items (λ (i : Item). i .code)))
-    (starts-filled items n (dateTimeOf (codesOf items)))
-
--- a line of number 0 holds all the lexemes, any other a refusal
-line-whole : (w : Lexed) (n : ℕ) → Numbered w → lineOf w .number ≡ 0 → readLine (lineOf w) n ≡ readLexed w n
-line-whole (refused k a e) n h z = absurd (omega arith)
-line-whole (whole items) n h z = line-read items n
-
-line-refused : (w : Lexed) (n : ℕ) → (lineOf w .number ≡ 0 → ⊥) →
-    refusal (lineOf w .number) (lineOf w .place) (lineOf w .end) ≡ readLexed w n
-line-refused (refused k a e) n h = refl
-line-refused (whole items) n h = absurd (h refl)
-
--- what `lex` answers to a phrase, read
-module _ (s : List ℕ) {line : Line} (answer : line ≡ lineOf (lexed keywords s)) where
-  pub read-whole : line .number ≡ 0 → readLine line (length s) ≡ readOf keywords s
-  unfolding readOf
-  read-whole z = rw answer (line-whole (lexed keywords s) (length s) (numbered keywords s) (rw answer at z))
-
-  pub read-refused : (line .number ≡ 0 → ⊥) → refusal (line .number) (line .place) (line .end) ≡ readOf keywords s
-  unfolding readOf
-  read-refused h = rw answer (line-refused (lexed keywords s) (length s) (rw answer at h))
-
--- a refusal with the reading of nothing is the answer to what is so refused
-pub refusal-answered : {r : PhraseRead} {none : Reading} {k a e : ℕ} {w : ReadPhrase} →
-    r ≡ refusedWith k a e none → none ≡ blank → refusal k a e ≡ w → r ≡ phraseAnswer w
-refusal-answered {k = k} {a = a} {e = e} answer empty same = answer ∙ ap (refusedWith k a e) empty ∙ ap phraseAnswer same
-
--- the offending part begins and ends within the first n bytes
-abbrev Within : ℕ → ReadPhrase → Type 0
-Within n (refusal k a e) = (a ≤ e) × (e ≤ n)
-Within n (tree x t) = Unit {0}
-
-codes-within : (items : List Item) (n : ℕ) → Placed n (lineOf (whole items)) → (x : Parsed DateTime) →
-    Within n (readCodes x (length items) (startsOf items) n)
-codes-within items n placed (is x t) = go (ltb t (length items)) refl
-  where
-    go : (b : Bool) → ltb t (length items) ≡ b → Within n (cond b (refusal LexemesLeft (getD (startsOf items) t 0) n) (tree x t))
+        answerOf
+        (cond b (refusedEnd table.LeftOver (getD (sets a 0 (startsOf items)) t 0) n) (record { number = 0; place = 0; end = 0; count = t }))
+        (flat (cond b now x))
+        ≡ phraseAnswer (cond b (refusal table.LeftOver (getD (startsOf items) t 0) n) (tree x t))
     go true e =
         let below = ltb-true t (length items) e in
-        let start = rw (start-filled items t below) at (placed .start-below t below) in
-        omega arith
-    go false e = tt
-codes-within items n placed nothing = omega arith
-codes-within items n placed overflow = omega arith
+        let same = length-map items (λ (i : Item). i .start) in
+        rw (sets-at (startsOf items) a (omega arith) t (omega arith))
+    go false e = refl
+codes-answer items a h n nothing = refl
+codes-answer items a h n overflow = refl
 
-lexed-within : (w : Lexed) (n : ℕ) → Placed n (lineOf w) → Within n (readLexed w n)
-lexed-within (refused k a e) n p = (p .place-end, p .end-most)
-lexed-within (whole items) n p = codes-within items n p (dateTimeOf (codesOf items))
+kept-count : (n : ℕ) (w : Parsed DateTime) → countOf (kept n w) ≡ countOf w
+kept-count n (is x t) = refl
+kept-count n nothing = refl
+kept-count n overflow = refl
 
-read-within : (s : List ℕ) → Within (length s) (readOf keywords s)
-unfolding readOf
-read-within s = lexed-within (lexed keywords s) (length s) (answered keywords s refl .1)
+-- what `lex` answers to a phrase and stores, read
+module _ (s : List ℕ) where
+  abbrev lineRead : Ended → List Item → PhraseRead
+  lineRead line items =
+      let w = dateTimeOf (take (line .count) (sets (replicate 64 0) 0 (codesOf items))) in
+      answerOf (judgedOf line (countOf w) (sets (replicate 64 0) 0 (startsOf items)) (length s)) (flat (treeIn (kept (line .count) w)))
 
-answer-within : (n : ℕ) (w : ReadPhrase) → Within n w → (phraseAnswer w .place ≤ phraseAnswer w .end) × (phraseAnswer w .end ≤ n)
-answer-within n (refusal k a e) h = h
-answer-within n (tree x t) h = omega arith
+  line-answered : lineRead (endedOf (lexed keywords s)) (front keywords s) ≡ phraseAnswer (readOf keywords s)
+  unfolding readOf
+  line-answered = go (lexed keywords s) refl (numbered keywords s) (placed keywords s refl)
+    where
+      go : (w : Lexed) → lexed keywords s ≡ w → Numbered w → Placed (length s) (endedOf (lexed keywords s)) →
+          lineRead (endedOf w) (front keywords s) ≡ phraseAnswer (readLexed w (length s))
+      go (refused k p e) same h most = rw (ne-eqb k 0 (λ z. omega arith), none-kept (dateTimeOf []) (date-time-holds []))
+      go (whole items) same h most =
+          let count = (rw same at most) .count-most in
+          let codes = length-map items (λ (i : Item). i .code) in
+          rw (front-whole keywords s items same, sets-taken (codesOf items) (replicate 64 0) (omega arith) (length items) codes)
+          (codes-answer items (replicate 64 0) count (length s) (dateTimeOf (codesOf items)))
 
-answer-place : (w : ReadPhrase) → phraseAnswer w .place ≡ placeOf w
-answer-place (refusal k a e) = refl
-answer-place (tree x t) = refl
+  -- the codes are as many as the lexemes, and there is room for them
+  pub codes-stored : {line : Ended} {codes : List ℕ} → line ≡ endedOf (lexed keywords s) →
+      codes ≡ sets (replicate 64 0) 0 (codesOf (front keywords s)) →
+      (line .count ≤ length codes) × (length (take (line .count) codes) ≡ line .count) × (line .count ≤ 64)
+  codes-stored {line} {codes} e f =
+      let most = placed keywords s e .count-most in
+      let all : length codes ≡ 64 = rw (f, length-sets (replicate 64 0) 0 (codesOf (front keywords s))) in
+      (omega arith, length-take-le (line .count) codes (omega arith), most)
 
-answer-part : (s : List ℕ) (w : ReadPhrase) → between s (phraseAnswer w .place) (phraseAnswer w .end) ≡ offendingOf s w
-answer-part s (refusal k a e) = refl
-answer-part s (tree x t) = refl
-
--- the place and the part of an answer
-module _ (s : List ℕ) {r : PhraseRead} (answer : r ≡ phraseAnswer (readOf keywords s)) where
-  pub part-within : (r .place ≤ r .end) × (r .end ≤ length s)
-  part-within = rw answer (answer-within (length s) (readOf keywords s) (read-within s))
-
-  pub part-place : r .place ≡ placeOf (readOf keywords s)
-  part-place = rw answer (answer-place (readOf keywords s))
-
-  pub part-is : between s (r .place) (r .end) ≡ offendingOf s (readOf keywords s)
-  part-is = rw answer (answer-part s (readOf keywords s))
+  pub read-answered : {line r : Ended} {codes starts : List ℕ} {x : Gathered} → line ≡ endedOf (lexed keywords s) →
+      codes ≡ sets (replicate 64 0) 0 (codesOf (front keywords s)) → starts ≡ sets (replicate 64 0) 0 (startsOf (front keywords s)) →
+      x ≡ gathered (kept (line .count) (dateTimeOf (take (line .count) codes))) →
+      r ≡ judgedOf line (x .taken) starts (length s) →
+      answerOf r (x .reading) ≡ phraseAnswer (readOf keywords s)
+  read-answered {line} {r} {codes} {starts} {x} e f g gives ends =
+      let w = dateTimeOf (take (line .count) codes) in
+      let count : x .taken ≡ countOf w = rw gives (kept-count (line .count) w) in
+      rw (ends, count, gives, e, f, g) line-answered
 
 -- a phrase that is read: its lexemes, all of them taken, and the tree that the reading stands for, as `DateTime::parse` gives it
 pub record ReadWhole (s : List ℕ) (r : PhraseRead) : Type 0 where
@@ -135,9 +110,9 @@ pub record ReadWhole (s : List ℕ) (r : PhraseRead) : Type 0 where
   pub flattened : r .reading ≡ flat (treeOf (r .reading))
   pub few : r .reading .parts .n ≤ 21
 
--- refused by 1 to 7, or read whole
+-- refused by 1 to 7, with a part of the phrase, or read whole
 abbrev Settled : List ℕ → ReadPhrase → Type 0
-Settled s (refusal k a e) = (1 ≤ k) × (k ≤ 7)
+Settled s (refusal k a e) = (1 ≤ k) × (k ≤ 7) × (a ≤ e) × (e ≤ length s)
 Settled s (tree x t) = ReadWhole s (phraseAnswer (tree x t))
 
 module _ (s : List ℕ) (items : List Item) (lexemes : lexed keywords s ≡ whole items) (most : length items ≤ 64) where
@@ -146,13 +121,15 @@ module _ (s : List ℕ) (items : List Item) (lexemes : lexed keywords s ≡ whol
   codes-settled (is x t) e = go (ltb t (length items)) refl
     where
       go : (b : Bool) → ltb t (length items) ≡ b →
-          Settled s (cond b (refusal LexemesLeft (getD (startsOf items) t 0) (length s)) (tree x t))
-      go true h = omega arith
+          Settled s (cond b (refusal table.LeftOver (getD (startsOf items) t 0) (length s)) (tree x t))
+      go true h =
+          let start = rw (front-whole keywords s items lexemes) at (start-below keywords s t) in
+          let below = start (ltb-true t (length items) h) in omega arith
       go false h =
           let same = length-map items (λ (i : Item). i .code) in
           let left = ltb-false t (length items) h in
-          let took = (rw e at (date-time-few (codesOf items))) .bounds in
-          let parts = at-most-21 (codesOf items) (omega arith) e in
+          let took = (rw e at (date-time-holds (codesOf items))) .bounds in
+          let parts : sizeTree x ≤ 21 = omega arith in
           let count = tree-count x blank in
           record {
             items = items;
@@ -165,18 +142,30 @@ module _ (s : List ℕ) (items : List Item) (lexemes : lexed keywords s ≡ whol
   codes-settled nothing e = omega arith
   codes-settled overflow e = omega arith
 
-lexed-settled : (s : List ℕ) (w : Lexed) → lexed keywords s ≡ w → Numbered w → Placed (length s) (lineOf w) →
-    Settled s (readLexed w (length s))
-lexed-settled s (refused k a e) h n p = omega arith
-lexed-settled s (whole items) h n p = codes-settled s items h (p .count-most) (dateTimeOf (codesOf items)) refl
-
 settled : (s : List ℕ) → Settled s (readOf keywords s)
 unfolding readOf
-settled s = lexed-settled s (lexed keywords s) refl (numbered keywords s) (answered keywords s refl .1)
+settled s = go (lexed keywords s) refl (numbered keywords s) (placed keywords s refl)
+  where
+    go : (w : Lexed) → lexed keywords s ≡ w → Numbered w → Placed (length s) (endedOf (lexed keywords s)) → Settled s (readLexed w (length s))
+    go (refused k a e) h n p = let q = rw h at p in omega arith
+    go (whole items) h n p = codes-settled s items h ((rw h at p) .count-most) (dateTimeOf (codesOf items)) refl
 
 -- a phrase is refused by a number of 1 to 7
 pub refusal-numbers : (s : List ℕ) {k a e : ℕ} → readOf keywords s ≡ refusal k a e → (1 ≤ k) × (k ≤ 7)
-refusal-numbers s h = rw h at (settled s)
+refusal-numbers s h = let b = rw h at (settled s) in (b .0, b .1)
+
+-- where the offending part of an answer is
+answer-part : (s : List ℕ) (w : ReadPhrase) → Settled s w → let r = phraseAnswer w in
+    (r .place ≤ r .end) × (r .end ≤ length s) × (r .place ≡ placeOf w) × (between s (r .place) (r .end) ≡ offendingOf s w)
+answer-part s (refusal k a e) h = (h .2, h .3, refl, refl)
+answer-part s (tree x t) h = (omega arith, omega arith, refl, refl)
+
+module _ (s : List ℕ) {r : PhraseRead} (answer : r ≡ phraseAnswer (readOf keywords s)) where
+  pub part-within : (r .place ≤ r .end) × (r .end ≤ length s)
+  part-within = let b = answer-part s (readOf keywords s) (settled s) in rw answer (b .0, b .1)
+
+  pub part-is : (r .place ≡ placeOf (readOf keywords s)) × (between s (r .place) (r .end) ≡ offendingOf s (readOf keywords s))
+  part-is = let b = answer-part s (readOf keywords s) (settled s) in rw answer (b .2, b .3)
 
 answer-settled : (s : List ℕ) (w : ReadPhrase) → Settled s w → phraseAnswer w .number ≡ 0 → ReadWhole s (phraseAnswer w)
 answer-settled s (refusal k a e) h z = absurd (omega arith)

@@ -6,7 +6,7 @@ use Prim.Native.String.{String}
 use Rattle.lexer.specs.Words.{bytesOf}
 use Rattle.lexer.specs.Keywords.{keywords}
 use Rattle.lexer.specs.Classes.{classOf, markOf}
-use Rattle.lexer.specs.Refusals.{Meaningless}
+use Rattle.refusals.specs.Table as table
 use Rattle.lexer.specs.Lex.{numberOf, wordAt, numberAt, tokenAt, lexed}
 use Rattle.numbers.specs.Slices.{get, isAt, within}
 use Rattle.numbers.specs.Answers.{fitsOf}
@@ -28,9 +28,8 @@ use Rattle.phrase.specs.Tree.{dateTime, timeDate, durationAfter}
 use Rattle.phrase.specs.Tree.{durationBefore, now}
 use Rattle.expressions.specs.DateExprs.{inTailOf, durationTailOf, tailOf, withDurationOf, relativeExprOf, weekdayExprOf, undatedOf}
 use Rattle.expressions.specs.DateExprs.{dateExprOf}
-use Rattle.phrase.specs.DateTimes.{withExprOf, withDurationOf as durationTurnOf, withTimeOf, timedTurnOf, undatedTurnOf, turnOf}
+use Rattle.phrase.specs.DateTimes.{timeBehindOf, withDurationOf as durationTurnOf, timedTurnOf, undatedTurnOf, turnOf}
 use Rattle.phrase.specs.DateTimes.{dateTimeStep, dateTimeOf}
-use Rattle.phrase.specs.Refusals.{NothingRead, SumTooLarge, LexemesLeft}
 use Rattle.phrase.specs.Read.{ReadPhrase, refusal, tree, readOf}
 
 -- a row: the phrase, and what is read of it
@@ -48,13 +47,13 @@ cases =
     row "now" (tree now 1)
     ∷ row "next friday at 3 pm" (tree (dateTime (relativeWeekday Next 4) (HourMinPM 3 0)) 5)
     ∷ row "tomorrow, 5:00" (tree (dateTime (date Tomorrow) (HourMin 5 0)) 5)
-    ∷ row "5 days after tomorrow at noon" (tree (dateTime (after (part (Specific 5 Day)) Tomorrow) (HourMin 12 0)) 6)
+    ∷ row "5 days after tomorrow at noon" (tree (dateTime (after (part (Specific Day 5)) Tomorrow) (HourMin 12 0)) 6)
     ∷ row "an hour from now" (tree (durationAfter (part (Article Hour)) now) 4)
     ∷ row "an hour after today" (tree (durationAfter (part (Article Hour)) (dateTime (date Today) NoTime)) 4)
     ∷ row
     "an hour before 5 days ago"
-    (tree (durationBefore (part (Article Hour)) (dateTime (before (part (Specific 5 Day)) NoDate) NoTime)) 6)
-    ∷ row "two hours ago" (tree (durationBefore (part (Specific 2 Hour)) now) 3)
+    (tree (durationBefore (part (Article Hour)) (dateTime (before (part (Specific Day 5)) NoDate) NoTime)) 6)
+    ∷ row "two hours ago" (tree (durationBefore (part (Specific Hour 2)) now) 3)
     ∷ row "5 pm on friday" (tree (timeDate (HourMinPM 5 0) (weekday 4)) 4)
     ∷ row "5" (tree (timeDate (HourMin 5 0) empty) 1)
     -- a comma, "at" or "on" is taken with nothing behind it
@@ -63,16 +62,16 @@ cases =
     -- "next" behind a weekday is passed
     ∷ row "friday next 5:00" (tree (dateTime (weekday 4) (HourMin 5 0)) 5)
     -- lexemes are left: from the first of them to the phrase's end
-    ∷ row "5/2" (refusal LexemesLeft 1 3)
-    ∷ row "march 24th" (refusal LexemesLeft 8 10)
+    ∷ row "5/2" (refusal table.LeftOver 1 3)
+    ∷ row "march 24th" (refusal table.LeftOver 8 10)
     -- nothing is read
-    ∷ row "" (refusal NothingRead 0 0)
-    ∷ row "5 days after" (refusal NothingRead 0 0)
+    ∷ row "" (refusal table.Nothing 0 0)
+    ∷ row "5 days after" (refusal table.Nothing 0 0)
     -- a number passes 4,294,967,295, also where its alternative would have been given up
-    ∷ row "five billion days ago" (refusal SumTooLarge 0 0)
-    ∷ row "5 pm five billion" (refusal SumTooLarge 0 0)
+    ∷ row "five billion days ago" (refusal table.LargeSum 0 0)
+    ∷ row "5 pm five billion" (refusal table.LargeSum 0 0)
     -- lexing refuses first
-    ∷ row "forty days ago" (refusal Meaningless 0 5)
+    ∷ row "forty days ago" (refusal table.Unknown 0 5)
     ∷ []
 
 -- each row is what `readOf` gives
@@ -81,6 +80,6 @@ unfolding cases keywords classOf markOf numberOf wordAt numberAt tokenAt lexed g
     tensOf tensOnesOf numDoubleOf sumOf numTailOf hundredsOf numTripleOf numTripleUnitOf fitsOf unitsOf numStep turns again numOf
     isArticle unitOf monthOf weekdayOf relativeSpecifierOf specificOf articleOf concreteOf durationStep durationOf namedDayOf
     dayMonthYearOf monthDayOf isDelim threeNumbersOf twoNumbersOf behindSecondOf delimitedOf dateOf minuteOf halfOf clockOf timeOf
-    inTailOf durationTailOf tailOf withDurationOf relativeExprOf weekdayExprOf undatedOf dateExprOf withExprOf durationTurnOf
-    withTimeOf timedTurnOf undatedTurnOf turnOf dateTimeStep dateTimeOf readOf
+    inTailOf durationTailOf tailOf withDurationOf relativeExprOf weekdayExprOf undatedOf dateExprOf timeBehindOf durationTurnOf
+    timedTurnOf undatedTurnOf turnOf dateTimeStep dateTimeOf readOf
 read-as-listed = refl

@@ -11,20 +11,24 @@ use Rattle.dates.specs.Durations.{Duration, durationOf}
 use Rattle.dates.specs.Times.{timeOf}
 use Rattle.dates.specs.declared.time.Time.{Time}
 use Rattle.dates.specs.declared.time.Time.the-variants.{Empty}
-use Rattle.expressions.specs.Tree.{DateExpr, empty}
+use Rattle.expressions.specs.Tree.{empty}
 use Rattle.phrase.specs.Tree.{DateTime, dateTime, timeDate, durationBefore, now, around}
 use Rattle.expressions.specs.DateExprs.{dateExprOf}
 
--- what one turn of the reader gives: a whole tree, or a duration with its direction (back: true), behind which a datetime is read again
+-- what one turn of the reader gives: a whole tree, a duration before now, or a duration with its direction (back: true),
+-- behind which a datetime is read again
 pub data Turn : Type 0 where
   whole : DateTime → Turn
+  ago : Duration → Turn
   link : Bool → Duration → Turn
 
--- <date_expr> [, | at] [<time>]: the comma or "at" is taken also with no time behind it
-unfoldable pub withExprOf : DateExpr → ℕ → List ℕ → Parsed Turn
-withExprOf expr t l =
-    let s = t + oneIf (isAt l t lexeme.Comma || isAt l t lexeme.At) in
-    ifLet (timeOf (drop s l)) (λ time u. is (whole (dateTime expr time)) (s + u)) (is (whole (dateTime expr Empty)) s)
+-- t lexemes, with a comma or an x behind them
+abbrev pub commaOr : List ℕ → ℕ → ℕ → ℕ
+commaOr l t x = t + oneIf (isAt l t lexeme.Comma || isAt l t x)
+
+-- [, | at] [<time>] behind t lexemes: the comma or "at" is taken also with no time behind it
+unfoldable pub timeBehindOf : ℕ → List ℕ → Parsed Time
+timeBehindOf t l = let s = commaOr l t lexeme.At in ifLet (timeOf (drop s l)) (λ time u. is time (s + u)) (is Empty s)
 
 -- <duration> after | from | before <datetime>, <duration> ago
 unfoldable pub withDurationOf : Duration → ℕ → List ℕ → Parsed Turn
@@ -32,18 +36,14 @@ withDurationOf dur t l =
     pick (isAt l t lexeme.After) (is (link false dur) (t + 1))
     (pick (isAt l t lexeme.From) (is (link false dur) (t + 1))
     (pick (isAt l t lexeme.Before) (is (link true dur) (t + 1))
-    (pick (isAt l t lexeme.Ago) (is (whole (durationBefore dur now)) (t + 1))
+    (pick (isAt l t lexeme.Ago) (is (ago dur) (t + 1))
     nothing)))
 
 -- <time> [, | on] [<date_expr>]: the comma or "on" is taken also with no date behind it
-unfoldable pub withTimeOf : Time → ℕ → List ℕ → Parsed Turn
-withTimeOf time t l =
-    let s = t + oneIf (isAt l t lexeme.Comma || isAt l t lexeme.On) in
-    ifLet (dateExprOf (drop s l)) (λ expr u. is (whole (timeDate time expr)) (s + u)) (is (whole (timeDate time empty)) s)
-
--- from the time on
 unfoldable pub timedTurnOf : List ℕ → Parsed Turn
-timedTurnOf l = andThen (timeOf l) (λ time t. withTimeOf time t l)
+timedTurnOf l =
+    andThen (timeOf l) (λ time t. let s = commaOr l t lexeme.On in
+    ifLet (dateExprOf (drop s l)) (λ expr u. is (whole (timeDate time expr)) (s + u)) (is (whole (timeDate time empty)) s))
 
 -- from the duration on
 unfoldable pub undatedTurnOf : List ℕ → Parsed Turn
@@ -53,12 +53,13 @@ undatedTurnOf l = ifLet (durationOf l) (λ dur t. withDurationOf dur t l) (timed
 unfoldable pub turnOf : List ℕ → Parsed Turn
 turnOf l =
     pick (isAt l 0 lexeme.Now) (is (whole now) 1)
-    (ifLet (dateExprOf l) (λ expr t. withExprOf expr t l)
+    (ifLet (dateExprOf l) (λ expr t. andThen (timeBehindOf t l) (λ time n. is (whole (dateTime expr time)) n))
     (undatedTurnOf l))
 
 -- behind "after", "from" and "before" a datetime is read again, and with none there is nothing
 abbrev pub againOf : (List ℕ → Parsed DateTime) → List ℕ → Turn → ℕ → Parsed DateTime
 againOf D l (whole x) t = is x t
+againOf D l (ago dur) t = is (durationBefore dur now) t
 againOf D l (link back dur) t = andThen (D (drop t l)) (λ x u. is (around back dur x) (t + u))
 
 -- `DateTime::parse`, with D for the datetime that is read again

@@ -1,7 +1,6 @@
 pub mod Tree
 pub mod DateTimes
 pub mod Flat
-pub mod TurnAnswers
-pub mod Refusals
+pub mod Outlines
 pub mod Read
 pub mod Cases

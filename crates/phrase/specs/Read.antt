@@ -2,16 +2,18 @@
 use Prim.Native.Nat.{ℕ}
 use mathlib.Core.Bool.{cond}
 use mathlib.Core.List.{List, []}
-use lib.Dec.{ltb}
+use lib.Dec.{eqb, ltb}
 use lib.ListN.{length, getD}
 use Rattle.lexer.specs.Words.{Word}
 use Rattle.lexer.specs.Lex.{Lexed, refused, whole, lexed, codesOf, startsOf, between}
+use Rattle.lexer.specs.declared.lex.Ended.{Ended}
 use Rattle.dates.specs.Parsed.{Parsed, is, nothing, overflow}
 use Rattle.phrase.specs.Tree.{DateTime}
 use Rattle.phrase.specs.DateTimes.{dateTimeOf}
 use Rattle.phrase.specs.Flat.{flat, blank}
-use Rattle.phrase.specs.Refusals.{NothingRead, SumTooLarge, LexemesLeft}
-use Rattle.phrase.specs.declared.reading.Reading.{Reading}
+use Rattle.refusals.specs.Table as table
+use Rattle.phrase.specs.declared.date_time.Count.{Count}
+use Rattle.phrase.specs.declared.date_time.Count.the-variants.{Is, Nothing, Overflow}
 use Rattle.phrase.specs.declared.read.PhraseRead.{PhraseRead}
 
 -- a refusal's number, place and end of the part; or the tree and the lexemes taken
@@ -21,9 +23,9 @@ pub data ReadPhrase : Type 0 where
 
 -- 5 and 6 have place 0 and no part; 7 has the place of the first of the count lexemes that is left, and its part goes on to the end at n
 abbrev pub readCodes : Parsed DateTime → ℕ → List ℕ → ℕ → ReadPhrase
-readCodes (is x t) count starts n = cond (ltb t count) (refusal LexemesLeft (getD starts t 0) n) (tree x t)
-readCodes nothing count starts n = refusal NothingRead 0 0
-readCodes overflow count starts n = refusal SumTooLarge 0 0
+readCodes (is x t) count starts n = cond (ltb t count) (refusal table.LeftOver (getD starts t 0) n) (tree x t)
+readCodes nothing count starts n = refusal table.Nothing 0 0
+readCodes overflow count starts n = refusal table.LargeSum 0 0
 
 -- 1 to 4 are the lexer's
 abbrev pub readLexed : Lexed → ℕ → ReadPhrase
@@ -34,13 +36,24 @@ readLexed (whole items) n = readCodes (dateTimeOf (codesOf items)) (length items
 unfoldable pub readOf : List Word → List ℕ → ReadPhrase
 readOf ws s = readLexed (lexed ws s) (length s)
 
--- the code's answer for a refusal's number, place and end: no lexemes, and the reading that stands for none
-abbrev pub refusedWith : ℕ → ℕ → ℕ → Reading → PhraseRead
-refusedWith k a e none = record { number = k; place = a; end = e; taken = 0; reading = none }
+-- a refusal in the form of the lexer's answer
+abbrev pub refusedEnd : ℕ → ℕ → ℕ → Ended
+refusedEnd k a e = record { number = k; place = a; end = e; count = 0 }
+
+-- how the reading of so many lexemes ended, by those that it took: as in `readCodes`
+abbrev pub countEnded : Count → ℕ → List ℕ → ℕ → Ended
+countEnded (Is t) count starts n =
+    cond (ltb t count) (refusedEnd table.LeftOver (getD starts t 0) n) (record { number = 0; place = 0; end = 0; count = t })
+countEnded Nothing count starts n = refusedEnd table.Nothing 0 0
+countEnded Overflow count starts n = refusedEnd table.LargeSum 0 0
+
+-- the lexer's refusal first
+abbrev pub judgedOf : Ended → Count → List ℕ → ℕ → Ended
+judgedOf line k starts n = cond (eqb (line .number) 0) (countEnded k (line .count) starts n) line
 
 -- the code's answer: number 0, and the lexemes taken and the flat reading; or a refusal with the reading of nothing
 abbrev pub phraseAnswer : ReadPhrase → PhraseRead
-phraseAnswer (refusal k a e) = refusedWith k a e blank
+phraseAnswer (refusal k a e) = record { number = k; place = a; end = e; taken = 0; reading = blank }
 phraseAnswer (tree x t) = record { number = 0; place = 0; end = 0; taken = t; reading = flat x }
 
 -- the place of a refusal, 0 where nothing is refused

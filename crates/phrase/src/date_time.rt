@@ -1,9 +1,5 @@
-// The reader of a whole phrase's lexemes: durations, outermost first, around one base.
+// The reader of a whole phrase's lexemes: links, outermost first, around one base. Their durations are passed here, and read at the end.
 use super::reading::Base;
-use super::reading::Reading;
-use super::reading::with_base;
-use super::reading::with_link;
-use dates::duration::Parts;
 use dates::duration::Taken;
 use dates::duration::read_duration;
 use dates::time::Time;
@@ -25,26 +21,26 @@ use numbers::slices::rest;
 use numbers::slices::take_if;
 ghost use mathlib.Core.Path.{_≡_};
 ghost use mathlib.Core.Bool.{_||_};
-ghost use Prim.Native.Nat.{_+_, _≤_, _<_, max};
+ghost use mathlib.Core.List.{[]};
+ghost use Prim.Native.Nat.{_+_, _≤_, max};
 ghost use lib.ListN.{length};
 ghost use Rattle.lexer.specs.Lexemes.{Comma};
 ghost use Rattle.numbers.specs.Slices.{isAt, oneIf};
-ghost use Rattle.phrase.specs.DateTimes.{withTimeOf, timedTurnOf, undatedTurnOf, turnOf, dateTimeOf};
-ghost use Rattle.phrase.specs.TurnAnswers.{turnAnswer, readingAnswer, exprTurn, durationTurn, linkedAnswer, Room, TurnCounted};
-ghost use Rattle.phrase.specs.TurnAnswers.{ReadingCounted};
+ghost use Rattle.dates.specs.Parsed.{stopped, nothing};
+ghost use Rattle.dates.specs.Durations.{Duration};
+ghost use Rattle.dates.specs.Times.{parsedTime};
+ghost use Rattle.phrase.specs.Tree.{now as bare};
+ghost use Rattle.phrase.specs.DateTimes.{timeBehindOf, withDurationOf, timedTurnOf, undatedTurnOf, turnOf, dateTimeOf};
+ghost use Rattle.phrase.specs.Outlines.{turnAnswer, outline, outlineAnswer, kept};
 
-// One turn: a whole reading, or a link behind which a datetime is read again, with the lexemes taken.
+// One turn, with the lexemes taken: a whole reading, with its base, its time and the place of the base's own duration;
+// a duration before now; or a link, behind which a datetime is read again. The duration of `Ago` and `Link` stands in front.
 pub enum Turn {
-    Whole(usize),
+    Whole(Base, Time, usize, usize),
+    Ago(usize),
     Link(usize),
     Nothing,
     Overflow,
-}
-
-// A turn, and the reading with what it read.
-pub struct TurnFound {
-    pub turn: Turn,
-    pub reading: Reading,
 }
 
 // The lexemes that a reading takes.
@@ -54,10 +50,13 @@ pub enum Count {
     Overflow,
 }
 
-// The lexemes taken, and the reading.
-pub struct ReadingFound {
+// What is read of a whole phrase: m links in front of a base, and the place of the base's own duration, from the base's first lexeme on.
+pub struct Outline {
     pub taken: Count,
-    pub reading: Reading,
+    pub base: Base,
+    pub time: Time,
+    pub own: usize,
+    pub m: usize,
 }
 
 // 1 for a comma or an x at t, which is taken then, and else 0.
@@ -71,204 +70,166 @@ fn take_comma_or(l: &[u64], t: usize, x: u64) -> usize
     take_if(l, t, x)
 }
 
-// [, | at] [<time>] behind a date expression of t lexemes, whose parts are the last of `parts`
-fn with_expr(l: &[u64], expr: Expr, t: usize, parts: Parts, r: Reading) -> TurnFound
-    requires { ⌜ (t ≤ length (now l)) × (length (now l) ≤ 64) ⌝ }
-    ensures { λ x. ⌜ x ≡ exprTurn (now (l .entry)) expr t parts r ⌝ }
+// [, | at] [<time>] behind t lexemes
+fn time_behind(l: &[u64], t: usize) -> TimeFound
+    requires { ⌜ t ≤ length (now l) ⌝ }
+    ensures { λ r. ⌜ parsedTime r ≡ timeBehindOf t (now (l .entry)) ⌝ }
 {
     let s = t + take_comma_or(l, t, AT);
     match read_time(rest(l, s)) {
-        TimeFound::Is(time, u) => TurnFound {
-            turn: Turn::Whole(s + u),
-            reading: with_base(r, Base::DateTime(expr), time, parts),
-        },
-        TimeFound::Nothing => TurnFound {
-            turn: Turn::Whole(s),
-            reading: with_base(r, Base::DateTime(expr), Time::Empty, parts),
-        },
-        TimeFound::Overflow => TurnFound {
-            turn: Turn::Overflow,
-            reading: r,
-        },
+        TimeFound::Is(time, u) => TimeFound::Is(time, s + u),
+        TimeFound::Nothing => TimeFound::Is(Time::Empty, s),
+        TimeFound::Overflow => TimeFound::Overflow,
     }
 }
 
-// after | from | before | ago behind a duration of t lexemes, whose parts are the last of `parts`
-fn with_duration(l: &[u64], t: usize, parts: Parts, r: Reading) -> TurnFound
-    requires { ⌜ (t ≤ length (now l)) × (length (now l) ≤ 64) × (r .m < 21) ⌝ }
-    ensures { λ x. ⌜ x ≡ durationTurn (now (l .entry)) t parts r ⌝ }
+// after | from | before | ago behind a duration of t lexemes, whichever that is
+fn with_duration(l: &[u64], t: usize) -> Turn
+    ensures { λ r. ⌜ ((dur : Duration) → r ≡ turnAnswer (now (l .entry)) (withDurationOf dur t (now (l .entry)))) ⌝ }
 {
     if is_at(l, t, AFTER) {
-        return TurnFound {
-            turn: Turn::Link(t + 1),
-            reading: with_link(r, false, parts),
-        };
+        return Turn::Link(t + 1);
     }
     if is_at(l, t, FROM) {
-        return TurnFound {
-            turn: Turn::Link(t + 1),
-            reading: with_link(r, false, parts),
-        };
+        return Turn::Link(t + 1);
     }
     if is_at(l, t, BEFORE) {
-        return TurnFound {
-            turn: Turn::Link(t + 1),
-            reading: with_link(r, true, parts),
-        };
+        return Turn::Link(t + 1);
     }
     if is_at(l, t, AGO) {
-        let back = with_link(r, true, parts);
-        return TurnFound {
-            turn: Turn::Whole(t + 1),
-            reading: with_base(back, Base::Now, Time::Empty, parts),
-        };
+        return Turn::Ago(t + 1);
     }
-    TurnFound {
-        turn: Turn::Nothing,
-        reading: r,
-    }
+    Turn::Nothing
 }
 
-// [, | on] [<date_expr>] behind a time of t lexemes
-fn with_time(l: &[u64], time: Time, t: usize, r: Reading) -> TurnFound
-    requires { ⌜ (t ≤ length (now l)) × (1 ≤ t) × Room r (length (now l)) ⌝ }
-    ensures { λ x. ⌜ x ≡ turnAnswer r (withTimeOf time t (now (l .entry))) ⌝ }
-    ensures { λ x. ⌜ TurnCounted x (length (now (l .entry))) ⌝ }
+// Where no time is found: nothing, or the overflow.
+fn turn_stopped(a: TimeFound) -> Turn
+    ensures { λ r. ⌜ r ≡ turnAnswer [] (stopped (parsedTime a)) ⌝ }
 {
-    let s = t + take_comma_or(l, t, ON);
-    let parts = r.parts;
-    let e = read_expr(rest(l, s), parts);
-    let with = e.parts;
-    let taken = e.expr;
-    match taken {
-        ExprTaken::Is(expr, u) => TurnFound {
-            turn: Turn::Whole(s + u),
-            reading: with_base(r, Base::TimeDate(expr), time, with),
-        },
-        ExprTaken::Nothing => TurnFound {
-            turn: Turn::Whole(s),
-            reading: with_base(r, Base::TimeDate(Expr::Empty), time, parts),
-        },
-        ExprTaken::Overflow => TurnFound {
-            turn: Turn::Overflow,
-            reading: r,
-        },
-    }
+    let TimeFound::Overflow = a else {
+        return Turn::Nothing;
+    };
+    Turn::Overflow
 }
 
 // <time> [, | on] [<date_expr>]
-fn read_timed(l: &[u64], r: Reading) -> TurnFound
-    requires { ⌜ Room r (length (now l)) ⌝ }
-    ensures { λ x. ⌜ x ≡ turnAnswer r (timedTurnOf (now (l .entry))) ⌝ }
-    ensures { λ x. ⌜ TurnCounted x (length (now (l .entry))) ⌝ }
+fn read_timed(l: &[u64]) -> Turn
+    ensures { λ r. ⌜ r ≡ turnAnswer (now (l .entry)) (timedTurnOf (now (l .entry))) ⌝ }
 {
-    match read_time(l) {
-        TimeFound::Is(time, t) => with_time(l, time, t, r),
-        TimeFound::Nothing => TurnFound {
-            turn: Turn::Nothing,
-            reading: r,
-        },
-        TimeFound::Overflow => TurnFound {
-            turn: Turn::Overflow,
-            reading: r,
-        },
+    let a = read_time(l);
+    let TimeFound::Is(time, t) = a else {
+        return turn_stopped(a);
+    };
+    let s = t + take_comma_or(l, t, ON);
+    let e = read_expr(rest(l, s));
+    match e {
+        ExprTaken::Is(expr, u, own) => Turn::Whole(Base::TimeDate(expr), time, s + own, s + u),
+        ExprTaken::Nothing => Turn::Whole(Base::TimeDate(Expr::Empty), time, s, s),
+        ExprTaken::Overflow => Turn::Overflow,
     }
 }
 
 // A duration and its connection, or a bare time.
-fn read_undated(l: &[u64], r: Reading) -> TurnFound
-    requires { ⌜ Room r (length (now l)) ⌝ }
-    ensures { λ x. ⌜ x ≡ turnAnswer r (undatedTurnOf (now (l .entry))) ⌝ }
-    ensures { λ x. ⌜ TurnCounted x (length (now (l .entry))) ⌝ }
+fn read_undated(l: &[u64]) -> Turn
+    ensures { λ r. ⌜ r ≡ turnAnswer (now (l .entry)) (undatedTurnOf (now (l .entry))) ⌝ }
 {
-    let parts = r.parts;
-    let d = read_duration(l, parts);
-    let with = d.parts;
-    let taken = d.taken;
+    let taken = read_duration(l);
     match taken {
         Taken::Is {
             taken: t,
             sub_daily: _,
-        } => with_duration(l, t, with, r),
-        Taken::Nothing => read_timed(l, r),
-        Taken::Overflow => TurnFound {
-            turn: Turn::Overflow,
-            reading: r,
-        },
+        } => with_duration(l, t),
+        Taken::Nothing => read_timed(l),
+        Taken::Overflow => Turn::Overflow,
     }
 }
 
 // One turn of DateTime::parse: now, a dated phrase, a duration, or a bare time last.
-fn read_turn(l: &[u64], r: Reading) -> TurnFound
-    requires { ⌜ Room r (length (now l)) ⌝ }
-    ensures { λ x. ⌜ x ≡ turnAnswer r (turnOf (now (l .entry))) ⌝ }
-    ensures { λ x. ⌜ TurnCounted x (length (now (l .entry))) ⌝ }
+fn read_turn(l: &[u64]) -> Turn
+    ensures { λ r. ⌜ r ≡ turnAnswer (now (l .entry)) (turnOf (now (l .entry))) ⌝ }
 {
-    let parts = r.parts;
     if is_at(l, 0, NOW) {
-        return TurnFound {
-            turn: Turn::Whole(1),
-            reading: with_base(r, Base::Now, Time::Empty, parts),
-        };
+        return Turn::Whole(Base::Now, Time::Empty, 0, 1);
     }
-    let e = read_expr(l, parts);
-    let with = e.parts;
-    let taken = e.expr;
-    match taken {
-        ExprTaken::Is(expr, t) => with_expr(l, expr, t, with, r),
-        ExprTaken::Nothing => read_undated(l, r),
-        ExprTaken::Overflow => TurnFound {
-            turn: Turn::Overflow,
-            reading: r,
-        },
+    let e = read_expr(l);
+    match e {
+        ExprTaken::Is(expr, t, own) => {
+            let a = time_behind(l, t);
+            let TimeFound::Is(time, n) = a else {
+                return turn_stopped(a);
+            };
+            Turn::Whole(Base::DateTime(expr), time, own, n)
+        }
+        ExprTaken::Nothing => read_undated(l),
+        ExprTaken::Overflow => Turn::Overflow,
     }
 }
 
-// What was read behind a link of t lexemes: with nothing there the reading stays as it was.
-fn behind_link(t: usize, x: ReadingFound, r: Reading) -> ReadingFound
-    requires { ⌜ (t ≤ 64) × ReadingCounted x 64 ⌝ }
-    ensures { λ y. ⌜ y ≡ linkedAnswer t x r ⌝ }
+// The outline of now: where nothing is kept of what was read.
+fn ended(taken: Count) -> Outline
+    ensures { λ r. ⌜ r ≡ outline taken 0 [] bare ⌝ }
 {
-    let inner = x.reading;
-    let taken = x.taken;
-    match taken {
-        Count::Is(u) => ReadingFound {
-            taken: Count::Is(t + u),
-            reading: inner,
-        },
-        Count::Nothing => ReadingFound {
-            taken: Count::Nothing,
-            reading: r,
-        },
-        Count::Overflow => ReadingFound {
-            taken: Count::Overflow,
-            reading: r,
-        },
+    Outline {
+        taken,
+        base: Base::Now,
+        time: Time::Empty,
+        own: 0,
+        m: 0,
     }
 }
 
-// DateTime::parse: what is read goes inside the links of `r`, and behind a link a datetime is read again.
-pub fn read_date_time(l: &[u64], r: Reading) -> ReadingFound
-    requires { ⌜ Room r (length (now l)) ⌝ }
-    ensures { λ x. ⌜ x ≡ readingAnswer r (dateTimeOf (now (l .entry))) ⌝ }
-    ensures { λ x. ⌜ ReadingCounted x (length (now (l .entry))) ⌝ }
+// DateTime::parse, turn after turn: behind a link a datetime is read again.
+fn read_date_time(l: &[u64]) -> Outline
+    ensures { λ r. ⌜ r ≡ outlineAnswer (now (l .entry)) (dateTimeOf (now (l .entry))) ⌝ }
 {
-    let x = read_turn(l, r);
-    let inner = x.reading;
-    let turn = x.turn;
-    match turn {
-        Turn::Whole(t) => ReadingFound {
-            taken: Count::Is(t),
-            reading: inner,
-        },
-        Turn::Link(t) => behind_link(t, read_date_time(rest(l, t), inner), r),
-        Turn::Nothing => ReadingFound {
-            taken: Count::Nothing,
-            reading: r,
-        },
-        Turn::Overflow => ReadingFound {
-            taken: Count::Overflow,
-            reading: r,
-        },
+    let mut at: usize = 0;
+    let mut m: usize = 0;
+    loop {
+        let turn = read_turn(rest(l, at));
+        match turn {
+            Turn::Whole(base, time, own, t) => {
+                return Outline {
+                    taken: Count::Is(at + t),
+                    base,
+                    time,
+                    own,
+                    m,
+                };
+            }
+            Turn::Ago(t) => {
+                return Outline {
+                    taken: Count::Is(at + t),
+                    base: Base::Now,
+                    time: Time::Empty,
+                    own: 0,
+                    m: m + 1,
+                };
+            }
+            Turn::Link(t) => {
+                at += t;
+                m += 1;
+            }
+            Turn::Nothing => {
+                return ended(Count::Nothing);
+            }
+            Turn::Overflow => {
+                return ended(Count::Overflow);
+            }
+        }
     }
+}
+
+// The same, kept only where at least n lexemes are taken.
+pub(crate) fn read_outline(l: &[u64], n: usize) -> Outline
+    ensures { λ r. ⌜ r ≡ outlineAnswer (now (l .entry)) (kept n (dateTimeOf (now (l .entry)))) ⌝ }
+{
+    let o = read_date_time(l);
+    let taken = o.taken;
+    let Count::Is(t) = taken else {
+        return o;
+    };
+    if t < n {
+        return ended(taken);
+    }
+    o
 }

@@ -1,17 +1,17 @@
 // A phrase of bytes read whole, or refused.
 use super::date_time::Count;
-use super::date_time::read_date_time;
+use super::gather::gather;
 use super::reading::Reading;
-use super::reading::empty;
-use super::refusal::LEXEMES_LEFT;
-use super::refusal::NOTHING_READ;
-use super::refusal::SUM_TOO_LARGE;
+use lexer::lex::Ended;
 use lexer::lex::lex;
 use lexer::part::part;
+use refusals::LARGE_SUM;
+use refusals::LEFT_OVER;
+use refusals::NOTHING;
 ghost use mathlib.Core.Path.{_≡_};
-ghost use Prim.Native.Nat.{_+_};
+ghost use Prim.Native.Nat.{_+_, _≤_};
 ghost use Rattle.lexer.specs.Keywords.{keywords};
-ghost use Rattle.phrase.specs.Read.{refusedWith, readOf, phraseAnswer, placeOf, offendingOf};
+ghost use Rattle.phrase.specs.Read.{refusedEnd, judgedOf, readOf, phraseAnswer, placeOf, offendingOf};
 
 // Number 0: the lexemes taken and the reading. Else a refusal of 1 to 7, with its place and the end of its part.
 pub struct PhraseRead {
@@ -22,51 +22,69 @@ pub struct PhraseRead {
     pub taken: usize,
 }
 
-// A refusal, with the reading that stands for none.
-fn refuse(number: u8, place: usize, end: usize, none: Reading) -> PhraseRead
-    ensures { λ r. ⌜ r ≡ refusedWith number place end none ⌝ }
+// A refusal.
+fn refuse(number: u8, place: usize, end: usize) -> Ended
+    ensures { λ r. ⌜ r ≡ refusedEnd number place end ⌝ }
 {
-    PhraseRead {
+    Ended {
         number,
         place,
         end,
-        taken: 0,
-        reading: none,
+        count: 0,
+    }
+}
+
+// A byte as a place.
+fn wide(x: u8) -> usize
+    ensures { λ r. ⌜ r ≡ x ⌝ }
+{
+    x as usize
+}
+
+// How the reading of a phrase of n bytes ended: as lexing did, where that refused; else by how the reading of the lexemes did.
+fn judged(line: Ended, taken: Count, starts: &[u8; 64], n: usize) -> Ended
+    requires { ⌜ line .count ≤ 64 ⌝ }
+    ensures { λ r. ⌜ r ≡ judgedOf line taken (now (starts .entry)) n ⌝ }
+{
+    if line.number != 0 {
+        return line;
+    }
+    match taken {
+        Count::Is(t) => {
+            if t < line.count {
+                return refuse(LEFT_OVER, wide(starts[t]), n);
+            }
+            Ended {
+                number: 0,
+                place: 0,
+                end: 0,
+                count: t,
+            }
+        }
+        Count::Nothing => refuse(NOTHING, 0, 0),
+        Count::Overflow => refuse(LARGE_SUM, 0, 0),
     }
 }
 
 // A phrase read: a reading, or a refusal of 1 to 7 in their order. What is left behind the reading is refusal 7, from its first byte to
-// the end of the phrase.
+// the end of the phrase. Where lexing refuses there are no lexemes, so that one reading is made for every answer.
 pub fn read(phrase: &[u8]) -> PhraseRead
     ensures { λ r. ⌜ r ≡ phraseAnswer (readOf keywords (now (phrase .entry))) ⌝ }
 {
-    // One for every answer: a second one would be copied field by field.
-    let none = empty();
-    let line = lex(phrase);
-    if line.number != 0 {
-        return refuse(line.number, line.place, line.end, none);
-    }
+    let mut codes = [0u64; 64];
+    let mut starts = [0u8; 64];
+    let line = lex(phrase, &mut codes, &mut starts);
     let n = line.count;
-    let codes = line.codes;
-    let x = read_date_time(&codes[..n], none);
+    let x = gather(&codes[..n], n);
     let taken = x.taken;
-    match taken {
-        Count::Is(t) => {
-            if t < n {
-                let starts = line.starts;
-                return refuse(LEXEMES_LEFT, starts[t] as usize, phrase.len(), none);
-            }
-            let reading = x.reading;
-            PhraseRead {
-                number: 0,
-                place: 0,
-                end: 0,
-                taken: t,
-                reading,
-            }
-        }
-        Count::Nothing => refuse(NOTHING_READ, 0, 0, none),
-        Count::Overflow => refuse(SUM_TOO_LARGE, 0, 0, none),
+    let reading = x.reading;
+    let end = judged(line, taken, &starts, phrase.len());
+    PhraseRead {
+        reading,
+        number: end.number,
+        place: end.place,
+        end: end.end,
+        taken: end.count,
     }
 }
 

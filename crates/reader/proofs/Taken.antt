@@ -7,7 +7,7 @@ use lib.Dec.{leb}
 use lib.ListN.{length}
 use denote.Ref.{RefT, now}
 use Rattle.lexer.specs.Keywords.{keywords}
-use Rattle.lexer.specs.Refusals.{TooLong}
+use Rattle.refusals.specs.Table as refusal
 use Rattle.lexer.specs.Lex.{Lexed, refused, item, ahead, ifTaken, lexFrom, lexed}
 use Rattle.lexer.specs.declared.lex.Token.{Token}
 use Rattle.lexer.specs.declared.lex.Token.the-variants.{Finish, Taken, Refused}
@@ -31,6 +31,6 @@ taken-from (suc room) r =
 
 -- tokens taken one after the other from a new reader until the end, with room for 64 lexemes, behind the test for 256 bytes: exactly lexing's lexemes
 -- and their places, or its refusal
-pub lexed-is : (s : RefT (List ℕ)) → lexed keywords (now s) ≡ cond (leb (length (now s)) 256) (taken 64 (newOf s)) (refused TooLong 0 0)
+pub lexed-is : (s : RefT (List ℕ)) → lexed keywords (now s) ≡ cond (leb (length (now s)) 256) (taken 64 (newOf s)) (refused refusal.TooLong 0 0)
 unfolding lexed
-lexed-is s = ap (λ (x : Lexed). cond (leb (length (now s)) 256) x (refused TooLong 0 0)) (sym (taken-from 64 (newOf s)))
+lexed-is s = ap (λ (x : Lexed). cond (leb (length (now s)) 256) x (refused refusal.TooLong 0 0)) (sym (taken-from 64 (newOf s)))

@@ -1,31 +1,53 @@
 -- What is gathered of a phrase, token by token. Assumes nothing.
 use Prim.Native.Nat.{ℕ, _+_}
 use mathlib.Core.Bool.{true, false, cond}
-use mathlib.Core.List.{[]}
+use mathlib.Core.List.{List, []}
 use lib.Dec.{leb}
-use lib.ListN.{set}
-use Rattle.lexer.specs.Refusals.{TooMany}
-use Rattle.lexer.specs.Lex.{whole, lineOf, refusedLine}
-use Rattle.lexer.specs.declared.lex.Line.{Line}
+use lib.ListN.{length, set, replicate}
+use lib.Seq.{sets}
+use Rattle.refusals.specs.Table as refusal
+use Rattle.lexer.specs.Lex.{Item, Lexed, refused, whole, codesOf, startsOf, endedOf}
+use Rattle.lexer.specs.declared.lex.Ended.{Ended}
 use Rattle.lexer.specs.declared.lex.Token.{Token}
 use Rattle.lexer.specs.declared.lex.Token.the-variants.{Finish, Taken, Refused}
 use Rattle.reader.specs.declared.gather.Gathered.{Gathered}
 
+-- the lexemes so far, and more to read
+abbrev pub soFar : List Item → Gathered
+soFar l =
+    record {
+      going = true;
+      ended = endedOf (whole []);
+      count = length l;
+      codes = sets (replicate 64 0) 0 (codesOf l);
+      starts = sets (replicate 64 0) 0 (startsOf l);
+    }
+
 -- no lexeme yet
 abbrev pub nothing : Gathered
-nothing = record { going = true; line = lineOf (whole []) }
+nothing = soFar []
 
--- the reading is over, with this answer
-abbrev pub over : Line → Gathered
-over l = record { going = false; line = l }
+-- the reading is over, and ended so
+abbrev pub over : Gathered → Ended → Gathered
+over g e = record { going = false; ended = e; count = g .count; codes = g .codes; starts = g .starts }
 
 -- one lexeme more
-abbrev pub longer : Line → ℕ → ℕ → Line
-longer l k a =
-    record { number = 0; place = 0; end = 0; count = l .count + 1; codes = set (l .codes) (l .count) k; starts = set (l .starts) (l .count) a }
+abbrev pub longer : Gathered → ℕ → ℕ → Gathered
+longer g k a =
+    record {
+      going = true;
+      ended = g .ended;
+      count = g .count + 1;
+      codes = set (g .codes) (g .count) k;
+      starts = set (g .starts) (g .count) a;
+    }
 
 -- one token more: the end, a refusal and "a 65th lexeme" end the reading
 abbrev pub joinedTo : Gathered → Token → Gathered
-joinedTo g Finish = over (g .line)
-joinedTo g (Refused n a e) = over (refusedLine n a e)
-joinedTo g (Taken k a e) = cond (leb 64 (g .line .count)) (over (refusedLine TooMany a e)) (record { going = true; line = longer (g .line) k a })
+joinedTo g Finish = over g (record { number = 0; place = 0; end = 0; count = g .count })
+joinedTo g (Refused n a e) = over g (endedOf (refused n a e))
+joinedTo g (Taken k a e) = cond (leb 64 (g .count)) (over g (endedOf (refused refusal.TooMany a e))) (longer g k a)
+
+-- all that is gathered: how the reading ends, and the lexemes in front
+abbrev pub gatheredOf : Lexed → List Item → Gathered
+gatheredOf w l = over (soFar l) (endedOf w)

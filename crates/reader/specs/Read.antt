@@ -4,7 +4,7 @@ use mathlib.Core.List.{List, [], _∷_}
 use lib.ListN.{length}
 use denote.Ref.{RefT, now}
 use Rattle.lexer.specs.Keywords.{keywords}
-use Rattle.lexer.specs.Refusals.{TooMany}
+use Rattle.refusals.specs.Table as refusal
 use Rattle.lexer.specs.Lex.{tokenAt, Lexed, refused, item, ahead, ifTaken}
 use Rattle.lexer.specs.declared.lex.Token.{Token}
 use Rattle.lexer.specs.declared.lex.Token.the-variants.{Finish, Taken, Refused}
@@ -34,5 +34,5 @@ restStart r = min (r .at) (length (now (r .phrase)))
 
 -- tokens taken one after the other until the end, with room for so many lexemes: "a word or number is judged before it is counted"
 abbrev pub taken : ℕ → Lexer → Lexed
-taken zero r = ifTaken (nextOf r) (λ k a e. refused TooMany a e)
+taken zero r = ifTaken (nextOf r) (λ k a e. refused refusal.TooMany a e)
 taken (suc room) r = ifTaken (nextOf r) (λ k a e. ahead (item k a ∷ []) (taken room (behindOf r (nextOf r))))

@@ -1,63 +1,80 @@
 // What is gathered of a phrase, token by token.
-use lexer::lex::Line;
+use lexer::lex::Ended;
 use lexer::lex::Token;
 use lexer::lex::refuse;
-use lexer::refusal::TOO_MANY;
+use refusals::TOO_MANY;
 ghost use mathlib.Core.Path.{_≡_};
-ghost use Rattle.reader.specs.Gather.{nothing, joinedTo};
+ghost use Rattle.reader.specs.Gather.{nothing, over, joinedTo};
 
-// The line so far, and whether there is more to read.
+// Whether there is more to read, and how the reading ended if there is not; and count lexemes, their codes and the places of their first
+// bytes, the rest of both arrays zeros.
 pub struct Gathered {
     pub going: bool,
-    pub line: Line,
+    pub ended: Ended,
+    pub count: usize,
+    pub codes: [u64; 64],
+    pub starts: [u64; 64],
 }
 
-// Nothing is read yet: number 0 and no lexemes.
-pub fn begun() -> Gathered
+// Nothing is read yet.
+pub(crate) fn begun() -> Gathered
     ensures { λ r. ⌜ r ≡ nothing ⌝ }
 {
     Gathered {
         going: true,
-        line: refuse(0, 0, 0),
+        ended: refuse(0, 0, 0),
+        count: 0,
+        codes: [0; 64],
+        starts: [0; 64],
+    }
+}
+
+// The reading is over, and ended so.
+fn stopped(g: Gathered, ended: Ended) -> Gathered
+    ensures { λ r. ⌜ r ≡ over g ended ⌝ }
+{
+    let codes = g.codes;
+    let starts = g.starts;
+    Gathered {
+        going: false,
+        ended,
+        count: g.count,
+        codes,
+        starts,
     }
 }
 
 // One token more: the end and a refusal end the reading, and so does a lexeme for which there is no room.
-pub fn joined(g: Gathered, t: Token) -> Gathered
+pub(crate) fn joined(g: Gathered, t: Token) -> Gathered
     ensures { λ r. ⌜ r ≡ joinedTo g t ⌝ }
 {
-    let l = g.line;
+    let n = g.count;
     match t {
-        Token::Finish => Gathered {
-            going: false,
-            line: l,
-        },
-        Token::Refused { number, start, end } => Gathered {
-            going: false,
-            line: refuse(number, start, end),
-        },
+        Token::Finish => stopped(
+            g,
+            Ended {
+                number: 0,
+                place: 0,
+                end: 0,
+                count: n,
+            },
+        ),
+        Token::Refused { number, start, end } => stopped(g, refuse(number, start, end)),
         Token::Taken { code, start, end } => {
-            let n = l.count;
             if 64 <= n {
-                return Gathered {
-                    going: false,
-                    line: refuse(TOO_MANY, start, end),
-                };
+                return stopped(g, refuse(TOO_MANY, start, end));
             }
-            let mut codes = l.codes;
-            let mut starts = l.starts;
+            let ended = g.ended;
+            let mut codes = g.codes;
+            let mut starts = g.starts;
             codes[n] = code;
             starts[n] = start as u64;
             Gathered {
                 going: true,
-                line: Line {
-                    number: 0,
-                    place: 0,
-                    end: 0,
-                    count: n + 1,
-                    codes,
-                    starts,
-                },
+                ended,
+                count: n + 1,
+                codes,
+                starts,
             }
         }
     }

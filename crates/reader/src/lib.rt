@@ -1,18 +1,21 @@
 // A reader that holds the phrase and its place: a thin layer over the lexer's functions on a slice and a number, and lexing by it.
+use gather::Gathered;
 use gather::begun;
 use gather::joined;
-use lexer::lex::Line;
+use lexer::lex::Ended;
 use lexer::lex::Token;
 use lexer::lex::refuse;
 use lexer::lex::token_at;
-use lexer::refusal::TOO_LONG;
 use place::place_behind;
 use place::rest_from;
+use refusals::TOO_LONG;
 ghost use mathlib.Core.Path.{_≡_};
 ghost use Prim.Native.Nat.{_+_};
 ghost use lib.ListN.{length, drop};
+ghost use lib.Seq.{sets};
 ghost use Rattle.lexer.specs.Keywords.{keywords};
-ghost use Rattle.lexer.specs.Lex.{lexed, lineOf, Placed};
+ghost use Rattle.lexer.specs.Lex.{lexed, frontFrom, front, codesOf, startsOf, endedOf, Placed};
+ghost use Rattle.reader.specs.Gather.{gatheredOf};
 ghost use Rattle.reader.specs.Read.{newOf, nextOf, behindOf, restStart, taken};
 
 mod gather;
@@ -66,9 +69,9 @@ impl<'a> Lexer<'a> {
     }
 }
 
-// The lexemes of a phrase of any length, taken one after the other from a new reader, or the first refusal.
-fn read(phrase: &[u8]) -> Line
-    ensures { λ r. ⌜ r ≡ lineOf (taken 64 (newOf (phrase .entry))) ⌝ }
+// The lexemes of a phrase of any length, taken one after the other from a new reader until the end or the first refusal.
+fn read(phrase: &[u8]) -> Gathered
+    ensures { λ r. ⌜ r ≡ gatheredOf (taken 64 (newOf (phrase .entry))) (frontFrom keywords 64 (now (phrase .entry)) 0) ⌝ }
 {
     let mut r = Lexer::new(phrase);
     let mut g = begun();
@@ -77,16 +80,28 @@ fn read(phrase: &[u8]) -> Line
         g = joined(g, t);
         r = r.behind(t);
     }
-    g.line
+    g
 }
 
-// A phrase's lexemes, left to right, or the first refusal, by a reader: what `lex` of the lexer answers.
-pub fn lex(phrase: &[u8]) -> Line
-    ensures { λ r. ⌜ r ≡ lineOf (lexed keywords (now (phrase .entry))) ⌝ }
+// A phrase's lexemes, left to right, up to the end or the first refusal, by a reader: what `lex` of the lexer answers and stores.
+pub fn lex(phrase: &[u8], codes: &mut [u64; 64], starts: &mut [u8; 64]) -> Ended
+    ensures { λ r. ⌜ r ≡ endedOf (lexed keywords (now (phrase .entry))) ⌝ }
+    ensures codes { λ r. ⌜ now (codes .exit) ≡ sets (now (codes .entry)) 0 (codesOf (front keywords (now (phrase .entry)))) ⌝ }
+    ensures starts { λ r. ⌜ now (starts .exit) ≡ sets (now (starts .entry)) 0 (startsOf (front keywords (now (phrase .entry)))) ⌝ }
     ensures bounds { λ r. ⌜ Placed (length (now (phrase .entry))) r ⌝ }
 {
     if 256 < phrase.len() {
         return refuse(TOO_LONG, 0, 0);
     }
-    read(phrase)
+    let g = read(phrase);
+    let n = g.count;
+    let read_codes = g.codes;
+    let read_starts = g.starts;
+    let mut i: usize = 0;
+    while i < n {
+        codes[i] = read_codes[i];
+        starts[i] = read_starts[i] as u8;
+        i += 1;
+    }
+    g.ended
 }

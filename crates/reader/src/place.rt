@@ -7,7 +7,7 @@ ghost use lib.ListN.{length, drop};
 ghost use Rattle.reader.specs.Read.{placeBehind};
 
 // The place behind a token; past the end of the phrase there is none, and the place stays.
-pub fn place_behind(at: usize, t: Token) -> usize
+pub(crate) fn place_behind(at: usize, t: Token) -> usize
     ensures { λ r. ⌜ r ≡ placeBehind at t ⌝ }
 {
     match t {
@@ -18,7 +18,7 @@ pub fn place_behind(at: usize, t: Token) -> usize
 }
 
 // What stands from a place on, where it stands in the phrase; past the last byte nothing does.
-pub fn rest_from(s: &[u8], at: usize) -> &[u8]
+pub(crate) fn rest_from(s: &[u8], at: usize) -> &[u8]
     ensures { λ r. ⌜ now r ≡ drop at (now (s .entry)) ⌝ }
     ensures own { λ r. ⌜ r .ptr ≡ ((s .entry) .ptr .0, min at (length (now (s .entry))) + (s .entry) .ptr .1) ⌝ }
 {

@@ -8,8 +8,9 @@ use Rattle.dates.specs.declared.time.Time.{Time}
 use Rattle.numbers.specs.Slices.{oneIf}
 use Rattle.steps.specs.Joining.{joinOf, joined, addStep}
 use Rattle.steps.specs.Running.{isStart, isTimeStep, timesDue, starts, times, isFormed}
+use Rattle.steps.specs.declared.plan.Start.the-variants.{Senseless}
 use Rattle.steps.specs.declared.plan.Step.{Step}
-use Rattle.steps.specs.declared.plan.Step.the-variants.{Senseless, AtTime}
+use Rattle.steps.specs.declared.plan.Step.the-variants.{From, AtTime}
 use Rattle.steps.proofs.Joined.{Meeting, refusal, apart, lengths, meeting, starts-add, times-add}
 
 -- a step that is neither a start nor a time step
@@ -26,7 +27,7 @@ pub record Dated (x : Step) (ss : List Step) : Type 0 where
 
 -- or a refusal alone
 pub data Open : List Step → Type 0 where
-  senseless : Open (Senseless ∷ [])
+  senseless : Open (From Senseless ∷ [])
   dated : {x : Step} {ss : List Step} → Dated x ss → Open (x ∷ ss)
 
 -- what cannot be

@@ -1,7 +1,9 @@
 pub mod Runs
 pub mod Forms
 pub mod Made
+pub mod Small
 pub mod Answers
+pub mod Settles
 pub mod Rows
 pub mod Within
 pub mod Links

@@ -8,13 +8,10 @@ use lib.ListN.{length}
 use Rattle.dates.specs.Durations.{Duration, part, concat, size, isSubDailyUnit}
 use Rattle.dates.specs.declared.date.Date.{Date}
 use Rattle.dates.specs.declared.date.Date.the-variants.{Today}
-use Rattle.dates.specs.declared.duration.Part.{Part}
-use Rattle.dates.specs.declared.duration.Part.the-variants.{Article, Specific}
 use Rattle.dates.specs.declared.time.Time.{Time}
 use Rattle.dates.specs.declared.units.RelativeSpecifier.{RelativeSpecifier}
 use Rattle.dates.specs.declared.units.RelativeSpecifier.the-variants.{This, Next, Last}
 use Rattle.dates.specs.declared.units.Unit.{Unit}
-use Rattle.dates.specs.declared.units.Unit.the-variants.{Day, Week, Hour, Minute, Month, Year}
 use Rattle.expressions.specs.Shapes.{sizeExpr}
 use Rattle.expressions.specs.Tree.{DateExpr, date, dateRelative, dateExpressionAfter, dateExpressionBefore, unitRelative}
 use Rattle.expressions.specs.Tree.{relativeWeekday, weekdayRelative, weekdayExpressionBefore, before, after, weekday, empty}
@@ -22,14 +19,18 @@ use Rattle.phrase.specs.Flat.{sizeTree}
 use Rattle.phrase.specs.Tree.{DateTime, dateTime, timeDate, durationAfter, durationBefore, now}
 use Rattle.evaluation.specs.Evaluate.{isYear, isWeek, isMonthAndDay}
 use Rattle.steps.specs.Joining.{addStep, allApart}
-use Rattle.steps.specs.Plans.{planOf, blankPlan, pushed, addTo}
-use Rattle.steps.specs.Running.{isStart, timesDue, isFormed}
+use Rattle.steps.specs.Plans.{planOf, begun, addTo}
+use Rattle.steps.specs.Running.{timesFrom, isFormed}
 use Rattle.steps.specs.declared.plan.Plan.{Plan}
+use Rattle.steps.specs.declared.plan.Start.{Start}
+use Rattle.steps.specs.declared.plan.Start.the-variants.{Now, Senseless, OnDate, InWeek, FromToday}
+use Rattle.steps.specs.declared.plan.Move.{Move}
+use Rattle.steps.specs.declared.plan.Move.the-variants.{Years, BackTo}
 use Rattle.steps.specs.declared.plan.Step.{Step}
-use Rattle.steps.specs.declared.plan.Step.the-variants.{Now, Senseless, OnDate, InWeek, FromToday, Years, BackTo, AtTime}
+use Rattle.steps.specs.declared.plan.Step.the-variants.{From, By, AtTime}
 use Rattle.steps.proofs.Joined.{length-add, apart-add}
 use Rattle.steps.proofs.Planned.{added}
-use Rattle.ready.specs.Made.{lengthStep, stepOfPart, addDuration, addYear, addUnit, exprSteps, treeSteps, listed, held, stepsOf}
+use Rattle.ready.specs.Made.{lengthMove, moveOfPart, addDuration, addYear, addUnit, exprSteps, treeSteps, listed, held, stepsOf}
 use Rattle.ready.proofs.Forms.{Plain, Open, senseless, dated, open-add, open-time, formed-add}
 
 -- at most k steps of form F, with neighbours apart, and p holds them
@@ -68,22 +69,13 @@ wider h le =
     record { some = h .some; most = omega (arith, h .most); apart = h .apart; form = h .form; holds = λ few. h .holds (omega arith) }
 
 -- a start alone
-single : {F : List Step → Type 0} (s : Step) → F (s ∷ []) → Kept F 1 (pushed blankPlan s) (s ∷ [])
+single : {F : List Step → Type 0} (s : Start) → F (From s ∷ []) → Kept F 1 (begun s) (From s ∷ [])
 unfolding planOf
 single s form = record { some = omega arith; most = omega arith; apart = refl; form = form; holds = λ few. refl }
 
--- the steps of parts are neither starts nor time steps
-length-plain : (back : Bool) (k : ℕ) (u : Unit) → Plain (lengthStep back k u)
-length-plain back k Day = record { no-start = refl; no-time = refl }
-length-plain back k Week = record { no-start = refl; no-time = refl }
-length-plain back k Hour = record { no-start = refl; no-time = refl }
-length-plain back k Minute = record { no-start = refl; no-time = refl }
-length-plain back k Month = record { no-start = refl; no-time = refl }
-length-plain back k Year = record { no-start = refl; no-time = refl }
-
-part-plain : (back : Bool) (p : Part) → Plain (stepOfPart back p)
-part-plain back (Article u) = length-plain back 1 u
-part-plain back (Specific k u) = length-plain back k u
+-- a move is neither a start nor a time step
+move-plain : (m : Move) → Plain (By m)
+move-plain m = record { no-start = refl; no-time = refl }
 
 -- a duration more, for a form that plain steps keep
 module _ {F : List Step → Type 0} (keeps : (ss : List Step) (s : Step) → Plain s → F ss → F (addStep ss s)) where
@@ -91,41 +83,43 @@ module _ {F : List Step → Type 0} (keeps : (ss : List Step) (s : Step) → Pla
       {k : ℕ} (p : Plan) (ss : List Step) (back : Bool) (d : Duration) → Kept F k p ss →
       Kept F (k + size d) (addDuration held back p d) (addDuration listed back ss d)
   kept-duration p ss back (part x) h =
-      wider (kept-add {G = F} h (stepOfPart back x) (keeps ss (stepOfPart back x) (part-plain back x) (h .form))) (omega arith)
+      let m = moveOfPart back x in
+      wider (kept-add {G = F} h (By m) (keeps ss (By m) (move-plain m) (h .form))) (omega arith)
   kept-duration p ss back (concat x d) h =
-      let s = stepOfPart back x in
-      wider (kept-duration (addTo p s) (addStep ss s) back d (kept-add {G = F} h s (keeps ss s (part-plain back x) (h .form)))) (omega arith)
+      let m = moveOfPart back x in
+      wider (kept-duration (addTo p (By m)) (addStep ss (By m)) back d (kept-add {G = F} h (By m) (keeps ss (By m) (move-plain m) (h .form))))
+      (omega arith)
 
 -- a dated start
-start-open : (s : Step) → isStart s ≡ true → timesDue s ≡ 1 → Kept Open 1 (pushed blankPlan s) (s ∷ [])
-start-open s start due = single s (dated {x = s} {ss = []} (record { start = start; due = due; no-starts = refl; no-times = refl }))
+start-open : (s : Start) → timesFrom s ≡ 1 → Kept Open 1 (begun s) (From s ∷ [])
+start-open s due = single s (dated {x = From s} {ss = []} (record { start = refl; due = due; no-starts = refl; no-times = refl }))
 
 open-keeps : (ss : List Step) (s : Step) → Plain s → Open ss → Open (addStep ss s)
 open-keeps ss s p h = open-add h s p
 
--- one plain step more
-open-more : {k : ℕ} {p : Plan} {ss : List Step} → Kept Open k p ss → (s : Step) → Plain s → Kept Open (suc k) (addTo p s) (addStep ss s)
-open-more h s plain = kept-add {G = Open} h s (open-add (h .form) s plain)
+-- one move more
+open-more : {k : ℕ} {p : Plan} {ss : List Step} → Kept Open k p ss → (m : Move) → Kept Open (suc k) (addTo p (By m)) (addStep ss (By m))
+open-more h m = kept-add {G = Open} h (By m) (open-add (h .form) (By m) (move-plain m))
 
 -- a date rule, and a duration from it
 date-open :
     (d : Date) (back : Bool) (dur : Duration) →
-    Kept Open (1 + size dur) (addDuration held back (pushed blankPlan (OnDate d)) dur) (addDuration listed back (OnDate d ∷ []) dur)
-date-open d back dur = kept-duration open-keeps (pushed blankPlan (OnDate d)) (OnDate d ∷ []) back dur (start-open (OnDate d) refl refl)
+    Kept Open (1 + size dur) (addDuration held back (begun (OnDate d)) dur) (addDuration listed back (From (OnDate d) ∷ []) dur)
+date-open d back dur = kept-duration open-keeps (begun (OnDate d)) (From (OnDate d) ∷ []) back dur (start-open (OnDate d) refl)
 
 -- a refusal
-none-open : Kept Open 2 (pushed blankPlan Senseless) (Senseless ∷ [])
+none-open : Kept Open 2 (begun Senseless) (From Senseless ∷ [])
 none-open = wider (single Senseless senseless) (omega arith)
 
-year-open : (s : RelativeSpecifier) (d : Date) → Kept Open 2 (addYear held s (pushed blankPlan (OnDate d))) (addYear listed s (OnDate d ∷ []))
-year-open This d = wider (start-open (OnDate d) refl refl) (omega arith)
-year-open Next d = open-more (start-open (OnDate d) refl refl) (Years false 1) (record { no-start = refl; no-time = refl })
-year-open Last d = open-more (start-open (OnDate d) refl refl) (Years true 1) (record { no-start = refl; no-time = refl })
+year-open : (s : RelativeSpecifier) (d : Date) → Kept Open 2 (addYear held s (begun (OnDate d))) (addYear listed s (From (OnDate d) ∷ []))
+year-open This d = wider (start-open (OnDate d) refl) (omega arith)
+year-open Next d = open-more (start-open (OnDate d) refl) (Years false 1)
+year-open Last d = open-more (start-open (OnDate d) refl) (Years true 1)
 
 unit-open : (s : RelativeSpecifier) (u : Unit) → Kept Open 2 (addUnit held s u) (addUnit listed s u)
 unit-open This u = none-open
-unit-open Next u = open-more (start-open (OnDate Today) refl refl) (lengthStep false 1 u) (length-plain false 1 u)
-unit-open Last u = open-more (start-open (OnDate Today) refl refl) (lengthStep true 1 u) (length-plain true 1 u)
+unit-open Next u = open-more (start-open (OnDate Today) refl) (lengthMove false 1 u)
+unit-open Last u = open-more (start-open (OnDate Today) refl) (lengthMove true 1 u)
 
 -- of two by a test
 by-test :
@@ -136,19 +130,19 @@ by-test false p q ss us g h = h
 -- the steps of a date expression
 expr-kept : (e : DateExpr) → Kept Open (2 + sizeExpr e) (exprSteps held e) (exprSteps listed e)
 unfolding exprSteps
-expr-kept (date d) = wider (start-open (OnDate d) refl refl) (omega arith)
+expr-kept (date d) = wider (start-open (OnDate d) refl) (omega arith)
 expr-kept (dateRelative d s u) = by-test (isYear u && isMonthAndDay d) _ _ _ _ (year-open s d) none-open
 expr-kept (weekdayExpressionBefore w dur) =
-    wider (open-more (date-open Today true dur) (BackTo w) (record { no-start = refl; no-time = refl })) (omega arith)
+    wider (open-more (date-open Today true dur) (BackTo w)) (omega arith)
 expr-kept (dateExpressionAfter d dur) = wider (date-open d false dur) (omega arith)
 expr-kept (dateExpressionBefore d dur) = wider (date-open d true dur) (omega arith)
 expr-kept (before dur d) = wider (date-open d true dur) (omega arith)
 expr-kept (after dur d) = wider (date-open d false dur) (omega arith)
 expr-kept (unitRelative s u) = by-test (isSubDailyUnit u) _ _ _ _ none-open (unit-open s u)
-expr-kept (relativeWeekday s w) = wider (start-open (InWeek s w) refl refl) (omega arith)
-expr-kept (weekdayRelative w s u) = by-test (isWeek u) _ _ _ _ (wider (start-open (InWeek s w) refl refl) (omega arith)) none-open
-expr-kept (weekday w) = wider (start-open (FromToday w) refl refl) (omega arith)
-expr-kept empty = wider (start-open (OnDate Today) refl refl) (omega arith)
+expr-kept (relativeWeekday s w) = wider (start-open (InWeek s w) refl) (omega arith)
+expr-kept (weekdayRelative w s u) = by-test (isWeek u) _ _ _ _ (wider (start-open (InWeek s w) refl) (omega arith)) none-open
+expr-kept (weekday w) = wider (start-open (FromToday w) refl) (omega arith)
+expr-kept empty = wider (start-open (OnDate Today) refl) (omega arith)
 
 -- with its time of day
 dated-kept : (e : DateExpr) (t : Time) → Kept Formed (3 + sizeExpr e) (addTo (exprSteps held e) (AtTime t)) (addStep (exprSteps listed e) (AtTime t))
@@ -163,15 +157,15 @@ tree-kept (timeDate t e) = dated-kept e t
 tree-kept (durationAfter dur x) = wider (kept-duration formed-add (treeSteps held x) (stepsOf x) false dur (tree-kept x)) (omega arith)
 tree-kept (durationBefore dur x) = wider (kept-duration formed-add (treeSteps held x) (stepsOf x) true dur (tree-kept x)) (omega arith)
 
--- "at most 24 calendar steps"
+-- at most 24 steps
 pub at-most-24 : (x : DateTime) → sizeTree x ≤ 21 → length (stepsOf x) ≤ 24
 at-most-24 x few = omega (arith, tree-kept x .most)
 
--- "no two fixed lengths of one direction side by side"
+-- no two fixed lengths of one direction side by side
 pub neighbours-apart : (x : DateTime) → allApart (stepsOf x) ≡ true
 neighbours-apart x = tree-kept x .apart
 
--- "every list that is made has the form that run asks for"
+-- every list that is made has the form that running asks for
 pub made-formed : (x : DateTime) → isFormed (stepsOf x) ≡ true
 made-formed x = tree-kept x .form
 

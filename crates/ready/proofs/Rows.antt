@@ -13,11 +13,12 @@ use Rattle.phrase.specs.Flat.{blankSlot, durationFrom, rowDuration}
 use Rattle.evaluation.proofs.Rows.{over, overRow, row-steps}
 use Rattle.steps.specs.Plans.{addTo}
 use Rattle.steps.specs.declared.plan.Plan.{Plan}
-use Rattle.ready.specs.Made.{stepOfPart, addDuration, held}
+use Rattle.steps.specs.declared.plan.Step.the-variants.{By}
+use Rattle.ready.specs.Made.{moveOfPart, addDuration, held}
 
 -- a part's step behind a plan
 abbrev pub stepBehind : Bool → Part → Plan → Plan
-stepBehind back x p = addTo p (stepOfPart back x)
+stepBehind back x p = addTo p (By (moveOfPart back x))
 
 -- a duration's steps are those of its parts
 duration-over : (back : Bool) (d : Duration) (p : Plan) → addDuration held back p d ≡ over (stepBehind back) d p

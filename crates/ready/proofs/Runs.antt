@@ -3,8 +3,8 @@ use Prim.Native.Nat.{ℕ}
 use mathlib.Core.Path.{_≡_, refl, ap, _∙_}
 use mathlib.Core.Bool.{Bool, true, false, cond, _&&_}
 use mathlib.Core.List.{List, [], _∷_}
-use Rattle.calendar.specs.Moments.{Outcome, andThen}
-use Rattle.calendar.specs.declared.Moment.{Moment}
+use Rattle.calendar.specs.Moments.{Outcome, andThen, yearsStep}
+use Rattle.calendar.specs.declared.moments.Moment.{Moment}
 use Rattle.dates.specs.Durations.{Duration, part, concat, isSubDailyUnit}
 use Rattle.dates.specs.declared.date.Date.{Date}
 use Rattle.dates.specs.declared.date.Date.the-variants.{Today}
@@ -22,26 +22,29 @@ use Rattle.evaluation.specs.Steps.{unitStep, partStep, durationStep}
 use Rattle.evaluation.specs.Dates.{dateAt}
 use Rattle.evaluation.specs.Times.{timeAt}
 use Rattle.evaluation.specs.Evaluate.{isYear, isWeek, isMonthAndDay, byYear, byUnit, dateExprAt, evaluate}
-use Rattle.evaluation.proofs.Laws.{then-same, then-moment}
+use Rattle.calendar.proofs.Outcomes.{then-same, then-moment}
 use Rattle.steps.specs.Joining.{addStep}
-use Rattle.steps.specs.Running.{actOf, walkOf}
+use Rattle.steps.specs.Running.{startAt, moveBy, actOf, walkOf}
+use Rattle.steps.specs.declared.plan.Start.{Start}
+use Rattle.steps.specs.declared.plan.Start.the-variants.{Senseless, OnDate, InWeek}
+use Rattle.steps.specs.declared.plan.Move.the-variants.{Years, BackTo}
 use Rattle.steps.specs.declared.plan.Step.{Step}
-use Rattle.steps.specs.declared.plan.Step.the-variants.{Senseless, OnDate, InWeek, AtTime, Years, BackTo}
+use Rattle.steps.specs.declared.plan.Step.the-variants.{From, By, AtTime}
 use Rattle.steps.proofs.Joined.{then-assoc, walk-add}
-use Rattle.ready.specs.Made.{lengthStep, stepOfPart, addDuration, addYear, addUnit, exprSteps, treeSteps, listed, stepsOf}
+use Rattle.ready.specs.Made.{lengthMove, moveOfPart, addDuration, addYear, addUnit, exprSteps, treeSteps, listed, stepsOf}
 
--- a unit's step does what the unit's length does
-length-acts : (back : Bool) (k : ℕ) (u : Unit) (n t : Moment) → actOf (lengthStep back k u) n t ≡ unitStep back k u t
-length-acts back k Day n t = refl
-length-acts back k Week n t = refl
-length-acts back k Hour n t = refl
-length-acts back k Minute n t = refl
-length-acts back k Month n t = refl
-length-acts back k Year n t = refl
+-- a unit's move does what the unit's length does
+length-moves : (back : Bool) (k : ℕ) (u : Unit) (t : Moment) → moveBy (lengthMove back k u) t ≡ unitStep back k u t
+length-moves back k Day t = refl
+length-moves back k Week t = refl
+length-moves back k Hour t = refl
+length-moves back k Minute t = refl
+length-moves back k Month t = refl
+length-moves back k Year t = refl
 
-part-acts : (back : Bool) (p : Part) (n t : Moment) → actOf (stepOfPart back p) n t ≡ partStep back p t
-part-acts back (Article u) n t = length-acts back 1 u n t
-part-acts back (Specific k u) n t = length-acts back k u n t
+part-moves : (back : Bool) (p : Part) (t : Moment) → moveBy (moveOfPart back p) t ≡ partStep back p t
+part-moves back (Article u) t = length-moves back 1 u t
+part-moves back (Specific u k) t = length-moves back k u t
 
 -- one step more is one step from where the list leads
 then-step :
@@ -53,28 +56,38 @@ then-step ss s n f e = walk-add ss s n n ∙ then-same (walkOf ss n n) (actOf s 
 then-duration :
     (back : Bool) (ss : List Step) (d : Duration) (n : Moment) →
     walkOf (addDuration listed back ss d) n n ≡ andThen (walkOf ss n n) (durationStep back d)
-then-duration back ss (part p) n = then-step ss (stepOfPart back p) n (partStep back p) (part-acts back p n)
+then-duration back ss (part p) n = then-step ss (By (moveOfPart back p)) n (partStep back p) (part-moves back p)
 then-duration back ss (concat p d) n =
-    then-duration back (addStep ss (stepOfPart back p)) d n
-    ∙ ap (λ (o : Outcome). andThen o (durationStep back d)) (then-step ss (stepOfPart back p) n (partStep back p) (part-acts back p n))
+    then-duration back (addStep ss (By (moveOfPart back p))) d n
+    ∙ ap (λ (o : Outcome). andThen o (durationStep back d)) (then-step ss (By (moveOfPart back p)) n (partStep back p) (part-moves back p))
     ∙ then-assoc (walkOf ss n n) (partStep back p) (durationStep back d)
 
 -- a start, and a duration from it
-started : (back : Bool) (s : Step) (d : Duration) (n : Moment) → walkOf (addDuration listed back (s ∷ []) d) n n ≡ andThen (actOf s n n) (durationStep back d)
+started :
+    (back : Bool) (s : Start) (d : Duration) (n : Moment) →
+    walkOf (addDuration listed back (From s ∷ []) d) n n ≡ andThen (startAt s n) (durationStep back d)
 started back s d n =
-    then-duration back (s ∷ []) d n ∙ ap (λ (o : Outcome). andThen o (durationStep back d)) (then-moment (actOf s n n))
+    then-duration back (From s ∷ []) d n ∙ ap (λ (o : Outcome). andThen o (durationStep back d)) (then-moment (startAt s n))
 
--- a date moved by a year
-by-year : (s : RelativeSpecifier) (d : Date) (n : Moment) → walkOf (addYear listed s (OnDate d ∷ [])) n n ≡ andThen (dateAt d n) (byYear s)
+-- a date, and a year from it
+year-from : (back : Bool) (d : Date) (n : Moment) → walkOf (addStep (From (OnDate d) ∷ []) (By (Years back 1))) n n ≡ andThen (dateAt d n) (yearsStep back 1)
+year-from back d n =
+    then-step (From (OnDate d) ∷ []) (By (Years back 1)) n (yearsStep back 1) (λ t. refl)
+    ∙ ap (λ (o : Outcome). andThen o (yearsStep back 1)) (then-moment (dateAt d n))
+
+by-year : (s : RelativeSpecifier) (d : Date) (n : Moment) → walkOf (addYear listed s (From (OnDate d) ∷ [])) n n ≡ andThen (dateAt d n) (byYear s)
 by-year This d n = refl
-by-year Next d n = then-step (OnDate d ∷ []) (Years false 1) n (byYear Next) (λ t. refl) ∙ ap (λ (o : Outcome). andThen o (byYear Next)) (then-moment (dateAt d n))
-by-year Last d n = then-step (OnDate d ∷ []) (Years true 1) n (byYear Last) (λ t. refl) ∙ ap (λ (o : Outcome). andThen o (byYear Last)) (then-moment (dateAt d n))
+by-year Next d n = year-from false d n
+by-year Last d n = year-from true d n
 
 -- one unit from today
+unit-from : (back : Bool) (u : Unit) (n : Moment) → walkOf (addStep (From (OnDate Today) ∷ []) (By (lengthMove back 1 u))) n n ≡ unitStep back 1 u n
+unit-from back u n = then-step (From (OnDate Today) ∷ []) (By (lengthMove back 1 u)) n (unitStep back 1 u) (length-moves back 1 u)
+
 by-unit : (s : RelativeSpecifier) (u : Unit) (n : Moment) → walkOf (addUnit listed s u) n n ≡ byUnit s u n
 by-unit This u n = refl
-by-unit Next u n = then-step (OnDate Today ∷ []) (lengthStep false 1 u) n (unitStep false 1 u) (length-acts false 1 u n)
-by-unit Last u n = then-step (OnDate Today ∷ []) (lengthStep true 1 u) n (unitStep true 1 u) (length-acts true 1 u n)
+by-unit Next u n = unit-from false u n
+by-unit Last u n = unit-from true u n
 
 -- of two lists by a test, each leads where it is to
 by-test :
@@ -87,17 +100,17 @@ by-test false xs ys n e f = f
 pub expr-runs : (e : DateExpr) (n : Moment) → walkOf (exprSteps listed e) n n ≡ dateExprAt e n
 unfolding exprSteps
 expr-runs (date d) n = then-moment (dateAt d n)
-expr-runs (dateRelative d s u) n = by-test (isYear u && isMonthAndDay d) (addYear listed s (OnDate d ∷ [])) (Senseless ∷ []) n (by-year s d n) refl
+expr-runs (dateRelative d s u) n = by-test (isYear u && isMonthAndDay d) (addYear listed s (From (OnDate d) ∷ [])) (From Senseless ∷ []) n (by-year s d n) refl
 expr-runs (weekdayExpressionBefore w dur) n =
-    walk-add (addDuration listed true (OnDate Today ∷ []) dur) (BackTo w) n n
-    ∙ ap (λ (o : Outcome). andThen o (actOf (BackTo w) n)) (started true (OnDate Today) dur n)
+    walk-add (addDuration listed true (From (OnDate Today) ∷ []) dur) (By (BackTo w)) n n
+    ∙ ap (λ (o : Outcome). andThen o (moveBy (BackTo w))) (started true (OnDate Today) dur n)
 expr-runs (dateExpressionAfter d dur) n = started false (OnDate d) dur n
 expr-runs (dateExpressionBefore d dur) n = started true (OnDate d) dur n
 expr-runs (before dur d) n = started true (OnDate d) dur n
 expr-runs (after dur d) n = started false (OnDate d) dur n
-expr-runs (unitRelative s u) n = by-test (isSubDailyUnit u) (Senseless ∷ []) (addUnit listed s u) n refl (by-unit s u n)
+expr-runs (unitRelative s u) n = by-test (isSubDailyUnit u) (From Senseless ∷ []) (addUnit listed s u) n refl (by-unit s u n)
 expr-runs (relativeWeekday s w) n = then-moment _
-expr-runs (weekdayRelative w s u) n = by-test (isWeek u) (InWeek s w ∷ []) (Senseless ∷ []) n (then-moment _) refl
+expr-runs (weekdayRelative w s u) n = by-test (isWeek u) (From (InWeek s w) ∷ []) (From Senseless ∷ []) n (then-moment _) refl
 expr-runs (weekday w) n = then-moment _
 expr-runs empty n = refl
 

@@ -5,12 +5,12 @@ use mathlib.Core.Path.{_≡_, ap, _∙_}
 use mathlib.Core.List.{List, [], _∷_}
 use lib.ListN.{set, getD}
 use Rattle.steps.specs.Joining.{minutesOf}
-use Rattle.steps.specs.Plans.{slot, blankSlot, blankPlan, pushed, lastOf, addTo}
+use Rattle.steps.specs.Plans.{hold, blankHeld, begun, lastOf, addTo}
 use Rattle.steps.specs.declared.plan.Plan.{Plan}
-use Rattle.steps.specs.declared.plan.Slot.{Slot}
+use Rattle.steps.specs.declared.plan.Held.{Held}
 use Rattle.steps.specs.declared.plan.Step.{Step}
-use Rattle.steps.specs.declared.plan.Step.the-variants.{Minutes}
-use Rattle.steps.proofs.Joined.{Meeting, refusal, apart, lengths, meeting}
+use Rattle.steps.specs.declared.plan.Start.{Start}
+use Rattle.steps.proofs.Joined.{minutes, Meeting, refusal, apart, lengths, meeting}
 use Rattle.ready.specs.Bounds.{widest, Within, Longer}
 
 -- a plan with one step of m minutes more
@@ -20,7 +20,7 @@ pub record Grown (p q : Plan) (m : ℕ) : Type 0 where
   pub minutes : minutesOf (lastOf q) ≤ minutesOf (lastOf p) + m
 
 -- a slot that was written has no more minutes than the step that was put there
-written : (l : List Slot) (i : ℕ) (s : Step) → minutesOf (getD (set l i (slot s)) i blankSlot .step) ≤ minutesOf s
+written : (l : List Held) (i : ℕ) (s : Step) → minutesOf (getD (set l i (hold s)) i blankHeld .step) ≤ minutesOf s
 written [] i s = omega arith
 written (x ∷ xs) zero s = omega arith
 written (x ∷ xs) (suc i) s = written xs i s
@@ -31,9 +31,9 @@ meets p s some (refusal e j) = rw j (record { some = some; most = omega arith; m
 meets p s some (apart j) =
     let same : p .n + 1 - 1 ≡ p .n = omega arith in
     let last = written (p .slots) (p .n) s in
-    rw j (record { some = omega arith; most = omega arith; minutes = rw (same, minutesOf) (omega arith) })
+    rw j (record { some = omega arith; most = omega arith; minutes = rw (same, lastOf) (omega arith) })
 meets p s some (lengths back m k e f j) =
-    let last = written (p .slots) (p .n - 1) (Minutes back (m + k)) in
+    let last = written (p .slots) (p .n - 1) (minutes back (m + k)) in
     rw j (record { some = some; most = omega arith; minutes = omega (arith, ap minutesOf e, ap minutesOf f) })
 
 -- one step more
@@ -47,8 +47,8 @@ pub may-add :
 may-add h s short few = (h .some, omega (arith, h .most), omega (arith, h .minutes))
 
 -- what is promised of a start alone
-pub started : {p : Plan} {k : ℕ} (s : Step) → p ≡ pushed blankPlan s → minutesOf s ≡ 0 → 0 < k → (p ≡ pushed blankPlan s) × Within p k
-started s e m h = (e, rw e (record { some = omega arith; most = omega arith; minutes = omega arith }))
+pub started : {p : Plan} {k : ℕ} (s : Start) → p ≡ begun s → 0 < k → (p ≡ begun s) × Within p k
+started s e h = (e, rw e (record { some = omega arith; most = omega arith; minutes = omega arith }))
 
 -- of one step more
 pub behind :

@@ -17,40 +17,44 @@ use Rattle.expressions.specs.Tree.{relativeWeekday, weekdayRelative, weekdayExp
 use Rattle.phrase.specs.Tree.{DateTime, dateTime, timeDate, durationAfter, durationBefore, now}
 use Rattle.evaluation.specs.Evaluate.{isYear, isWeek, isMonthAndDay}
 use Rattle.steps.specs.Joining.{addStep}
-use Rattle.steps.specs.Plans.{blankPlan, pushed, addTo}
+use Rattle.steps.specs.Plans.{begun, addTo}
 use Rattle.steps.specs.declared.plan.Plan.{Plan}
+use Rattle.steps.specs.declared.plan.Start.{Start}
+use Rattle.steps.specs.declared.plan.Start.the-variants.{Now, Senseless, OnDate, InWeek, FromToday}
+use Rattle.steps.specs.declared.plan.Move.{Move}
+use Rattle.steps.specs.declared.plan.Move.the-variants.{Minutes, Months, Years, BackTo}
 use Rattle.steps.specs.declared.plan.Step.{Step}
-use Rattle.steps.specs.declared.plan.Step.the-variants.{Now, Senseless, OnDate, InWeek, FromToday, Minutes, Months, Years, BackTo, AtTime}
+use Rattle.steps.specs.declared.plan.Step.the-variants.{From, By, AtTime}
 
 -- "Days, weeks, hours, minutes are fixed lengths."
-abbrev pub lengthStep : Bool → ℕ → Unit → Step
-lengthStep back k Day = Minutes back (1440 * k)
-lengthStep back k Week = Minutes back (10080 * k)
-lengthStep back k Hour = Minutes back (60 * k)
-lengthStep back k Minute = Minutes back k
-lengthStep back k Month = Months back k
-lengthStep back k Year = Years back k
+abbrev pub lengthMove : Bool → ℕ → Unit → Move
+lengthMove back k Day = Minutes back (1440 * k)
+lengthMove back k Week = Minutes back (10080 * k)
+lengthMove back k Hour = Minutes back (60 * k)
+lengthMove back k Minute = Minutes back k
+lengthMove back k Month = Months back k
+lengthMove back k Year = Years back k
 
 -- `Duration::num`: an article is one
-abbrev pub stepOfPart : Bool → Part → Step
-stepOfPart back (Article u) = lengthStep back 1 u
-stepOfPart back (Specific k u) = lengthStep back k u
+abbrev pub moveOfPart : Bool → Part → Move
+moveOfPart back (Article u) = lengthMove back 1 u
+moveOfPart back (Specific u k) = lengthMove back k u
 
 -- how steps are gathered
 pub record Gathering (A : Type 0) : Type 0 where
-  pub start : Step → A
+  pub start : Start → A
   pub add : A → Step → A
 
 -- "The parts of a joined duration act first to last."
 abbrev pub addDuration : {A : Type 0} → Gathering A → Bool → A → Duration → A
-addDuration g back ss (part p) = g .add ss (stepOfPart back p)
-addDuration g back ss (concat p d) = addDuration g back (g .add ss (stepOfPart back p)) d
+addDuration g back ss (part p) = g .add ss (By (moveOfPart back p))
+addDuration g back ss (concat p d) = addDuration g back (g .add ss (By (moveOfPart back p))) d
 
 -- a year on or back, by the specifier
 abbrev pub addYear : {A : Type 0} → Gathering A → RelativeSpecifier → A → A
 addYear g This ss = ss
-addYear g Next ss = g .add ss (Years false 1)
-addYear g Last ss = g .add ss (Years true 1)
+addYear g Next ss = g .add ss (By (Years false 1))
+addYear g Last ss = g .add ss (By (Years true 1))
 
 -- 9: "a `DateRelative` whose unit isn't year or whose date isn't `MonthNumDay` or `MonthDay`"
 abbrev pub dateRelativeSteps : {A : Type 0} → Gathering A → Date → RelativeSpecifier → Unit → A
@@ -59,8 +63,8 @@ dateRelativeSteps g d s u = cond (isYear u && isMonthAndDay d) (addYear g s (g .
 -- today, and one unit on or back
 abbrev pub addUnit : {A : Type 0} → Gathering A → RelativeSpecifier → Unit → A
 addUnit g This u = g .start Senseless
-addUnit g Next u = g .add (g .start (OnDate Today)) (lengthStep false 1 u)
-addUnit g Last u = g .add (g .start (OnDate Today)) (lengthStep true 1 u)
+addUnit g Next u = g .add (g .start (OnDate Today)) (By (lengthMove false 1 u))
+addUnit g Last u = g .add (g .start (OnDate Today)) (By (lengthMove true 1 u))
 
 -- 9: "a `UnitRelative` of "this", or of hour or minute"
 abbrev pub unitRelativeSteps : {A : Type 0} → Gathering A → RelativeSpecifier → Unit → A
@@ -72,7 +76,7 @@ weekdayRelativeSteps g w s u = cond (isWeek u) (g .start (InWeek s w)) (g .start
 
 -- "a weekday expression starts at today, and its duration parts are steps like any others"
 abbrev pub weekdaySteps : {A : Type 0} → Gathering A → ℕ → Duration → A
-weekdaySteps g w dur = g .add (addDuration g true (g .start (OnDate Today)) dur) (BackTo w)
+weekdaySteps g w dur = g .add (addDuration g true (g .start (OnDate Today)) dur) (By (BackTo w))
 
 -- the steps of a date expression: "A date rule is one date of the reading with its own numbers, and holds no duration and no time"
 unfoldable pub exprSteps : {A : Type 0} → Gathering A → DateExpr → A
@@ -99,7 +103,7 @@ treeSteps g (durationBefore dur x) = addDuration g true (treeSteps g x) dur
 
 -- gathered into a list
 abbrev pub listed : Gathering (List Step)
-listed = record { start = λ s. s ∷ []; add = addStep }
+listed = record { start = λ s. From s ∷ []; add = addStep }
 
 -- the steps of a reading
 abbrev pub stepsOf : DateTime → List Step
@@ -107,4 +111,4 @@ stepsOf x = treeSteps listed x
 
 -- gathered into the code's struct: `planned` says that it holds the same list
 abbrev pub held : Gathering Plan
-held = record { start = pushed blankPlan; add = addTo }
+held = record { start = begun; add = addTo }

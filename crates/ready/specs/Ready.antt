@@ -1,7 +1,7 @@
 -- A phrase made ready without a now.
 use Prim.Native.Nat.{ℕ}
 use mathlib.Core.List.{List}
-use Rattle.calendar.specs.declared.Moment.{Moment}
+use Rattle.calendar.specs.declared.moments.Moment.{Moment}
 use Rattle.lexer.specs.Words.{Word}
 use Rattle.phrase.specs.Read.{ReadPhrase, refusal, tree, readOf}
 use Rattle.answer.specs.Answer.{Answer, refusedAt, placed}

@@ -11,7 +11,9 @@ use evaluation::expr::is_year;
 use expressions::expr::Expr;
 use phrase::reading::Base;
 use phrase::reading::Reading;
+use steps::plan::Move;
 use steps::plan::Plan;
+use steps::plan::Start;
 use steps::plan::Step;
 use steps::plan::add;
 use steps::plan::single;
@@ -20,47 +22,48 @@ ghost use mathlib.Core.Bool.{true};
 ghost use Prim.Native.Nat.{_+_, _*_, _≤_, _<_};
 ghost use lib.Seq.{slice};
 ghost use Rattle.dates.specs.Durations.{size};
-ghost use Rattle.expressions.specs.Shapes.{exprFrom, sizeExpr};
+ghost use Rattle.expressions.specs.Shapes.{exprFrom, hasDuration, sizeExpr};
 ghost use Rattle.phrase.specs.Flat.{rowDuration, treeOf, sizeTree};
-ghost use Rattle.evaluation.specs.Formed.{hasDuration, baseOf, Formed};
+ghost use Rattle.evaluation.specs.Formed.{baseOf, Formed};
 ghost use Rattle.steps.specs.Joining.{minutesOf};
-ghost use Rattle.steps.specs.Plans.{lastOf, pushed, blankPlan};
-ghost use Rattle.steps.specs.declared.plan.Step.the-variants.{OnDate};
-ghost use Rattle.ready.specs.Made.{lengthStep, stepOfPart, held, addDuration, exprSteps, treeSteps};
+ghost use Rattle.steps.specs.Plans.{lastOf, begun};
+ghost use Rattle.steps.specs.declared.plan.Start.the-variants.{OnDate};
+ghost use Rattle.steps.specs.declared.plan.Step.the-variants.{By};
+ghost use Rattle.ready.specs.Made.{lengthMove, moveOfPart, held, addDuration, exprSteps, treeSteps};
 ghost use Rattle.ready.specs.Made.{dateRelativeSteps, unitRelativeSteps, weekdayRelativeSteps};
 ghost use Rattle.ready.specs.Bounds.{widest, Within, Longer};
 
-// So many units as a step.
-fn length_step(back: bool, k: u32, unit: Unit) -> Step
-    ensures { λ r. ⌜ (r ≡ lengthStep back k unit) × (minutesOf r ≤ widest) ⌝ }
+// So many units as a move.
+fn length_move(back: bool, k: u32, unit: Unit) -> Move
+    ensures { λ r. ⌜ (r ≡ lengthMove back k unit) × (minutesOf (By r) ≤ widest) ⌝ }
 {
     let n = k as u64;
     match unit {
-        Unit::Day => Step::Minutes {
+        Unit::Day => Move::Minutes {
             back,
             count: 1440 * n,
         },
-        Unit::Week => Step::Minutes {
+        Unit::Week => Move::Minutes {
             back,
             count: 10080 * n,
         },
-        Unit::Hour => Step::Minutes {
+        Unit::Hour => Move::Minutes {
             back,
             count: 60 * n,
         },
-        Unit::Minute => Step::Minutes { back, count: n },
-        Unit::Month => Step::Months { back, count: k },
-        Unit::Year => Step::Years { back, count: k },
+        Unit::Minute => Move::Minutes { back, count: n },
+        Unit::Month => Move::Months { back, count: k },
+        Unit::Year => Move::Years { back, count: k },
     }
 }
 
-// A part of a duration as a step; an article is one.
-fn part_step(back: bool, part: Part) -> Step
-    ensures { λ r. ⌜ (r ≡ stepOfPart back part) × (minutesOf r ≤ widest) ⌝ }
+// A part of a duration as a move; an article is one.
+fn part_move(back: bool, part: Part) -> Move
+    ensures { λ r. ⌜ (r ≡ moveOfPart back part) × (minutesOf (By r) ≤ widest) ⌝ }
 {
     match part {
-        Part::Article(u) => length_step(back, 1, u),
-        Part::Specific(k, u) => length_step(back, k, u),
+        Part::Article(u) => length_move(back, 1, u),
+        Part::Specific(u, k) => length_move(back, k, u),
     }
 }
 
@@ -76,7 +79,7 @@ fn add_parts(p: Plan, parts: Parts, from: u8, to: u8, back: bool) -> Plan
     while i < to {
         let slot = parts.items[i as usize];
         let part = slot.part;
-        q = add(q, part_step(back, part));
+        q = add(q, Step::By(part_move(back, part)));
         i += 1;
     }
     q
@@ -88,28 +91,28 @@ fn date_relative(date: Date, specifier: RelativeSpecifier, unit: Unit) -> Plan
 {
     if is_year(unit) {
         if is_month_and_day(date) {
-            let start = single(Step::OnDate(date));
+            let start = single(Start::OnDate(date));
             return match specifier {
                 RelativeSpecifier::This => start,
                 RelativeSpecifier::Next => add(
                     start,
-                    Step::Years {
+                    Step::By(Move::Years {
                         back: false,
                         count: 1,
-                    },
+                    }),
                 ),
                 RelativeSpecifier::Last => add(
                     start,
-                    Step::Years {
+                    Step::By(Move::Years {
                         back: true,
                         count: 1,
-                    },
+                    }),
                 ),
             };
         }
-        return single(Step::Senseless);
+        return single(Start::Senseless);
     }
-    single(Step::Senseless)
+    single(Start::Senseless)
 }
 
 // One unit before or after today; "this", hours and minutes have no sense.
@@ -117,13 +120,13 @@ fn unit_relative(specifier: RelativeSpecifier, unit: Unit) -> Plan
     ensures { λ r. ⌜ (r ≡ unitRelativeSteps held specifier unit) × Within r 2 ⌝ }
 {
     if is_sub_daily_unit(unit) {
-        return single(Step::Senseless);
+        return single(Start::Senseless);
     }
-    let today = single(Step::OnDate(Date::Today));
+    let today = single(Start::OnDate(Date::Today));
     match specifier {
-        RelativeSpecifier::Next => add(today, length_step(false, 1, unit)),
-        RelativeSpecifier::Last => add(today, length_step(true, 1, unit)),
-        RelativeSpecifier::This => single(Step::Senseless),
+        RelativeSpecifier::Next => add(today, Step::By(length_move(false, 1, unit))),
+        RelativeSpecifier::Last => add(today, Step::By(length_move(true, 1, unit))),
+        RelativeSpecifier::This => single(Start::Senseless),
     }
 }
 
@@ -132,18 +135,18 @@ fn weekday_relative(w: u32, specifier: RelativeSpecifier, unit: Unit) -> Plan
     ensures { λ r. ⌜ (r ≡ weekdayRelativeSteps held w specifier unit) × Within r 2 ⌝ }
 {
     if is_week(unit) {
-        return single(Step::InWeek(specifier, w));
+        return single(Start::InWeek(specifier, w));
     }
-    single(Step::Senseless)
+    single(Start::Senseless)
 }
 
 // A date, and a duration from it.
 fn from_date(date: Date, parts: Parts, own: u8, back: bool) -> Plan
     requires { ⌜ (own < parts .n) × (parts .n ≤ 21) ⌝ }
-    ensures { λ r. ⌜ r ≡ addDuration held back (pushed blankPlan (OnDate date)) (rowDuration (slice own (parts .n) (parts .items))) ⌝ }
+    ensures { λ r. ⌜ r ≡ addDuration held back (begun (OnDate date)) (rowDuration (slice own (parts .n) (parts .items))) ⌝ }
     ensures { λ r. ⌜ Within r (1 + size (rowDuration (slice own (parts .n) (parts .items)))) ⌝ }
 {
-    add_parts(single(Step::OnDate(date)), parts, own, parts.n, back)
+    add_parts(single(Start::OnDate(date)), parts, own, parts.n, back)
 }
 
 // The steps of a date expression, whose duration's parts are those from `own` on.
@@ -153,21 +156,21 @@ fn expr_plan(expr: Expr, parts: Parts, own: u8) -> Plan
     ensures { λ r. ⌜ Within r (2 + sizeExpr (exprFrom expr (rowDuration (slice own (parts .n) (parts .items))))) ⌝ }
 {
     match expr {
-        Expr::Date(d) => single(Step::OnDate(d)),
+        Expr::Date(d) => single(Start::OnDate(d)),
         Expr::DateRelative(d, s, u) => date_relative(d, s, u),
         Expr::DateExpressionAfter(d) => from_date(d, parts, own, false),
         Expr::DateExpressionBefore(d) => from_date(d, parts, own, true),
         Expr::UnitRelative(s, u) => unit_relative(s, u),
-        Expr::RelativeWeekday(s, w) => single(Step::InWeek(s, w)),
+        Expr::RelativeWeekday(s, w) => single(Start::InWeek(s, w)),
         Expr::WeekdayRelative(w, s, u) => weekday_relative(w, s, u),
         Expr::WeekdayExpressionBefore(w) => add(
             from_date(Date::Today, parts, own, true),
-            Step::BackTo(w),
+            Step::By(Move::BackTo(w)),
         ),
         Expr::Before(d) => from_date(d, parts, own, true),
         Expr::After(d) => from_date(d, parts, own, false),
-        Expr::Weekday(w) => single(Step::FromToday(w)),
-        Expr::Empty => single(Step::OnDate(Date::Today)),
+        Expr::Weekday(w) => single(Start::FromToday(w)),
+        Expr::Empty => single(Start::OnDate(Date::Today)),
     }
 }
 
@@ -181,14 +184,14 @@ fn base_plan(r: Reading) -> Plan
     let own = r.own;
     let time = r.time;
     match base {
-        Base::Now => single(Step::Now),
+        Base::Now => single(Start::Now),
         Base::DateTime(expr) => add(expr_plan(expr, parts, own), Step::AtTime(time)),
         Base::TimeDate(expr) => add(expr_plan(expr, parts, own), Step::AtTime(time)),
     }
 }
 
 // The steps of a reading: those of each link's duration, from the last link to the first, behind those of the base.
-pub fn plan_of(r: Reading) -> Plan
+pub(crate) fn plan_of(r: Reading) -> Plan
     requires { ⌜ Formed r × (sizeTree (treeOf r) ≤ 21) ⌝ }
     ensures { λ p. ⌜ p ≡ treeSteps held (treeOf r) ⌝ }
 {

@@ -1,4 +1,5 @@
 pub mod Numbers
 pub mod Steps
+pub mod Fitting
 pub mod Lists
 pub mod Runs

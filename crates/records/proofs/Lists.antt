@@ -1,21 +1,22 @@
 -- Encoding then decoding gives the steps back, and nothing but what encodes is decoded.
 use Prim.Native.Nat.{ℕ, zero, suc, _+_, _-_, _*_, _/_, _%_, _^_, _≤_, _<_}
 use native.Mathlib.Omega.{arith}
-use native.Mathlib.Nat.{sub-zero, sub-self}
 use mathlib.Core.Path.{_≡_, refl, ap, sym, _∙_}
 use mathlib.Core.Bool.{Bool, true, false, cond, _&&_, and-false, false≢true}
-use mathlib.Core.List.{List, [], _∷_, _++_, append-nil}
+use mathlib.Core.List.{List, [], _∷_, _++_}
 use borrow.Author.Tests.{le-leb, lt-leb, eq-eqb, ne-eqb, eqb-true}
 use lib.Dec.{leb, eqb}
 use lib.ListN.{length, drop, length-drop, take-append-drop, drop-of-length-le}
-use lib.Seq.{append-snoc, drop-drop, getD-drop}
+use lib.Seq.{drop-drop, getD-drop}
+use Rattle.steps.proofs.Small.{All, none, more}
 use Rattle.steps.specs.declared.plan.Step.{Step}
 use Rattle.records.specs.Bytes.{bytesOf}
 use Rattle.records.specs.Words.{words, wordsOf, stepFrom}
 use Rattle.records.specs.Records.{bytesOfWords, encodeOf, wordAt, wordsAt, sameWords, isRecord, areRecords, stepsAt, decodeOf}
 use Rattle.records.specs.declared.words.Words.{Words}
 use Rattle.records.proofs.Numbers.{AreBytes, back, forth}
-use Rattle.records.proofs.Steps.{step-back, small-kind, small-form, Fits, AllFit, none, more}
+use Rattle.records.proofs.Steps.{step-back, small-kind, small-form}
+use Rattle.records.proofs.Fitting.{Fits, in-bytes}
 
 -- both of two tests
 both : (a b : Bool) → (a && b) ≡ true → (a ≡ true) × (b ≡ true)
@@ -53,16 +54,18 @@ words-at :
 unfolding wordsAt
 words-at l at s rest e f =
     let w = wordsOf s in
+    let fit = in-bytes s f in
     let small : w .kind + 256 * w .form < 256 ^ 4 = omega (arith, small-kind s, small-form s) in
     let first : wordAt l at ≡ w .kind + 256 * w .form = rw e (back 4 (w .kind + 256 * w .form) small) in
-    let a : wordAt l (at + 4) ≡ w .a = rw (behind l at 4 e) (back 4 (w .a) (f .a)) in
-    let b : wordAt l (at + 8) ≡ w .b = rw (behind l at 8 e) (back 4 (w .b) (f .b)) in
-    let c : wordAt l (at + 12) ≡ w .c = rw (behind l at 12 e) (back 4 (w .c) (f .c)) in
+    let a : wordAt l (at + 4) ≡ w .a = rw (behind l at 4 e) (back 4 (w .a) (fit .0)) in
+    let b : wordAt l (at + 8) ≡ w .b = rw (behind l at 8 e) (back 4 (w .b) (fit .1)) in
+    let c : wordAt l (at + 12) ≡ w .c = rw (behind l at 12 e) (back 4 (w .c) (fit .2)) in
     let kind : (w .kind + 256 * w .form) % 256 ≡ w .kind = omega (arith, small-kind s) in
     let form : (w .kind + 256 * w .form) / 256 ≡ w .form = omega (arith, small-kind s) in
     rw (first, kind, form, a, b, c)
 
-length-encoded : (ss : List Step) → length (encodeOf ss) ≡ 16 * length ss
+-- 16 bytes a step
+pub length-encoded : (ss : List Step) → length (encodeOf ss) ≡ 16 * length ss
 length-encoded [] = refl
 length-encoded (s ∷ ss) = omega (arith, length-encoded ss)
 
@@ -71,7 +74,7 @@ record Decoded (l : List ℕ) (at : ℕ) (ss : List Step) : Type 0 where
   are : areRecords (length ss) l at ≡ true
   steps : stepsAt (length ss) l at ≡ ss
 
-decoded : (l : List ℕ) (at : ℕ) {ss : List Step} → drop at l ≡ encodeOf ss → AllFit ss → Decoded l at ss
+decoded : (l : List ℕ) (at : ℕ) {ss : List Step} → drop at l ≡ encodeOf ss → All Fits ss → Decoded l at ss
 decoded l at e none = record { are = refl; steps = refl }
 decoded l at e (more {s} {ss} f fs) =
     let w = words-at l at s (encodeOf ss) e f in
@@ -94,7 +97,7 @@ unfolding decodeOf
 by-records l h e = rw (le-leb (length l) 384 h, e)
 
 -- encoding then decoding gives the steps back
-pub decoded-back : (ss : List Step) → length ss ≤ 24 → AllFit ss → decodeOf (encodeOf ss) ≡ ss
+pub decoded-back : (ss : List Step) → length ss ≤ 24 → All Fits ss → decodeOf (encodeOf ss) ≡ ss
 decoded-back ss h fs =
     let d = decoded (encodeOf ss) 0 refl fs in
     let size : length (encodeOf ss) ≡ 16 * length ss = length-encoded ss in
@@ -171,29 +174,3 @@ pub steps-next :
     (n i : ℕ) (l : List ℕ) → i < n →
     stepsAt (n - i) l (16 * i) ≡ stepFrom (wordsAt l (16 * i)) ∷ stepsAt (n - (i + 1)) l (16 * (i + 1))
 steps-next n i l h = rw (one-less n i h, next-place i)
-
--- the steps that were decoded, and those of the records from record i on
-unfoldable pub withRest : ℕ → ℕ → List ℕ → List Step → List Step
-withRest n i l done = cond (areRecords (n - i) l (16 * i)) (done ++ stepsAt (n - i) l (16 * i)) []
-
--- before the first record
-pub at-first : (l : List ℕ) → length l ≤ 384 → length l % 16 ≡ 0 → decodeOf l ≡ withRest (length l / 16) 0 l []
-unfolding withRest
-at-first l h e = by-records l h e ∙ rw sub-zero
-
--- a record of a step
-pub next-is :
-    (n i : ℕ) (l : List ℕ) (done : List Step) → i < n → isRecord (wordsAt l (16 * i)) ≡ true →
-    withRest n i l done ≡ withRest n (i + 1) l (done ++ (stepFrom (wordsAt l (16 * i)) ∷ []))
-unfolding withRest
-next-is n i l done h e = rw (are-next n i l h, steps-next n i l h, e, append-snoc)
-
--- a record that no step encodes to
-pub next-is-not : (n i : ℕ) (l : List ℕ) (done : List Step) → i < n → isRecord (wordsAt l (16 * i)) ≡ false → withRest n i l done ≡ []
-unfolding withRest
-next-is-not n i l done h e = rw (are-next n i l h, e)
-
--- behind the last record
-pub at-last : (l : List ℕ) (done : List Step) {n i : ℕ} → i ≡ n → withRest n i l done ≡ done
-unfolding withRest
-at-last l done e = rw (e, sub-self, append-nil)

@@ -1,28 +1,34 @@
 -- A slice of records is run as the list that it stands for: its test record by record, and its steps one by one.
 use Prim.Native.Nat.{ℕ, suc, _+_, _-_, _*_, _/_, _%_, _≤_, _<_}
 use native.Mathlib.Omega.{arith}
-use mathlib.Core.Path.{_≡_, refl, ap, sym}
+use native.Mathlib.Nat.{add-zero, zero-add, add-assoc}
+use mathlib.Core.Path.{_≡_, refl, sym}
 use mathlib.Core.Bool.{Bool, true, false, cond, _&&_, and-false, false≢true}
 use mathlib.Core.List.{List, [], _∷_}
-use borrow.Author.Tests.{le-leb}
+use borrow.Author.Tests.{le-leb, ne-eqb}
 use lib.Dec.{leb, eqb}
 use lib.ListN.{length}
 use Rattle.numbers.specs.Slices.{oneIf}
 use Rattle.steps.specs.Running.{isStart, isTimeStep, timesDue, starts, times, isList}
 use Rattle.steps.specs.declared.plan.Step.{Step}
-use Rattle.steps.proofs.Listed.{isFollowed, none-counted, all-counted, start-again, counted-on}
 use Rattle.records.specs.Words.{stepFrom}
 use Rattle.records.specs.Records.{wordsAt, isRecord, areRecords, stepsAt, decodeOf, mayFollow}
 use Rattle.records.proofs.Lists.{by-records, length-steps, are-next, steps-next}
 
+-- one start is more than none
+one-more : (k : ℕ) → eqb (1 + k) 0 ≡ false
+one-more k = ne-eqb (1 + k) 0 (λ z. omega arith)
+
 -- the records from record i on may follow, k time steps before them counted
 unfoldable pub followFrom : ℕ → ℕ → ℕ → ℕ → List ℕ → Bool
-followFrom due k n i l = areRecords (n - i) l (16 * i) && isFollowed due k (stepsAt (n - i) l (16 * i))
+followFrom due k n i l =
+    let ss = stepsAt (n - i) l (16 * i) in
+    areRecords (n - i) l (16 * i) && (eqb (starts ss) 0 && eqb (k + times ss) due)
 
 -- those behind the first, with none counted yet
 pub follow-first : (due n : ℕ) (l : List ℕ) → mayFollow due (n - 1) l 16 ≡ followFrom due 0 n 1 l
 unfolding followFrom mayFollow
-follow-first due n l = ap (λ (b : Bool). areRecords (n - 1) l 16 && b) (none-counted due (stepsAt (n - 1) l 16))
+follow-first due n l = rw zero-add
 
 -- a record that no step encodes to ends the test
 pub follow-damaged :
@@ -34,7 +40,7 @@ follow-damaged due k n i l h e = rw (are-next n i l h, e)
 pub follow-start :
     (due k n i : ℕ) (l : List ℕ) → i < n → isStart (stepFrom (wordsAt l (16 * i))) ≡ true → followFrom due k n i l ≡ false
 unfolding followFrom
-follow-start due k n i l h e = rw (steps-next n i l h, start-again due k _ _ e, and-false)
+follow-start due k n i l h e = rw (steps-next n i l h, e, one-more, and-false)
 
 -- any other step is counted
 pub follow-on :
@@ -42,12 +48,12 @@ pub follow-on :
     isStart (stepFrom (wordsAt l (16 * i))) ≡ false → m ≡ oneIf (isTimeStep (stepFrom (wordsAt l (16 * i)))) →
     followFrom due k n i l ≡ followFrom due (k + m) n (i + 1) l
 unfolding followFrom
-follow-on due k n i l h e f g = rw (are-next n i l h, steps-next n i l h, e, counted-on due k _ _ f g)
+follow-on due k n i l h e f g = rw (are-next n i l h, steps-next n i l h, e, f, zero-add, g, add-assoc)
 
 -- behind the last one
 pub follow-last : (due k : ℕ) (l : List ℕ) {n i : ℕ} → n ≤ i → followFrom due k n i l ≡ eqb k due
 unfolding followFrom
-follow-last due k l {n} {i} h = let none : n - i ≡ 0 = omega arith in rw none (sym (all-counted due k))
+follow-last due k l {n} {i} h = let none : n - i ≡ 0 = omega arith in rw (none, add-zero)
 
 -- no record, no list
 pub none-listed : (l : List ℕ) → length l ≡ 0 → isList (decodeOf l) ≡ false

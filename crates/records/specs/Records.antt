@@ -14,7 +14,7 @@ use Rattle.records.specs.declared.words.Words.{Words}
 abbrev pub bytesOfWords : Words → List ℕ
 bytesOfWords w = bytesOf 4 (w .kind + 256 * w .form) ++ bytesOf 4 (w .a) ++ bytesOf 4 (w .b) ++ bytesOf 4 (w .c)
 
--- "n records of 16 bytes, little-endian"
+-- a record for each step, one behind the other
 abbrev pub encodeOf : List Step → List ℕ
 encodeOf [] = []
 encodeOf (s ∷ ss) = bytesOfWords (wordsOf s) ++ encodeOf ss
@@ -45,8 +45,8 @@ abbrev pub stepsAt : ℕ → List ℕ → ℕ → List Step
 stepsAt zero l at = []
 stepsAt (suc n) l at = stepFrom (wordsAt l at) ∷ stepsAt n l (at + 16)
 
--- "a slice whose length is no multiple of 16, or with a record that no step encodes to, is refusal 9": it stands for no list, as one of
--- more than 24 records does, and no list is 9
+-- the list of a slice: one whose length is no multiple of 16, or with a record that no step encodes to, or of more than 24 records
+-- stands for no list, and no list is 9
 unfoldable pub decodeOf : List ℕ → List Step
 decodeOf l =
     cond (leb (length l) 384 && (eqb (length l % 16) 0 && areRecords (length l / 16) l 0)) (stepsAt (length l / 16) l 0) []

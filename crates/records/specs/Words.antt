@@ -10,8 +10,12 @@ use Rattle.dates.specs.declared.time.Time.{Time}
 use Rattle.dates.specs.declared.time.Time.the-variants.{HourMin, HourMinAM, HourMinPM, Empty as NowsTime}
 use Rattle.dates.specs.declared.units.RelativeSpecifier.{RelativeSpecifier}
 use Rattle.dates.specs.declared.units.RelativeSpecifier.the-variants.{This, Next, Last}
+use Rattle.steps.specs.declared.plan.Start.{Start}
+use Rattle.steps.specs.declared.plan.Start.the-variants.{Now, Senseless, OnDate, InWeek, FromToday}
+use Rattle.steps.specs.declared.plan.Move.{Move}
+use Rattle.steps.specs.declared.plan.Move.the-variants.{Minutes, Months, Years, BackTo}
 use Rattle.steps.specs.declared.plan.Step.{Step}
-use Rattle.steps.specs.declared.plan.Step.the-variants.{Now, Senseless, OnDate, InWeek, FromToday, Minutes, Months, Years, BackTo, AtTime}
+use Rattle.steps.specs.declared.plan.Step.the-variants.{From, By, AtTime}
 use Rattle.records.specs.declared.words.Words.{Words}
 
 -- kind, form and three numbers
@@ -37,12 +41,13 @@ weekWords This w = words 4 0 w 0 0
 weekWords Next w = words 4 1 w 0 0
 weekWords Last w = words 4 2 w 0 0
 
--- a time of day: now's, or stated, without a half of the day, am or pm
-abbrev pub timeWords : Time → Words
-timeWords NowsTime = words 10 0 0 0 0
-timeWords (HourMin h m) = words 10 1 h m 0
-timeWords (HourMinAM h m) = words 10 2 h m 0
-timeWords (HourMinPM h m) = words 10 3 h m 0
+-- a start
+abbrev pub startWords : Start → Words
+startWords Now = words 1 0 0 0 0
+startWords Senseless = words 2 0 0 0 0
+startWords (OnDate d) = dateWords d
+startWords (InWeek s w) = weekWords s w
+startWords (FromToday w) = words 5 0 w 0 0
 
 -- a direction: on 0, back 1
 abbrev pub direction : Bool → ℕ
@@ -53,17 +58,24 @@ direction true = 1
 abbrev pub wide : ℕ
 wide = 4294967296
 
--- a step as numbers; minutes are two numbers, the low one first
+-- a move; minutes are two numbers, the low one first
+abbrev pub moveWords : Move → Words
+moveWords (Minutes back k) = words 6 (direction back) (k % wide) (k / wide) 0
+moveWords (Months back k) = words 7 (direction back) k 0 0
+moveWords (Years back k) = words 8 (direction back) k 0 0
+moveWords (BackTo w) = words 9 0 w 0 0
+
+-- a time of day: now's, or stated, without a half of the day, am or pm
+abbrev pub timeWords : Time → Words
+timeWords NowsTime = words 10 0 0 0 0
+timeWords (HourMin h m) = words 10 1 h m 0
+timeWords (HourMinAM h m) = words 10 2 h m 0
+timeWords (HourMinPM h m) = words 10 3 h m 0
+
+-- a step
 abbrev pub wordsOf : Step → Words
-wordsOf Now = words 1 0 0 0 0
-wordsOf Senseless = words 2 0 0 0 0
-wordsOf (OnDate d) = dateWords d
-wordsOf (InWeek s w) = weekWords s w
-wordsOf (FromToday w) = words 5 0 w 0 0
-wordsOf (Minutes back k) = words 6 (direction back) (k % wide) (k / wide) 0
-wordsOf (Months back k) = words 7 (direction back) k 0 0
-wordsOf (Years back k) = words 8 (direction back) k 0 0
-wordsOf (BackTo w) = words 9 0 w 0 0
+wordsOf (From s) = startWords s
+wordsOf (By m) = moveWords m
 wordsOf (AtTime t) = timeWords t
 
 -- a number and its value
@@ -100,14 +112,14 @@ timeFrom f a b = look f (row 1 (HourMin a b) ∷ row 2 (HourMinAM a b) ∷ row 3
 unfoldable pub stepFrom : Words → Step
 stepFrom w =
     look (w .kind)
-    (row 2 Senseless
-    ∷ row 3 (OnDate (dateFrom (w .form) (w .a) (w .b) (w .c)))
-    ∷ row 4 (InWeek (specifierFrom (w .form)) (w .a))
-    ∷ row 5 (FromToday (w .a))
-    ∷ row 6 (Minutes (eqb (w .form) 1) (w .a + wide * w .b))
-    ∷ row 7 (Months (eqb (w .form) 1) (w .a))
-    ∷ row 8 (Years (eqb (w .form) 1) (w .a))
-    ∷ row 9 (BackTo (w .a))
+    (row 2 (From Senseless)
+    ∷ row 3 (From (OnDate (dateFrom (w .form) (w .a) (w .b) (w .c))))
+    ∷ row 4 (From (InWeek (specifierFrom (w .form)) (w .a)))
+    ∷ row 5 (From (FromToday (w .a)))
+    ∷ row 6 (By (Minutes (eqb (w .form) 1) (w .a + wide * w .b)))
+    ∷ row 7 (By (Months (eqb (w .form) 1) (w .a)))
+    ∷ row 8 (By (Years (eqb (w .form) 1) (w .a)))
+    ∷ row 9 (By (BackTo (w .a)))
     ∷ row 10 (AtTime (timeFrom (w .form) (w .a) (w .b)))
     ∷ [])
-    Now
+    (From Now)

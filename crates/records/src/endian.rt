@@ -6,7 +6,7 @@ ghost use lib.Seq.{sets};
 ghost use Rattle.records.specs.Bytes.{bytesOf};
 
 // The k low bytes of x from a place on.
-pub fn put(b: &mut [u8], at: usize, k: usize, x: u64)
+pub(crate) fn put(b: &mut [u8], at: usize, k: usize, x: u64)
     requires { ⌜ at + k ≤ length (now b) ⌝ }
     ensures { λ r. ⌜ now (b .exit) ≡ sets (now (b .entry)) at (bytesOf k x) ⌝ }
 {

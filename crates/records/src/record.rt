@@ -4,17 +4,15 @@ use super::words::Words;
 use super::words::step_from;
 use super::words::words_of;
 use steps::plan::Plan;
-use steps::plan::none;
-use steps::plan::push;
 ghost use mathlib.Core.Path.{_≡_};
 ghost use Prim.Native.Nat.{_+_, _*_, _≤_, _<_};
 ghost use lib.ListN.{length, getD};
 ghost use lib.Seq.{sets};
-ghost use Rattle.steps.specs.Plans.{stepsIn, planOf};
+ghost use Rattle.steps.specs.Plans.{stepsIn};
 ghost use Rattle.records.specs.Records.{bytesOfWords, encodeOf, wordAt, wordsAt, sameWords, isRecord, decodeOf};
 
 // The bytes of one record.
-pub const SIZE: usize = 16;
+pub(crate) const SIZE: usize = 16;
 
 // A record at a place.
 fn put_words(b: &mut [u8], at: usize, w: Words)
@@ -27,11 +25,10 @@ fn put_words(b: &mut [u8], at: usize, w: Words)
     put(b, at + 12, 4, w.c as u64);
 }
 
-// The records of a list, one behind the other from the start; what stands behind them stays. They decode to the list.
+// The records of a list, one behind the other from the start; what stands behind them stays.
 pub fn encode(p: Plan, b: &mut [u8])
     requires { ⌜ (p .n ≤ 24) × (16 * p .n ≤ length (now b)) ⌝ }
     ensures { λ r. ⌜ now (b .exit) ≡ sets (now (b .entry)) 0 (encodeOf (stepsIn p)) ⌝ }
-    ensures { λ r. ⌜ decodeOf (encodeOf (stepsIn p)) ≡ stepsIn p ⌝ }
 {
     let n = p.n;
     let mut i = 0;
@@ -63,7 +60,7 @@ fn word_at(b: &[u8], at: usize) -> u32
 }
 
 // The numbers of the record at a place.
-pub fn words_at(b: &[u8], at: usize) -> Words
+pub(crate) fn words_at(b: &[u8], at: usize) -> Words
     requires { ⌜ at + 16 ≤ length (now b) ⌝ }
     ensures { λ r. ⌜ r ≡ wordsAt (now (b .entry)) at ⌝ }
 {
@@ -97,35 +94,8 @@ fn same_words(v: Words, w: Words) -> bool
 }
 
 // Does a step encode to these numbers?
-pub fn is_record(w: Words) -> bool
+pub(crate) fn is_record(w: Words) -> bool
     ensures { λ r. ⌜ r ≡ isRecord w ⌝ }
 {
     same_words(words_of(step_from(w)), w)
-}
-
-// The list of a slice of records. A slice that is none stands for no list, which is 9 when it is run.
-pub fn decode(b: &[u8]) -> Plan
-    ensures { λ r. ⌜ r ≡ planOf (decodeOf (now (b .entry))) ⌝ }
-{
-    let size = b.len();
-    if size > 384 {
-        return none();
-    }
-    if size % SIZE != 0 {
-        return none();
-    }
-    let n = size / SIZE;
-    let mut p = none();
-    let mut i = 0;
-    while i < n {
-        let w = words_at(b, SIZE * i);
-        let step = step_from(w);
-        if same_words(words_of(step), w) {
-            p = push(p, step);
-        } else {
-            return none();
-        }
-        i += 1;
-    }
-    p
 }

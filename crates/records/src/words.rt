@@ -2,9 +2,12 @@
 use dates::date::Date;
 use dates::time::Time;
 use dates::units::RelativeSpecifier;
+use steps::plan::Move;
+use steps::plan::Start;
 use steps::plan::Step;
 ghost use mathlib.Core.Path.{_≡_};
-ghost use Rattle.records.specs.Words.{words, dateWords, weekWords, timeWords, direction, wordsOf, dateFrom, specifierFrom, timeFrom, stepFrom};
+ghost use Rattle.records.specs.Words.{words, dateWords, weekWords, startWords, direction, moveWords, timeWords, wordsOf};
+ghost use Rattle.records.specs.Words.{dateFrom, specifierFrom, timeFrom, stepFrom};
 
 // A record's kind, its form within the kind, and three numbers.
 pub struct Words {
@@ -82,26 +85,44 @@ fn direction(back: bool) -> u32
     0
 }
 
-// A step as numbers.
-pub fn words_of(step: Step) -> Words
-    ensures { λ r. ⌜ r ≡ wordsOf step ⌝ }
+// A start as numbers.
+fn start_words(start: Start) -> Words
+    ensures { λ r. ⌜ r ≡ startWords start ⌝ }
 {
-    match step {
-        Step::Now => numbers(1, 0, 0, 0, 0),
-        Step::Senseless => numbers(2, 0, 0, 0, 0),
-        Step::OnDate(date) => date_words(date),
-        Step::InWeek(s, w) => week_words(s, w),
-        Step::FromToday(w) => numbers(5, 0, w, 0, 0),
-        Step::Minutes { back, count } => numbers(
+    match start {
+        Start::Now => numbers(1, 0, 0, 0, 0),
+        Start::Senseless => numbers(2, 0, 0, 0, 0),
+        Start::OnDate(date) => date_words(date),
+        Start::InWeek(s, w) => week_words(s, w),
+        Start::FromToday(w) => numbers(5, 0, w, 0, 0),
+    }
+}
+
+// A move as numbers.
+fn move_words(way: Move) -> Words
+    ensures { λ r. ⌜ r ≡ moveWords way ⌝ }
+{
+    match way {
+        Move::Minutes { back, count } => numbers(
             6,
             direction(back),
             (count % WIDE) as u32,
             (count / WIDE) as u32,
             0,
         ),
-        Step::Months { back, count } => numbers(7, direction(back), count, 0, 0),
-        Step::Years { back, count } => numbers(8, direction(back), count, 0, 0),
-        Step::BackTo(w) => numbers(9, 0, w, 0, 0),
+        Move::Months { back, count } => numbers(7, direction(back), count, 0, 0),
+        Move::Years { back, count } => numbers(8, direction(back), count, 0, 0),
+        Move::BackTo(w) => numbers(9, 0, w, 0, 0),
+    }
+}
+
+// A step as numbers.
+pub(crate) fn words_of(step: Step) -> Words
+    ensures { λ r. ⌜ r ≡ wordsOf step ⌝ }
+{
+    match step {
+        Step::From(start) => start_words(start),
+        Step::By(way) => move_words(way),
         Step::AtTime(time) => time_words(time),
     }
 }
@@ -148,7 +169,7 @@ fn time_from(form: u32, a: u32, b: u32) -> Time
 }
 
 // The only step that may have these numbers.
-pub fn step_from(w: Words) -> Step
+pub(crate) fn step_from(w: Words) -> Step
     ensures { λ r. ⌜ r ≡ stepFrom w ⌝ }
 {
     let kind = w.kind;
@@ -157,18 +178,18 @@ pub fn step_from(w: Words) -> Step
     let b = w.b;
     let back = form == 1;
     match kind {
-        2 => Step::Senseless,
-        3 => Step::OnDate(date_from(form, a, b, w.c)),
-        4 => Step::InWeek(specifier_from(form), a),
-        5 => Step::FromToday(a),
-        6 => Step::Minutes {
+        2 => Step::From(Start::Senseless),
+        3 => Step::From(Start::OnDate(date_from(form, a, b, w.c))),
+        4 => Step::From(Start::InWeek(specifier_from(form), a)),
+        5 => Step::From(Start::FromToday(a)),
+        6 => Step::By(Move::Minutes {
             back,
             count: (a as u64) + WIDE * (b as u64),
-        },
-        7 => Step::Months { back, count: a },
-        8 => Step::Years { back, count: a },
-        9 => Step::BackTo(a),
+        }),
+        7 => Step::By(Move::Months { back, count: a }),
+        8 => Step::By(Move::Years { back, count: a }),
+        9 => Step::By(Move::BackTo(a)),
         10 => Step::AtTime(time_from(form, a, b)),
-        _ => Step::Now,
+        _ => Step::From(Start::Now),
     }
 }

@@ -5,14 +5,7 @@ use Rattle.evaluation.proofs.date.date_at.Reads as date-at'
 use Rattle.evaluation.proofs.expr.is_year.Reads as is-year'
 use Rattle.evaluation.proofs.expr.is_week.Reads as is-week'
 use Rattle.evaluation.proofs.expr.is_month_and_day.Reads as is-month-and-day'
-use Rattle.evaluation.proofs.expr.expr_at.Reads as expr-at'
 use Rattle.evaluation.proofs.reading.evaluate.Reads as evaluate'
-use Rattle.evaluation.proofs.step.outcome.Reads as outcome'
-use Rattle.evaluation.proofs.step.minutes_step.Reads as minutes-step'
-use Rattle.evaluation.proofs.step.months_step.Reads as months-step'
-use Rattle.evaluation.proofs.step.years_step.Reads as years-step'
-use Rattle.evaluation.proofs.step.unit_step.Reads as unit-step'
-use Rattle.evaluation.proofs.step.duration_step.Reads as duration-step'
 use Rattle.evaluation.proofs.time.time_at.Reads as time-at'
 use Rattle.evaluation.proofs.weekday.in_week.Reads as in-week'
 use Rattle.evaluation.proofs.weekday.from_today.Reads as from-today'
@@ -30,29 +23,8 @@ is-week = same is-week'.Post _ _ (λ κs a z e p. p)
 pub is-month-and-day : Settled is-month-and-day'.Post
 is-month-and-day = same is-month-and-day'.Post _ _ (λ κs a z e p. p)
 
-pub expr-at : Settled expr-at'.Post
-expr-at = through expr-at'.Post _ (λ κs. reached-one) (same expr-at'.Post _ _ (λ κs a z e p. p .0))
-
 pub evaluate : Settled evaluate'.Post
 evaluate = through evaluate'.Post _ (λ κs. reached-one) (same evaluate'.Post _ _ (λ κs a z e p. p .0))
-
-pub outcome : Settled outcome'.Post
-outcome = through outcome'.Post _ (λ κs. reached-one) (same outcome'.Post _ _ (λ κs a z e p. p))
-
-pub minutes-step : Settled minutes-step'.Post
-minutes-step = through minutes-step'.Post _ (λ κs. reached-one) (same minutes-step'.Post _ _ (λ κs a z e p. p .0))
-
-pub months-step : Settled months-step'.Post
-months-step = through months-step'.Post _ (λ κs. reached-one) (same months-step'.Post _ _ (λ κs a z e p. p .0))
-
-pub years-step : Settled years-step'.Post
-years-step = through years-step'.Post _ (λ κs. reached-one) (same years-step'.Post _ _ (λ κs a z e p. p .0))
-
-pub unit-step : Settled unit-step'.Post
-unit-step = through unit-step'.Post _ (λ κs. reached-one) (same unit-step'.Post _ _ (λ κs a z e p. p .0))
-
-pub duration-step : Settled duration-step'.Post
-duration-step = through duration-step'.Post _ (λ κs. reached-one) (same duration-step'.Post _ _ (λ κs a z e p. p .0))
 
 pub time-at : Settled time-at'.Post
 time-at = through time-at'.Post _ (λ κs. reached-one) (same time-at'.Post _ _ (λ κs a z e p. p .0))

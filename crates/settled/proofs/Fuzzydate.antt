@@ -8,7 +8,7 @@ pub fuzzy-read : Settled fuzzy-read'.Post × Same fuzzy-read'.Post (λ κs z e. 
 fuzzy-read = (same fuzzy-read'.Post _ _ (λ κs a z e p. p .0), same fuzzy-read'.Post _ _ (λ κs a z e p. p .1))
 
 pub fuzzy-make-ready : Settled fuzzy-make-ready'.Post × Same fuzzy-make-ready'.Post (λ κs z e. e .1 .0 .now)
-fuzzy-make-ready = (same fuzzy-make-ready'.Post _ _ (λ κs a z e p. p .0), same fuzzy-make-ready'.Post _ _ (λ κs a z e p. p .1 .0))
+fuzzy-make-ready = (same fuzzy-make-ready'.Post _ _ (λ κs a z e p. p .0), same fuzzy-make-ready'.Post _ _ (λ κs a z e p. p .1))
 
 pub fuzzy-run : Settled fuzzy-run'.Post × Same fuzzy-run'.Post (λ κs z e. e .1 .1 .1 .1 .1 .1 .1 .0 .now)
 fuzzy-run = (same fuzzy-run'.Post _ _ (λ κs a z e p. p .0), same fuzzy-run'.Post _ _ (λ κs a z e p. p .1))

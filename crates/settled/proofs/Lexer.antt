@@ -12,8 +12,12 @@ token-at = same token-at'.Post _ _ (λ κs a z e p. p)
 pub refuse : Settled refuse'.Post
 refuse = same refuse'.Post _ _ (λ κs a z e p. p)
 
-pub lex : Settled lex'.Post
-lex = same lex'.Post _ _ (λ κs a z e p. p .0)
+pub lex : Settled lex'.Post × Same lex'.Post (λ κs z e. e .1 .0 .now) × Same lex'.Post (λ κs z e. e .1 .1 .0 .now)
+lex = (
+  same lex'.Post _ _ (λ κs a z e p. p .0),
+  same lex'.Post _ _ (λ κs a z e p. p .1 .0),
+  same lex'.Post _ _ (λ κs a z e p. p .1 .1 .0),
+)
 
 pub part : Same part'.Post (λ κs z e. z .now) × Same part'.Post (λ κs z e. z .ptr)
 part = (same part'.Post _ _ (λ κs a z e p. p .0), same part'.Post _ _ (λ κs a z e p. p .1))

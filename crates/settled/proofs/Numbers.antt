@@ -3,7 +3,6 @@ use Rattle.settled.proofs.Settled.{Same, Settled, same}
 use Rattle.numbers.proofs.num.Reads as num'
 use Rattle.numbers.proofs.slices.get.Reads as get'
 use Rattle.numbers.proofs.slices.is_at.Reads as is-at'
-use Rattle.numbers.proofs.slices.one_if.Reads as one-if'
 use Rattle.numbers.proofs.slices.take_if.Reads as take-if'
 use Rattle.numbers.proofs.slices.rest.Reads as rest'
 use Rattle.numbers.proofs.slices.is_within.Reads as is-within'
@@ -16,9 +15,6 @@ get = same get'.Post _ _ (λ κs a z e p. p .0)
 
 pub is-at : Settled is-at'.Post
 is-at = same is-at'.Post _ _ (λ κs a z e p. p .0)
-
-pub one-if : Settled one-if'.Post
-one-if = same one-if'.Post _ _ (λ κs a z e p. p .0)
 
 pub take-if : Settled take-if'.Post
 take-if = same take-if'.Post _ _ (λ κs a z e p. p .0)

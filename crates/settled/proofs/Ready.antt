@@ -1,10 +1,6 @@
 -- The promises of `ready`. Assumes nothing.
 use Rattle.settled.proofs.Settled.{Settled, same}
 use Rattle.ready.proofs.make_ready.Reads as make-ready'
-use Rattle.ready.proofs.make.plan_of.Reads as plan-of'
 
 pub make-ready : Settled make-ready'.Post
 make-ready = same make-ready'.Post _ _ (λ κs a z e p. p)
-
-pub plan-of : Settled plan-of'.Post
-plan-of = same plan-of'.Post _ _ (λ κs a z e p. p)

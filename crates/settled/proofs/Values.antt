@@ -1,11 +1,9 @@
 -- The definitions by which promises speak of enums are different for different answers: each has a way back. Assumes nothing.
 use mathlib.Core.Path.{_≡_, refl, sym, ap, _∙_}
-use mathlib.Core.Bool.{cond}
-use lib.Dec.{eqb}
 use Prim.Native.Nat.{ℕ}
-use Rattle.calendar.specs.Moments.{Outcome, moment, refused, outcomeOf}
-use Rattle.calendar.specs.declared.Step.{Step}
-use Rattle.calendar.specs.declared.Step.the-variants.{At as StepAt, Outside, NoDay}
+use Rattle.calendar.specs.Moments.{Outcome, moment, refused, reachedOf}
+use Rattle.calendar.specs.declared.moments.Reached.{Reached}
+use Rattle.calendar.specs.declared.moments.Reached.the-variants.{At, Refused}
 use Rattle.numbers.specs.declared.Found.{Found}
 use Rattle.numbers.specs.declared.Found.the-variants.{Is as IsNumber, Nothing as NoNumber, Overflow as NumberOver}
 use Rattle.dates.specs.Parsed.{Parsed, is, nothing, overflow, parsedNumber}
@@ -20,9 +18,6 @@ use Rattle.dates.specs.declared.units.UnitFound.{UnitFound}
 use Rattle.dates.specs.declared.units.UnitFound.the-variants.{Is as IsUnit, Nothing as NoUnit}
 use Rattle.dates.specs.declared.units.SpecifierFound.{SpecifierFound}
 use Rattle.dates.specs.declared.units.SpecifierFound.the-variants.{Is as IsSpecifier, Nothing as NoSpecifier}
-use Rattle.evaluation.specs.Steps.{reachedOf}
-use Rattle.evaluation.specs.declared.step.Reached.{Reached}
-use Rattle.evaluation.specs.declared.step.Reached.the-variants.{At, Refused}
 use Rattle.answer.specs.Answer.{Answer, at, refusedAt, answerFrom}
 use Rattle.answer.specs.declared.Answered.{Answered}
 use Rattle.answer.specs.declared.Answered.the-variants.{At as AnsweredAt, Refused as AnsweredRefused}
@@ -33,18 +28,6 @@ use Rattle.dates.specs.declared.units.RelativeSpecifier.{RelativeSpecifier}
 
 given-back : {A B : Type 0} (value : A → B) (back : B → A) → ((x : A) → back (value x) ≡ x) → (x y : A) → value x ≡ value y → x ≡ y
 given-back value back known x y e = sym (known x) ∙ ap back e ∙ known y
-
-abbrev stepOf : Outcome → Step
-stepOf (moment t) = StepAt t
-stepOf (refused k) = cond (eqb k 12) Outside NoDay
-
-step-back : (x : Step) → stepOf (outcomeOf x) ≡ x
-step-back (StepAt t) = refl
-step-back Outside = refl
-step-back NoDay = refl
-
-pub step-one : (x y : Step) → outcomeOf x ≡ outcomeOf y → x ≡ y
-step-one = given-back outcomeOf stepOf step-back
 
 abbrev numberOf : Parsed ℕ → Found
 numberOf (is v t) = IsNumber v t

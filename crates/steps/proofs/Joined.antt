@@ -2,64 +2,63 @@
 use Prim.Native.Nat.{ℕ, suc, _+_, _≤_, _<_}
 use native.Mathlib.Omega.{arith}
 use mathlib.Core.Path.{_≡_, refl, ap, sym, _∙_}
-use mathlib.Core.Bool.{Bool, true, false, cond}
+use mathlib.Core.Bool.{Bool, true, false, cond, Bool·beq}
 use mathlib.Core.List.{List, [], _∷_}
 use lib.ListN.{length}
 use Rattle.calendar.specs.Moments.{Outcome, moment, refused, andThen}
-use Rattle.calendar.specs.declared.Moment.{Moment}
-use Rattle.calendar.proofs.Steps.{later-later, earlier-earlier}
+use Rattle.calendar.specs.declared.moments.Moment.{Moment}
+use Rattle.calendar.proofs.Steps.{minutes-twice}
 use Rattle.numbers.specs.Slices.{oneIf}
-use Rattle.evaluation.specs.Steps.{minutesStep}
-use Rattle.evaluation.proofs.Laws.{then-same, then-moment}
-use Rattle.steps.specs.Joining.{joinOf, joined, addStep, areApart, allApart}
+use Rattle.calendar.specs.Moments.{minutesStep}
+use Rattle.calendar.proofs.Outcomes.{then-same, then-moment}
+use Rattle.steps.specs.Joining.{refuses, fixedOf, together, joinOf, joined, addStep, areApart, allApart}
 use Rattle.steps.specs.Running.{actOf, walkOf, isStart, isTimeStep, countOf, starts, times}
+use Rattle.steps.specs.declared.plan.Start.the-variants.{Now, Senseless, OnDate, InWeek, FromToday}
+use Rattle.steps.specs.declared.plan.Move.the-variants.{Minutes, Months, Years, BackTo}
 use Rattle.steps.specs.declared.plan.Step.{Step}
-use Rattle.steps.specs.declared.plan.Step.the-variants.{Now, Senseless, OnDate, InWeek, FromToday, Minutes, Months, Years, BackTo, AtTime}
+use Rattle.steps.specs.declared.plan.Step.the-variants.{From, By, AtTime}
+use Rattle.steps.specs.declared.plan.Fixed.{Fixed}
+use Rattle.steps.specs.declared.plan.Fixed.the-variants.{Other, Length}
 use Rattle.steps.specs.declared.plan.Join.{Join}
 use Rattle.steps.specs.declared.plan.Join.the-variants.{Alone, Apart, One}
 
+-- a fixed length as a step
+abbrev pub minutes : Bool → ℕ → Step
+minutes back m = By (Minutes back m)
+
 -- what the last step of a list and one behind it can be
 pub data Meeting (x s : Step) : Type 0 where
-  refusal : x ≡ Senseless → joinOf x s ≡ Alone → Meeting x s
+  refusal : x ≡ From Senseless → joinOf x s ≡ Alone → Meeting x s
   apart : joinOf x s ≡ Apart → Meeting x s
-  lengths : (back : Bool) (m k : ℕ) → x ≡ Minutes back m → s ≡ Minutes back k → joinOf x s ≡ One back (m + k) → Meeting x s
+  lengths : (back : Bool) (m k : ℕ) → x ≡ minutes back m → s ≡ minutes back k → joinOf x s ≡ One back (m + k) → Meeting x s
 
-behind-minutes : (back : Bool) (m : ℕ) (s : Step) → Meeting (Minutes back m) s
-behind-minutes back m Now = apart refl
-behind-minutes back m Senseless = apart refl
-behind-minutes back m (OnDate d) = apart refl
-behind-minutes back m (InWeek r w) = apart refl
-behind-minutes back m (FromToday w) = apart refl
-behind-minutes true m (Minutes true k) = lengths true m k refl refl refl
-behind-minutes true m (Minutes false k) = apart refl
-behind-minutes false m (Minutes true k) = apart refl
-behind-minutes false m (Minutes false k) = lengths false m k refl refl refl
-behind-minutes back m (Months too k) = apart refl
-behind-minutes back m (Years too k) = apart refl
-behind-minutes back m (BackTo w) = apart refl
+behind-minutes : (back : Bool) (m : ℕ) (s : Step) → Meeting (minutes back m) s
+behind-minutes back m (From s) = apart refl
+behind-minutes true m (By (Minutes true k)) = lengths true m k refl refl refl
+behind-minutes true m (By (Minutes false k)) = apart refl
+behind-minutes false m (By (Minutes true k)) = apart refl
+behind-minutes false m (By (Minutes false k)) = lengths false m k refl refl refl
+behind-minutes back m (By (Months too k)) = apart refl
+behind-minutes back m (By (Years too k)) = apart refl
+behind-minutes back m (By (BackTo w)) = apart refl
 behind-minutes back m (AtTime time) = apart refl
 
 pub meeting : (x s : Step) → Meeting x s
-meeting Now s = apart refl
-meeting Senseless s = refusal refl refl
-meeting (OnDate d) s = apart refl
-meeting (InWeek r w) s = apart refl
-meeting (FromToday w) s = apart refl
-meeting (Minutes back m) s = behind-minutes back m s
-meeting (Months back k) s = apart refl
-meeting (Years back k) s = apart refl
-meeting (BackTo w) s = apart refl
+meeting (From Now) s = apart refl
+meeting (From Senseless) s = refusal refl refl
+meeting (From (OnDate d)) s = apart refl
+meeting (From (InWeek r w)) s = apart refl
+meeting (From (FromToday w)) s = apart refl
+meeting (By (Minutes back m)) s = behind-minutes back m s
+meeting (By (Months back k)) s = apart refl
+meeting (By (Years back k)) s = apart refl
+meeting (By (BackTo w)) s = apart refl
 meeting (AtTime time) s = apart refl
 
 -- of three steps the last two may be taken together
 pub then-assoc : (o : Outcome) (f g : Moment → Outcome) → andThen (andThen o f) g ≡ andThen o (λ t. andThen (f t) g)
 then-assoc (moment t) f g = refl
 then-assoc (refused k) f g = refl
-
--- two fixed lengths of one direction are one, with the same refusal
-minutes-twice : (back : Bool) (a b : ℕ) (t : Moment) → minutesStep back (a + b) t ≡ andThen (minutesStep back a t) (minutesStep back b)
-minutes-twice true a b t = sym (earlier-earlier a b t)
-minutes-twice false a b t = sym (later-later a b t)
 
 -- the last step and one behind it
 pair : {x s : Step} → Meeting x s → (n t : Moment) → walkOf (joined (joinOf x s) x s) n t ≡ andThen (actOf x n t) (actOf s n)
@@ -87,26 +86,25 @@ length-add (x ∷ []) s = joined-length (joinOf x s) x s
 length-add (x ∷ y ∷ ys) s = (omega arith, omega (arith, length-add (y ∷ ys) s))
 
 -- whether a step and a fixed length are apart does not depend on how long that is
-any-length : (w : Step) (back : Bool) (k m : ℕ) → areApart (joinOf w (Minutes back k)) ≡ areApart (joinOf w (Minutes back m))
-any-length Now back k m = refl
-any-length Senseless back k m = refl
-any-length (OnDate d) back k m = refl
-any-length (InWeek r w) back k m = refl
-any-length (FromToday w) back k m = refl
-any-length (Minutes true a) true k m = refl
-any-length (Minutes true a) false k m = refl
-any-length (Minutes false a) true k m = refl
-any-length (Minutes false a) false k m = refl
-any-length (Months b a) back k m = refl
-any-length (Years b a) back k m = refl
-any-length (BackTo w) back k m = refl
-any-length (AtTime time) back k m = refl
+any-length : (w : Step) (back : Bool) (k m : ℕ) → areApart (joinOf w (minutes back k)) ≡ areApart (joinOf w (minutes back m))
+any-length w back k m = by-test (refuses w) (fixedOf w)
+  where
+    one : (b too : Bool) (a : ℕ) → areApart (cond b (One too (a + k)) Apart) ≡ areApart (cond b (One too (a + m)) Apart)
+    one true too a = refl
+    one false too a = refl
+
+    by-test :
+        (b : Bool) (f : Fixed) →
+        areApart (cond b Alone (together f (Length back k))) ≡ areApart (cond b Alone (together f (Length back m)))
+    by-test true f = refl
+    by-test false Other = refl
+    by-test false (Length too a) = one (Bool·beq too back) too a
 
 -- the only step of a list, with another one in front of it
 front-one : (w : Step) {x s : Step} → Meeting x s → allApart (w ∷ x ∷ []) ≡ true → allApart (w ∷ joined (joinOf x s) x s) ≡ true
 front-one w (refusal e j) h = rw j h
 front-one w (apart j) h = rw (j, j) h
-front-one w (lengths back m k e f j) h = rw (j, any-length w back (m + k) m, ← (e)) h
+front-one w (lengths back m k e f j) h = rw (j, any-length w back (m + k) m) (rw e at h)
 
 -- the steps of a list, with another one in front of them
 front : (w x : Step) (ss : List Step) (s : Step) → allApart (w ∷ x ∷ ss) ≡ true → allApart (w ∷ addStep (x ∷ ss) s) ≡ true
@@ -129,7 +127,7 @@ apart-add (x ∷ []) s h = only (meeting x s)
 apart-add (x ∷ y ∷ ys) s h = front x y ys s h
 
 -- a step that is not of a kind leaves those of the kind as many as they are, where fixed lengths are not of it either
-module _ (isKind : Step → Bool) (no-length : (back : Bool) (k : ℕ) → isKind (Minutes back k) ≡ false) where
+module _ (isKind : Step → Bool) (no-length : (back : Bool) (k : ℕ) → isKind (minutes back k) ≡ false) where
   joined-count : {x s : Step} → Meeting x s → isKind s ≡ false → countOf isKind (joined (joinOf x s) x s) ≡ countOf isKind (x ∷ [])
   joined-count (refusal e j) h = rw j
   joined-count (apart j) h = rw (j, h)

@@ -1,3 +1,4 @@
 pub mod Joined
 pub mod Planned
 pub mod Listed
+pub mod Small

@@ -3,15 +3,15 @@ use Prim.Native.Nat.{ℕ, zero, suc, _+_, _-_, _≤_, _<_}
 use native.Mathlib.Omega.{arith}
 use mathlib.Core.Path.{_≡_, refl, ap, _∙_}
 use mathlib.Core.List.{List, [], _∷_, _++_, map}
-use borrow.Author.Tests.{le-leb}
 use lib.ListN.{length, set, getD, take}
 use Rattle.steps.specs.Joining.{joinOf, joined, addStep}
-use Rattle.steps.specs.Plans.{slot, stepIn, blankSlot, stepsIn, slotsOf, planOf, pushed, lastOf, addedBy, addTo}
+use Rattle.steps.specs.Plans.{hold, stepIn, blankHeld, stepsIn, slotsOf, planOf, pushed, lastOf, addedBy, addTo}
 use Rattle.steps.specs.declared.plan.Join.{Join}
 use Rattle.steps.specs.declared.plan.Join.the-variants.{Alone, Apart, One}
-use Rattle.steps.specs.declared.plan.Slot.{Slot}
+use Rattle.steps.specs.declared.plan.Held.{Held}
+use Rattle.steps.specs.declared.plan.Move.the-variants.{Minutes}
 use Rattle.steps.specs.declared.plan.Step.{Step}
-use Rattle.steps.specs.declared.plan.Step.the-variants.{Minutes}
+use Rattle.steps.specs.declared.plan.Step.the-variants.{By}
 
 -- the steps that were put in
 taken : (k : ℕ) (ss : List Step) → length ss ≤ k → map stepIn (take (length ss) (slotsOf k ss)) ≡ ss
@@ -23,7 +23,7 @@ taken (suc k) (s ∷ ss) h = ap (λ (l : List Step). s ∷ l) (taken k ss (omega
 -- a plan's list
 pub steps-in : (ss : List Step) → length ss ≤ 24 → stepsIn (planOf ss) ≡ ss
 unfolding planOf
-steps-in ss h = rw (le-leb (length ss) 24 h) (taken 24 ss h)
+steps-in ss h = taken 24 ss h
 
 -- the last step of a list that has one
 abbrev last : Step → List Step → Step
@@ -39,7 +39,7 @@ swapped x (y ∷ ys) s = x ∷ swapped y ys s
 abbrev grown : Join → Step → List Step → Step → List Step
 grown Alone x ss s = x ∷ ss
 grown Apart x ss s = (x ∷ ss) ++ (s ∷ [])
-grown (One back m) x ss s = swapped x ss (Minutes back m)
+grown (One back m) x ss s = swapped x ss (By (Minutes back m))
 
 grown-one : (j : Join) (x s : Step) → joined j x s ≡ grown j x [] s
 grown-one Alone x s = refl
@@ -55,20 +55,20 @@ add-grown : (x : Step) (ss : List Step) (s : Step) → addStep (x ∷ ss) s ≡ 
 add-grown x [] s = grown-one (joinOf x s) x s
 add-grown x (y ∷ ys) s = ap (λ (l : List Step). x ∷ l) (add-grown y ys s) ∙ grown-front (joinOf (last y ys) s) x y ys s
 
-last-slot : (k : ℕ) (x : Step) (ss : List Step) → length ss < k → getD (slotsOf k (x ∷ ss)) (length ss) blankSlot ≡ slot (last x ss)
-last-slot zero x ss h = absurd (omega arith)
-last-slot (suc k) x [] h = refl
-last-slot (suc k) x (y ∷ ys) h = last-slot k y ys (omega arith)
+last-held : (k : ℕ) (x : Step) (ss : List Step) → length ss < k → getD (slotsOf k (x ∷ ss)) (length ss) blankHeld ≡ hold (last x ss)
+last-held zero x ss h = absurd (omega arith)
+last-held (suc k) x [] h = refl
+last-held (suc k) x (y ∷ ys) h = last-held k y ys (omega arith)
 
-behind : (k : ℕ) (ss : List Step) (s : Step) → length ss < k → set (slotsOf k ss) (length ss) (slot s) ≡ slotsOf k (ss ++ (s ∷ []))
+behind : (k : ℕ) (ss : List Step) (s : Step) → length ss < k → set (slotsOf k ss) (length ss) (hold s) ≡ slotsOf k (ss ++ (s ∷ []))
 behind zero ss s h = absurd (omega arith)
 behind (suc k) [] s h = refl
-behind (suc k) (y ∷ ys) s h = ap (λ (l : List Slot). slot y ∷ l) (behind k ys s (omega arith))
+behind (suc k) (y ∷ ys) s h = ap (λ (l : List Held). hold y ∷ l) (behind k ys s (omega arith))
 
-in-place : (k : ℕ) (x : Step) (ss : List Step) (s : Step) → length ss < k → set (slotsOf k (x ∷ ss)) (length ss) (slot s) ≡ slotsOf k (swapped x ss s)
+in-place : (k : ℕ) (x : Step) (ss : List Step) (s : Step) → length ss < k → set (slotsOf k (x ∷ ss)) (length ss) (hold s) ≡ slotsOf k (swapped x ss s)
 in-place zero x ss s h = absurd (omega arith)
 in-place (suc k) x [] s h = refl
-in-place (suc k) x (y ∷ ys) s h = ap (λ (l : List Slot). slot x ∷ l) (in-place k y ys s (omega arith))
+in-place (suc k) x (y ∷ ys) s h = ap (λ (l : List Held). hold x ∷ l) (in-place k y ys s (omega arith))
 
 length-behind : (ss : List Step) (s : Step) → length (ss ++ (s ∷ [])) ≡ length ss + 1
 length-behind [] s = refl
@@ -91,11 +91,11 @@ unfolding planOf
 added-by Alone x ss s h = refl
 added-by Apart x ss s h = pushed-is (x ∷ ss) s (omega arith)
 added-by (One back m) x ss s h =
-    rw (less-one (length ss), in-place 24 x ss (Minutes back m) (omega arith), length-swapped x ss (Minutes back m))
+    rw (less-one (length ss), in-place 24 x ss (By (Minutes back m)) (omega arith), length-swapped x ss (By (Minutes back m)))
 
 last-of : (x : Step) (ss : List Step) → length ss < 24 → lastOf (planOf (x ∷ ss)) ≡ last x ss
 unfolding planOf
-last-of x ss h = rw (less-one (length ss), lastOf) (ap stepIn (last-slot 24 x ss h))
+last-of x ss h = rw (less-one (length ss), lastOf) (ap stepIn (last-held 24 x ss h))
 
 -- one step more on a plan is one step more on its list
 pub added : (x : Step) (ss : List Step) (s : Step) → length ss < 23 → addTo (planOf (x ∷ ss)) s ≡ planOf (addStep (x ∷ ss) s)

@@ -1,3 +1,4 @@
 pub mod Joining
 pub mod Running
 pub mod Plans
+pub mod Cases

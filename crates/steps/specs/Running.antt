@@ -4,28 +4,39 @@ use mathlib.Core.Bool.{Bool, true, false, cond, _&&_}
 use mathlib.Core.List.{List, [], _∷_}
 use lib.Dec.{leb, eqb}
 use lib.ListN.{length}
-use Rattle.calendar.specs.Moments.{Outcome, moment, refused, isMoment, andThen}
-use Rattle.calendar.specs.declared.Moment.{Moment}
+use Rattle.calendar.specs.Moments.{Outcome, moment, refused, isMoment, andThen, minutesStep, monthsStep, yearsStep}
+use Rattle.calendar.specs.declared.moments.Moment.{Moment}
 use Rattle.numbers.specs.Slices.{oneIf}
-use Rattle.evaluation.specs.Refusals.{NoNow, NoSense}
-use Rattle.evaluation.specs.Steps.{minutesStep, monthsStep, yearsStep}
+use Rattle.refusals.specs.Table as refusal
 use Rattle.evaluation.specs.Weekdays.{inWeek, fromToday, backTo}
 use Rattle.evaluation.specs.Dates.{dateAt}
 use Rattle.evaluation.specs.Times.{timeAt}
+use Rattle.steps.specs.declared.plan.Start.{Start}
+use Rattle.steps.specs.declared.plan.Start.the-variants.{Now, Senseless, OnDate, InWeek, FromToday}
+use Rattle.steps.specs.declared.plan.Move.{Move}
+use Rattle.steps.specs.declared.plan.Move.the-variants.{Minutes, Months, Years, BackTo}
 use Rattle.steps.specs.declared.plan.Step.{Step}
-use Rattle.steps.specs.declared.plan.Step.the-variants.{Now, Senseless, OnDate, InWeek, FromToday, Minutes, Months, Years, BackTo, AtTime}
+use Rattle.steps.specs.declared.plan.Step.the-variants.{From, By, AtTime}
 
--- "start (now, a date rule, or refusal 9), fixed length, months, years, back to a weekday, time of day": a step from t, at the now n
+-- "start (now, a date rule, or refusal 9)", from t
+abbrev pub startAt : Start → Moment → Outcome
+startAt Now t = moment t
+startAt Senseless t = refused refusal.NoSense
+startAt (OnDate d) t = dateAt d t
+startAt (InWeek s w) t = inWeek s (w % 7) t
+startAt (FromToday w) t = fromToday (w % 7) t
+
+-- "fixed length, months, years, back to a weekday", from t
+abbrev pub moveBy : Move → Moment → Outcome
+moveBy (Minutes back k) t = minutesStep back k t
+moveBy (Months back k) t = monthsStep back k t
+moveBy (Years back k) t = yearsStep back k t
+moveBy (BackTo w) t = backTo (w % 7) t
+
+-- these, or the "time of day": a step from t, at the now n
 abbrev pub actOf : Step → Moment → Moment → Outcome
-actOf Now n t = moment t
-actOf Senseless n t = refused NoSense
-actOf (OnDate d) n t = dateAt d t
-actOf (InWeek s w) n t = inWeek s (w % 7) t
-actOf (FromToday w) n t = fromToday (w % 7) t
-actOf (Minutes back k) n t = minutesStep back k t
-actOf (Months back k) n t = monthsStep back k t
-actOf (Years back k) n t = yearsStep back k t
-actOf (BackTo w) n t = backTo (w % 7) t
+actOf (From s) n t = startAt s t
+actOf (By m) n t = moveBy m t
 actOf (AtTime time) n t = timeAt time n t
 
 -- the steps in order, up to the first refusal
@@ -33,43 +44,30 @@ abbrev pub walkOf : List Step → Moment → Moment → Outcome
 walkOf [] n t = moment t
 walkOf (s ∷ ss) n t = andThen (actOf s n t) (walkOf ss n)
 
--- "start (now, a date rule, or refusal 9)"
+-- whether a step is a start
 abbrev pub isStart : Step → Bool
-isStart Now = true
-isStart Senseless = true
-isStart (OnDate d) = true
-isStart (InWeek s w) = true
-isStart (FromToday w) = true
-isStart (Minutes back k) = false
-isStart (Months back k) = false
-isStart (Years back k) = false
-isStart (BackTo w) = false
+isStart (From s) = true
+isStart (By m) = false
 isStart (AtTime time) = false
 
--- "time of day"
+-- whether it is the time of day
 abbrev pub isTimeStep : Step → Bool
-isTimeStep Now = false
-isTimeStep Senseless = false
-isTimeStep (OnDate d) = false
-isTimeStep (InWeek s w) = false
-isTimeStep (FromToday w) = false
-isTimeStep (Minutes back k) = false
-isTimeStep (Months back k) = false
-isTimeStep (Years back k) = false
-isTimeStep (BackTo w) = false
+isTimeStep (From s) = false
+isTimeStep (By m) = false
 isTimeStep (AtTime time) = true
 
--- "one for a dated start and none for now"; a refusal start needs none
+-- the time steps that a start needs: "one for a dated start and none for now"; a refusal needs none
+abbrev pub timesFrom : Start → ℕ
+timesFrom Now = 0
+timesFrom Senseless = 0
+timesFrom (OnDate d) = 1
+timesFrom (InWeek s w) = 1
+timesFrom (FromToday w) = 1
+
+-- and a first step
 abbrev pub timesDue : Step → ℕ
-timesDue Now = 0
-timesDue Senseless = 0
-timesDue (OnDate d) = 1
-timesDue (InWeek s w) = 1
-timesDue (FromToday w) = 1
-timesDue (Minutes back k) = 0
-timesDue (Months back k) = 0
-timesDue (Years back k) = 0
-timesDue (BackTo w) = 0
+timesDue (From s) = timesFrom s
+timesDue (By m) = 0
 timesDue (AtTime time) = 0
 
 -- how many steps of a list are of a kind
@@ -97,4 +95,4 @@ isList ss = leb (length ss) 24 && isFormed ss
 
 -- 8, then 9, then the steps
 unfoldable pub runOf : List Step → Moment → Outcome
-runOf ss n = cond (isMoment n) (cond (isList ss) (walkOf ss n n) (refused NoSense)) (refused NoNow)
+runOf ss n = cond (isMoment n) (cond (isList ss) (walkOf ss n n) (refused refusal.NoSense)) (refused refusal.NoNow)

@@ -10,8 +10,8 @@ use lib.Seq.{take-all, take-take}
 use borrow.Author.Tests.{leb-true, leb-false, lt-leb}
 use Rattle.lexer.specs.Keywords.{keywords}
 use Rattle.lexer.specs.Lex.{lexed}
-use Rattle.lexer.specs.Refusals.{TooLong}
-use Rattle.calendar.specs.declared.Moment.{Moment}
+use Rattle.refusals.specs.Table as refusal
+use Rattle.calendar.specs.declared.moments.Moment.{Moment}
 use Rattle.phrase.specs.Read.{readOf}
 use Rattle.text.specs.Answers.{refusedAt, answerOf}
 use Rattle.text.specs.Nows.{ofForm, nowForm, noNow, nowOf}
@@ -44,7 +44,7 @@ alike-kept l m e = go (leb (length l) 256) refl
         long many (omega arith)
 
 -- "phrase longer than 256 bytes" is refusal 1 at every now
-pub too-long : (l : List ℕ) (n : Moment) → 256 < length l → answerOf keywords l n ≡ refusedAt TooLong 0 0
+pub too-long : (l : List ℕ) (n : Moment) → 256 < length l → answerOf keywords l n ≡ refusedAt refusal.TooLong 0 0
 unfolding answerOf readOf lexed
 too-long l n h = rw (lt-leb (length l) 256 h)
 

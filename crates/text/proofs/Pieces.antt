@@ -7,7 +7,7 @@ use mathlib.Core.List.{List, [], _∷_, _++_, append-nil, append-assoc}
 use lib.Dec.{eqb}
 use lib.ListN.{drop, take-append-drop}
 use lib.Seq.{append-snoc}
-use Rattle.calendar.specs.declared.Moment.{Moment}
+use Rattle.calendar.specs.declared.moments.Moment.{Moment}
 use Rattle.text.specs.Nows.{nowOf}
 use Rattle.text.specs.Lines.{feed, wholeFrom, restFrom, wholeOf, restOf, lastOf, linesOf}
 use Rattle.text.specs.Output.{answerLines, outputOf, output, kept, afterLine, linesText, afterLines, lastText}

@@ -11,7 +11,7 @@ use Rattle.lexer.specs.Classes.{isDigit}
 use Rattle.lexer.specs.Lex.{valueFrom}
 use Rattle.calendar.specs.Gregorian.{leapYear}
 use Rattle.calendar.specs.Moments.{IsMoment}
-use Rattle.calendar.specs.declared.Moment.{Moment}
+use Rattle.calendar.specs.declared.moments.Moment.{Moment}
 use Rattle.calendar.proofs.Months.{month}
 use Rattle.text.specs.Answers.{at}
 use Rattle.text.specs.Digits.{digitOf, digitsOf, widthIn, widthOf, decimalOf}

@@ -8,10 +8,10 @@ use lib.Seq.{sets}
 use borrow.Author.Tests.{le-leb, lt-leb}
 use Rattle.lexer.specs.Words.{bytesOf}
 use Rattle.lexer.specs.Keywords.{keywords}
-use Rattle.calendar.specs.declared.Moment.{Moment}
+use Rattle.calendar.specs.declared.moments.Moment.{Moment}
 use Rattle.text.specs.Answers.{Answer, at, refusedAt, answerOf}
 use Rattle.text.specs.Digits.{widthOf, decimalOf}
-use Rattle.text.specs.Texts.{refusalText, textOf, fitting, Written}
+use Rattle.text.specs.Texts.{refusalText, textOf, fitting}
 use Rattle.text.specs.Output.{answerLine}
 use Rattle.text.proofs.Stores.{sets-append}
 use Rattle.text.proofs.Widths.{digits-length, width-most}
@@ -57,9 +57,3 @@ module _ (room : ℕ) (s : List ℕ) where
 
   pub passes : room < length s → fitting room s ≡ []
   passes h = rw (lt-leb (length s) room h)
-
--- what is promised of a lent buffer settles the count and the whole content
-pub written-determined :
-    {s before : List ℕ} {r r' : ℕ} {after after' : List ℕ} →
-    Written s r before after → Written s r' before after' → (r ≡ r') × (after ≡ after')
-written-determined w v = (w .count ∙ sym (v .count), w .stored ∙ sym (v .stored))

@@ -4,18 +4,20 @@ use native.Mathlib.Nat.{zero-add}
 use native.Mathlib.Omega.{arith}
 use mathlib.Core.Path.{_≡_, refl, sym, _∙_}
 use mathlib.Core.List.{List, [], _∷_, _++_, append-nil, append-assoc}
-use lib.ListN.{length, take, drop, length-append, length-drop}
-use lib.Seq.{sets, length-sets}
+use lib.ListN.{length, take, drop, length-take, length-append, length-drop}
+use lib.Seq.{sets, length-sets, length-take-le}
 use Rattle.text.specs.Lines.{feed, wholeOf, restOf, lineAt}
-use Rattle.text.specs.Texts.{Added}
-use Rattle.text.specs.Output.{lineText, afterLine, linesText, afterLines, passedText, passed, Placed, lastText}
+use Rattle.text.specs.Texts.{Written, Added}
+use Rattle.text.specs.Output.{lineText, afterLine, linesText, afterLines, passedText, passed, Placed, kept, pieceOf, Held, lastText}
 use Rattle.text.specs.declared.line.Line.{Line}
 use Rattle.text.specs.declared.stream.Known.{Known}
 use Rattle.text.specs.declared.stream.Known.the-variants.{Nothing, Now}
 use Rattle.text.specs.declared.stream.Passed.{Passed}
+use Rattle.text.specs.declared.stream.Piece.{Piece}
 use Rattle.text.proofs.Stores.{sets-append}
 use Rattle.text.proofs.Spelled.{answer-limit}
 use Rattle.text.proofs.Cuts.{Open, Next}
+use Rattle.text.proofs.Takes.{drop-take}
 
 -- no bytes behind the last line feed are no line
 pub last-none : (k : Known) (l : List ℕ) → length l ≡ 0 → lastText k l ≡ []
@@ -114,3 +116,18 @@ module _ {k : Known} {s out₀ : List ℕ} where
           rw (leads, rest, place, text, was .counted),
           (record { within = within; rest = sym rest; few = omega arith }, rw (text, was .stored)),
         )
+
+-- the lines of a piece answered and its rest kept are the piece
+pub pieced :
+    (k : Known) {s s' : List ℕ} {end held : ℕ} {r : Passed} → end ≤ length s → r ≡ passed k (take end s) → Placed (take end s) r
+    → Written (kept (take (end - r .at) (drop (r .at) s))) held s s' →
+    let piece : Piece = record { known = r .known; held = held; count = r .count } in
+    (piece ≡ pieceOf k (take end s)) × (Held end piece × (s' ≡ sets s 0 (kept (restOf (take end s)))))
+unfolding passed pieceOf
+pieced k {s} {s'} {end} {held} {r} h told placed w =
+    let size : length (take end s) ≡ end = length-take-le end s h in
+    let within : r .at ≤ end = omega (arith, placed .within) in
+    let rest : take (end - r .at) (drop (r .at) s) ≡ restOf (take end s) = sym (drop-take (r .at) end s within) ∙ placed .rest in
+    let few : held ≤ 257 = rw (w .count, length-take) (omega arith) in
+    let inside : held ≤ end = rw (w .count, length-take, length-take, length-drop) (omega arith) in
+    (rw (w .count, rest, told), (record { few = few; within = inside; count = rw size at (placed .few) }, rw (w .stored, rest)))

@@ -8,7 +8,7 @@ use Rattle.lexer.specs.Keywords.{keywords}
 use Rattle.lexer.specs.Classes.{classOf, markOf}
 use Rattle.lexer.specs.Lex.{wordAt, tokenAt, lexed}
 use Rattle.phrase.specs.Read.{readOf}
-use Rattle.calendar.specs.declared.Moment.{Moment}
+use Rattle.calendar.specs.declared.moments.Moment.{Moment}
 use Rattle.text.specs.Answers.{Answer, at, refusedAt, momentOf, answerOf, starred, starred-as-listed}
 use Rattle.text.specs.Digits.{widthOf}
 use Rattle.text.specs.Nows.{nowOf}

@@ -7,7 +7,7 @@ use lib.Dec.{eqb}
 use Rattle.lexer.specs.Words.{bytesOf}
 use Rattle.lexer.specs.Classes.{isDigit}
 use Rattle.calendar.specs.Moments.{withDate, withTime}
-use Rattle.calendar.specs.declared.Moment.{Moment}
+use Rattle.calendar.specs.declared.moments.Moment.{Moment}
 use Rattle.text.specs.Digits.{twoAt}
 use Rattle.text.specs.Answers.{momentOf}
 

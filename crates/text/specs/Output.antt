@@ -4,7 +4,7 @@ use mathlib.Core.Path.{_≡_}
 use mathlib.Core.List.{List, [], _∷_, _++_}
 use lib.ListN.{length, take, drop}
 use Rattle.lexer.specs.Keywords.{keywords}
-use Rattle.calendar.specs.declared.Moment.{Moment}
+use Rattle.calendar.specs.declared.moments.Moment.{Moment}
 use Rattle.text.specs.Answers.{answerOf}
 use Rattle.text.specs.Nows.{nowOf}
 use Rattle.text.specs.Lines.{feed, wholeOf, restOf, lastOf, linesOf}
@@ -12,6 +12,7 @@ use Rattle.text.specs.Texts.{textOf}
 use Rattle.text.specs.declared.stream.Known.{Known}
 use Rattle.text.specs.declared.stream.Known.the-variants.{Nothing, Now}
 use Rattle.text.specs.declared.stream.Passed.{Passed}
+use Rattle.text.specs.declared.stream.Piece.{Piece}
 
 -- the answer to a phrase at a now, on a line of its own
 abbrev pub answerLine : Moment → List ℕ → List ℕ
@@ -68,6 +69,16 @@ pub record Placed (s : List ℕ) (r : Passed) : Type 0 where
 -- what is kept of a line that goes on: more than 256 bytes are refusal 1, whatever follows
 abbrev pub kept : List ℕ → List ℕ
 kept l = take 257 l
+
+-- a piece of the input, with what was kept in front of it: what is known behind its lines, how many bytes are kept, how many it adds
+unfoldable pub pieceOf : Known → List ℕ → Piece
+pieceOf k s = record { known = afterLines k (wholeOf s); held = length (kept (restOf s)); count = length (passedText k s) }
+
+-- what callers need of it for a piece of n bytes
+pub record Held (n : ℕ) (r : Piece) : Type 0 where
+  pub few : r .held ≤ 257
+  pub within : r .held ≤ n
+  pub count : r .count ≤ 53 * n
 
 -- what the bytes behind the last line feed, if any, add when the input ends
 unfoldable pub lastText : Known → List ℕ → List ℕ

@@ -8,7 +8,7 @@ use lib.Dec.{leb}
 use lib.ListN.{length}
 use lib.Seq.{sets}
 use Rattle.lexer.specs.Words.{bytesOf}
-use Rattle.calendar.specs.declared.Moment.{Moment}
+use Rattle.calendar.specs.declared.moments.Moment.{Moment}
 use Rattle.text.specs.Answers.{Answer, at, refusedAt}
 use Rattle.text.specs.Digits.{digitsOf, decimalOf}
 

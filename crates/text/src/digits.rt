@@ -13,7 +13,7 @@ fn digit(n: u64) -> u8
 }
 
 // How many digits a number has.
-pub fn width(n: u64) -> usize
+pub(crate) fn width(n: u64) -> usize
     ensures { λ r. ⌜ (r ≡ widthOf n) × (r ≤ 20) ⌝ }
 {
     let mut left: usize = 19;
@@ -29,7 +29,7 @@ pub fn width(n: u64) -> usize
 }
 
 // The last k digits of a number, written from a place on.
-pub fn put_digits(out: &mut [u8], at: usize, k: usize, n: u64)
+pub(crate) fn put_digits(out: &mut [u8], at: usize, k: usize, n: u64)
     requires { ⌜ at + k ≤ length (now out) ⌝ }
     ensures { λ _. ⌜ now (out .exit) ≡ sets (now (out .entry)) at (digitsOf k n) ⌝ }
 {
@@ -43,7 +43,7 @@ pub fn put_digits(out: &mut [u8], at: usize, k: usize, n: u64)
 }
 
 // A number with no zeros in front, written from a place on; the place behind it.
-pub fn put_number(out: &mut [u8], at: usize, n: u64) -> usize
+pub(crate) fn put_number(out: &mut [u8], at: usize, n: u64) -> usize
     requires { ⌜ at + widthOf n ≤ length (now out) ⌝ }
     ensures { λ r. ⌜ (r ≡ at + widthOf n) × (now (out .exit) ≡ sets (now (out .entry)) at (decimalOf n)) ⌝ }
 {

@@ -1,6 +1,6 @@
 // What the program `fuzzy` is made of, on slices: a first line as a now, the lines of a text, an answer as text.
 mod digits;
-pub mod line;
-pub mod now;
-pub mod spelling;
+mod line;
+mod now;
+mod spelling;
 pub mod stream;

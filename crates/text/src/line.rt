@@ -9,7 +9,7 @@ pub struct Line {
 }
 
 // The line that begins at a place; past the last byte it is empty.
-pub fn line_at(s: &[u8], at: usize) -> Line
+pub(crate) fn line_at(s: &[u8], at: usize) -> Line
     ensures { λ r. ⌜ r ≡ lineAt (now (s .entry)) at ⌝ }
 {
     let mut end = at;

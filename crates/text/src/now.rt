@@ -1,5 +1,5 @@
 // The first line of the input as a now.
-use calendar::Moment;
+use calendar::moments::Moment;
 ghost use mathlib.Core.Path.{_≡_};
 ghost use Prim.Native.Nat.{_+_, _-_, _≤_, _<_};
 ghost use lib.ListN.{length};
@@ -90,7 +90,7 @@ fn no_now() -> Moment
 }
 
 // A line `YYYY-MM-DD HH:MM:SS` as a now; one in another form is an invalid now.
-pub fn now_of(line: &[u8]) -> Moment
+pub(crate) fn now_of(line: &[u8]) -> Moment
     ensures { λ r. ⌜ r ≡ nowOf (now (line .entry)) ⌝ }
 {
     if of_form(b"0000-00-00 00:00:00", line) {

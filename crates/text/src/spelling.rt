@@ -4,7 +4,7 @@ use super::digits::put_number;
 use super::digits::width;
 use answer::Answered;
 use answer::answer;
-use calendar::Moment;
+use calendar::moments::Moment;
 ghost use mathlib.Core.Path.{_≡_};
 ghost use Prim.Native.Nat.{_+_, _≤_};
 ghost use lib.ListN.{length};
@@ -81,7 +81,7 @@ fn size(a: Answered) -> usize
 }
 
 // An answer, `2026-02-20 09:30:15` or `refused 7 at 1`, at the front of a lent buffer; the count, 0 where there is no room.
-pub fn write_answer(a: Answered, out: &mut [u8]) -> usize
+fn write_answer(a: Answered, out: &mut [u8]) -> usize
     ensures { λ r. ⌜ Written (fitting (length (now (out .entry))) (textOf (answerFrom a))) r (now (out .entry)) (now (out .exit)) ⌝ }
 {
     let n = size(a);
@@ -106,7 +106,7 @@ pub fn write_answer(a: Answered, out: &mut [u8]) -> usize
 }
 
 // The answer to a phrase at a now, on a line of its own, at the front of a lent buffer; the count.
-pub fn write_line(phrase: &[u8], t: Moment, out: &mut [u8]) -> usize
+pub(crate) fn write_line(phrase: &[u8], t: Moment, out: &mut [u8]) -> usize
     requires { ⌜ 53 ≤ length (now out) ⌝ }
     ensures { λ r. ⌜ Written (answerLine t (now (phrase .entry))) r (now (out .entry)) (now (out .exit)) ⌝ }
 {

@@ -2,13 +2,14 @@
 use super::line::line_at;
 use super::now::now_of;
 use super::spelling::write_line;
-use calendar::Moment;
+use calendar::moments::Moment;
 ghost use mathlib.Core.Path.{_≡_};
 ghost use Prim.Native.Nat.{_+_, _*_, _-_, _≤_, min};
 ghost use lib.ListN.{length, drop, take};
 ghost use lib.Seq.{sets};
 ghost use Rattle.text.specs.Texts.{Written, Added};
-ghost use Rattle.text.specs.Output.{lineText, afterLine, passedText, passed, Placed, kept, lastText};
+ghost use Rattle.text.specs.Lines.{restOf};
+ghost use Rattle.text.specs.Output.{lineText, afterLine, passedText, passed, Placed, kept, pieceOf, Held, lastText};
 
 // What is known of now: nothing until the first line has ended.
 pub enum Known {
@@ -20,6 +21,14 @@ pub enum Known {
 pub struct Passed {
     pub known: Known,
     pub at: usize,
+    pub count: usize,
+}
+
+// What is known behind the lines of a piece of the input, how many bytes are kept of the line that goes on, and how many bytes of output
+// there are.
+pub struct Piece {
+    pub known: Known,
+    pub held: usize,
     pub count: usize,
 }
 
@@ -45,7 +54,7 @@ fn write_next(k: Known, line: &[u8], out: &mut [u8], count: usize) -> usize
 }
 
 // What the lines that a line feed ends add to the output, at the front of a lent buffer.
-pub fn write_lines(k: Known, s: &[u8], out: &mut [u8]) -> Passed
+fn write_lines(k: Known, s: &[u8], out: &mut [u8]) -> Passed
     requires { ⌜ 53 * length (now s) ≤ length (now out) ⌝ }
     ensures { λ r. ⌜ r ≡ passed k (now (s .entry)) ⌝ }
     ensures bounds { λ r. ⌜ Placed (now (s .entry)) r ⌝ }
@@ -68,17 +77,6 @@ pub fn write_lines(k: Known, s: &[u8], out: &mut [u8]) -> Passed
     }
 }
 
-// What the bytes behind the last line feed, if any, add to the output when the input ends. The count.
-pub fn write_last(k: Known, rest: &[u8], out: &mut [u8]) -> usize
-    requires { ⌜ 53 ≤ length (now out) ⌝ }
-    ensures { λ r. ⌜ Written (lastText k (now (rest .entry))) r (now (out .entry)) (now (out .exit)) ⌝ }
-{
-    if rest.len() == 0 {
-        return 0;
-    }
-    write_next(k, rest, out, 0)
-}
-
 // The smaller of two numbers.
 fn least(a: usize, b: usize) -> usize
     ensures { λ r. ⌜ r ≡ min a b ⌝ }
@@ -87,7 +85,7 @@ fn least(a: usize, b: usize) -> usize
 }
 
 // Keeps of the bytes from `at` up to `end`, a line that goes on, at most 257 at the front: more is refusal 1, whatever follows. The count.
-pub fn keep(s: &mut [u8], at: usize, end: usize) -> usize
+fn keep(s: &mut [u8], at: usize, end: usize) -> usize
     requires { ⌜ (at ≤ end) × (end ≤ length (now s)) ⌝ }
     ensures { λ r. ⌜ Written (kept (take (end - at) (drop at (now (s .entry))))) r (now (s .entry)) (now (s .exit)) ⌝ }
 {
@@ -98,4 +96,34 @@ pub fn keep(s: &mut [u8], at: usize, end: usize) -> usize
         i += 1;
     }
     n
+}
+
+// The first `end` bytes of s: the answers to the lines that end there go to the front of `out`, and what is kept of the line that goes on
+// to the front of s.
+pub fn answer_piece(k: Known, s: &mut [u8], end: usize, out: &mut [u8]) -> Piece
+    requires { ⌜ (end ≤ length (now s)) × (53 * end ≤ length (now out)) ⌝ }
+    ensures { λ r. ⌜ r ≡ pieceOf k (take end (now (s .entry))) ⌝ }
+    ensures bounds { λ r. ⌜ Held end r ⌝ }
+    ensures input { λ _. ⌜ now (s .exit) ≡ sets (now (s .entry)) 0 (kept (restOf (take end (now (s .entry))))) ⌝ }
+    ensures output { λ _. ⌜ now (out .exit) ≡ sets (now (out .entry)) 0 (passedText k (take end (now (s .entry)))) ⌝ }
+{
+    let p = write_lines(k, &s[..end], out);
+    let known = p.known;
+    let held = keep(s, p.at, end);
+    Piece {
+        known,
+        held,
+        count: p.count,
+    }
+}
+
+// What the bytes behind the last line feed, if any, add to the output when the input ends. The count.
+pub fn write_last(k: Known, rest: &[u8], out: &mut [u8]) -> usize
+    requires { ⌜ 53 ≤ length (now out) ⌝ }
+    ensures { λ r. ⌜ Written (lastText k (now (rest .entry))) r (now (out .entry)) (now (out .exit)) ⌝ }
+{
+    if rest.len() == 0 {
+        return 0;
+    }
+    write_next(k, rest, out, 0)
 }

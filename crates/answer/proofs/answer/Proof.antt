@@ -2,7 +2,7 @@ use mathlib.Core.Path.{_≡_, ap, sym, _∙_}
 use mathlib.Core.Bool.{Bool}
 use denote.Ref.{now}
 use Rattle.calendar.specs.Moments.{isMoment}
-use Rattle.calendar.specs.declared.Moment.{Moment}
+use Rattle.calendar.specs.declared.moments.Moment.{Moment}
 use Rattle.calendar.proofs.Valid.{test-moment}
 use Rattle.phrase.specs.Flat.{treeOf}
 use Rattle.evaluation.specs.Evaluate.{evaluate}

@@ -7,7 +7,7 @@ use borrow.Author.Needs.{needs}
 use denote.Ref.{now}
 use lib.ListN.{length}
 use Rattle.console.specs.Turns.{start}
-use Rattle.console.proofs.Turns.{Going, going-on, standing}
+use Rattle.console.proofs.Turns.{Going, going-on, left-off, standing}
 use Rattle.console.proofs.answer_all.Statement.{statement}
 use Rattle.console.proofs.answer_all.Tie as tie
 
@@ -18,21 +18,21 @@ abbrev μ-loop : tie.MeasureT-loop
 μ-loop s₀ out₀ known₀ held₀ turns₀ s out known held turns = turns
 
 -- the buffers keep their lengths
-module _ (c : tie.After-answer-piece Inv-loop μ-loop) where
+module _ (c : tie.After-answer-next Inv-loop μ-loop) where
   abbrev at : tie.At-loop Inv-loop μ-loop
   at = c .before .before .before .before
 
-  input-size : length (c .answer-piece .last .1 .1 .0) ≡ length (now (at .before .before .before .args .s))
-  input-size = c .answer-piece .kept .1 .1 .0 ∙ at .loop .inv .input
+  input-size : length (c .answer-next .last .1 .1 .0) ≡ length (now (at .before .before .before .args .s))
+  input-size = c .answer-next .kept .1 .1 .0 ∙ at .loop .inv .input
 
-  output-size : length (c .answer-piece .last .1 .1 .1 .0) ≡ length (now (at .before .before .before .args .out))
-  output-size = c .answer-piece .kept .1 .1 .1 .0 ∙ at .loop .inv .output
+  output-size : length (c .answer-next .last .1 .1 .1 .0) ≡ length (now (at .before .before .before .args .out))
+  output-size = c .answer-next .kept .1 .1 .1 .0 ∙ at .loop .inv .output
 
 loop-holds : tie.Need-loop-holds Inv-loop μ-loop
 loop-holds c = record { reached = start; few = omega arith; input = refl; output = refl }
 
-answer-piece-requires : tie.Need-answer-piece-requires Inv-loop μ-loop
-answer-piece-requires c κs =
+answer-next-requires : tie.Need-answer-next-requires Inv-loop μ-loop
+answer-next-requires c κs =
     let inv = c .before .before .before .loop .inv in
     omega (arith, inv .few, inv .input, inv .output, c .before .before .before .before .before .before .pre)
 
@@ -49,8 +49,8 @@ loop-again : tie.Need-loop-again Inv-loop μ-loop
 loop-again c =
     let piece = c .before .before .before .before .before .before .before in
     let inv = at piece .loop .inv in
-    let kept = piece .answer-piece .kept in
-    going-on inv (rw (c .before .t .given .1) at (piece .answer-piece .ensures)) (kept .1 .1 .0) (kept .1 .1 .1 .0)
+    let kept = piece .answer-next .kept in
+    going-on inv (rw (c .before .t .given .1) at (piece .answer-next .ensures)) (kept .1 .1 .0) (kept .1 .1 .1 .0)
 
 enum-told : tie.Need-enum-told Inv-loop μ-loop
 enum-told c = search needs
@@ -65,24 +65,24 @@ returns : tie.Need-returns Inv-loop μ-loop
 returns c =
     let piece = c .before .before .before .before .before .before in
     let inv = at piece .loop .inv in
-    let told = rw (c .enum-told .given .1) at (piece .answer-piece .ensures) in
-    standing inv true (told .0) (piece .answer-piece .kept .1 .1 .0) (at piece .before .before .before .pre .0)
+    let told = rw (c .enum-told .given .1) at (piece .answer-next .ensures) in
+    standing inv true (told .0) (piece .answer-next .kept .1 .1 .0) (at piece .before .before .before .pre .0)
 
-enum-told-2 : tie.Need-enum-told-2 Inv-loop μ-loop
-enum-told-2 c = search needs
+enum-known-t-2 : tie.Need-enum-known-t-2 Inv-loop μ-loop
+enum-known-t-2 c = search needs
 
 same-length-3 : tie.Need-same-length-3 Inv-loop μ-loop
-same-length-3 c = input-size (c .before .before .before .before .before .before)
+same-length-3 c = input-size (c .before .before .before .before .before .before .before)
 
 same-length-4 : tie.Need-same-length-4 Inv-loop μ-loop
-same-length-4 c = output-size (c .before .before .before .before .before .before)
+same-length-4 c = output-size (c .before .before .before .before .before .before .before)
 
 returns-2 : tie.Need-returns-2 Inv-loop μ-loop
 returns-2 c =
-    let piece = c .before .before .before .before .before .before in
-    let inv = at piece .loop .inv in
-    let told = rw (c .enum-told2 .given .1) at (piece .answer-piece .ensures) in
-    standing inv false (told .front) (piece .answer-piece .kept .1 .1 .0) (at piece .before .before .before .pre .0)
+    let piece = c .before .before .before .before .before .before .before in
+    let kept = piece .answer-next .kept in
+    let next = going-on (at piece .loop .inv) (rw (c .before .t2 .given .1) at (piece .answer-next .ensures)) (kept .1 .1 .0) (kept .1 .1 .1 .0) in
+    left-off next false (at piece .before .before .before .pre .0)
 
 same-length-5 : tie.Need-same-length-5 Inv-loop μ-loop
 same-length-5 c = c .before .loop .inv .input
@@ -91,7 +91,7 @@ same-length-6 : tie.Need-same-length-6 Inv-loop μ-loop
 same-length-6 c = c .before .loop .inv .output
 
 returns-3 : tie.Need-returns-3 Inv-loop μ-loop
-returns-3 c = let inv = c .before .loop .inv in record { reached = inv .reached; within = omega (arith, inv .few, inv .input) }
+returns-3 c = left-off (c .before .loop .inv) false (c .before .before .before .before .pre .0)
 
 pub answer-all-spec : {M : Type 1} → statement M
 answer-all-spec =
@@ -100,7 +100,7 @@ answer-all-spec =
     Inv-loop
     μ-loop
     loop-holds
-    answer-piece-requires
+    answer-next-requires
     enum-known-t
     sub-turns
     loop-less
@@ -109,7 +109,7 @@ answer-all-spec =
     same-length
     same-length-2
     returns
-    enum-told-2
+    enum-known-t-2
     same-length-3
     same-length-4
     returns-2

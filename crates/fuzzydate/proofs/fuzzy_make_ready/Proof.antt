@@ -1,14 +1,14 @@
 use Prim.Native.Nat.{ℕ, _*_}
 use native.Mathlib.Omega.{arith}
-use mathlib.Core.Path.{_≡_, refl, ap, sym, _∙_, subst}
+use mathlib.Core.Path.{_≡_, ap, sym, _∙_}
 use mathlib.Core.List.{List}
 use lib.ListN.{length}
 use lib.Seq.{sets}
 use denote.Ref.{now}
 use Rattle.steps.specs.declared.plan.Step.{Step}
 use Rattle.ready.specs.Ready.{ReadyPhrase}
-use Rattle.records.specs.Records.{encodeOf, decodeOf}
-use Rattle.fuzzydate.specs.Called.{readyCode, readyAfter, ReadBack}
+use Rattle.records.specs.Records.{encodeOf}
+use Rattle.fuzzydate.specs.Called.{readyCode, readyAfter}
 use Rattle.fuzzydate.proofs.Made.{Holds, holds, Refuses, refuses}
 use borrow.Author.Needs.{needs}
 use Rattle.fuzzydate.proofs.fuzzy_make_ready.Statement.{statement}
@@ -43,17 +43,15 @@ returns c =
     let written = c .before .encode .ensures in
     let lent = c .before .before .before .before .before .before .before .args .ready .now in (
       ap (λ (k : ℕ). 4294967296 * (16 * k)) (made .count) ∙ sym (ap readyCode (made .is)),
-      (
-        written .0 ∙ ap (λ (ss : List Step). sets lent 0 (encodeOf ss)) (made .plan) ∙ sym (ap (λ (w : ReadyPhrase). readyAfter w lent) (made .is)),
-        subst ReadBack (sym (made .is)) (subst (λ ss. decodeOf (encodeOf ss) ≡ ss) (made .plan) (written .1)),
-      ),
+      written ∙ ap (λ (ss : List Step). sets lent 0 (encodeOf ss)) (made .plan)
+          ∙ sym (ap (λ (w : ReadyPhrase). readyAfter w lent) (made .is)),
     )
 
 refusal-requires : tie.Need-refusal-requires
 refusal-requires c κs = let part = refusal-of c .part in (part .start, part .most)
 
 returns-2 : tie.Need-returns-2
-returns-2 c = let same = refusal-of (c .before) .is in (rw same (c .refusal .ensures), (rw same (search needs), rw same refl))
+returns-2 c = let same = refusal-of (c .before) .is in (rw same (c .refusal .ensures), rw same (search needs))
 
 pub fuzzy-make-ready-spec : {M : Type 1} → statement M
 fuzzy-make-ready-spec =

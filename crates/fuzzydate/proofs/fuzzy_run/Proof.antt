@@ -1,10 +1,10 @@
 use native.Mathlib.Omega.{arith}
 use mathlib.Core.Path.{_≡_, ap, sym, _∙_}
 use denote.Ref.{now}
-use Rattle.calendar.specs.declared.Moment.{Moment}
+use Rattle.calendar.specs.declared.moments.Moment.{Moment}
 use Rattle.answer.specs.Answer.{momentOf}
-use Rattle.evaluation.specs.Steps.{reachedOf}
-use Rattle.evaluation.specs.declared.step.Reached.{Reached}
+use Rattle.calendar.specs.Moments.{reachedOf}
+use Rattle.calendar.specs.declared.moments.Reached.{Reached}
 use Rattle.steps.specs.Running.{runOf}
 use Rattle.records.specs.Records.{decodeOf}
 use borrow.Author.Needs.{needs}

@@ -41,17 +41,15 @@ use denote.Triple.Statement.{Contract, Triple}
 use denote.Triple.Table.{entered, cited}
 use denote.Triple.Walked.{says, Stays, stay-dropped, walkOf, ends-at}
 use denote.Exit.{yes}
-use Rattle.lexer.specs.Lex.{lineOf}
-use Rattle.lexer.specs.declared.lex.Line.{Line}
+use Rattle.lexer.specs.Keywords.{keywords}
+use Rattle.lexer.specs.Lex.{frontFrom}
 use Rattle.lexer.specs.declared.lex.Token.{Token}
-use Rattle.lexer.proofs.lex.Line as L
-use Rattle.lexer.proofs.lex.Line.Laws as L′
 use Rattle.lexer.proofs.lex.Token as S
 use Rattle.lexer.proofs.lex.Token.Laws as S′
 use Rattle.reader.specs.declared.Lexer.{Lexer}
 use Rattle.reader.specs.declared.gather.Gathered.{Gathered}
 use Rattle.reader.specs.Read.{newOf, nextOf, behindOf, taken}
-use Rattle.reader.specs.Gather.{nothing, joinedTo}
+use Rattle.reader.specs.Gather.{nothing, joinedTo, gatheredOf}
 use Rattle.reader.proofs.Turns.{Reading, begins, turned, stopped}
 use Rattle.reader.proofs.Walks.{Promise, meets, brings, told}
 use Rattle.reader.proofs.Held.{Phrase, α, Held, phrase-goes}
@@ -82,14 +80,9 @@ use Rattle.reader.proofs.read.Statement.{statement}
 abbrev stayed : Stays (read.ended .signature .params) (read.ended .kept)
 stayed = (stay-dropped Phrase yes, tt)
 
--- what was gathered stands in memory as its fields do, and the line in it is a line
+-- what was gathered stands in memory as its fields do
 lowered-is : (g : Gathered) (u : Val) → Is G.the-row g (u ∷ []) → u ≡ G′.lowered g
 lowered-is g u is = ap only (G′.lowers .val-is g (u ∷ []) is)
-
-line-is : (g : Gathered) → Is G.the-row g (G′.lowered g ∷ []) → Is L.the-row (g .line) (L′.lowered (g .line) ∷ [])
-line-is g is =
-    let field = LL.owed G.the-type G′.the-laws g (G′.lowered g ∷ []) is .1 .0 in
-    subst (Is L.the-row (g .line)) (L′.lowers .val-is (g .line) _ field) field
 
 -- the loop at the head of a turn: the reader, its machine value, what is gathered, and the turns to go at most
 record Turn (s : RefT (List ℕ)) (κ : Lft) : Type 0 where
@@ -99,7 +92,7 @@ record Turn (s : RefT (List ℕ)) (κ : Lft) : Type 0 where
   t : ℕ
   is-r : Is (Held (κ, tt)) r (u ∷ [])
   is-g : Is G.the-row g (G′.lowered g ∷ [])
-  reading : Reading (taken 64 (newOf s)) g r t
+  reading : Reading (taken 64 (newOf s)) (frontFrom keywords 64 (s .now) 0) g r t
 
 module _ {M : Type 1} (𝓤 : URA M) (H : Heap 𝓤) (A : Atoms 𝓤) (W : Given 𝓤 H A) (mem : Memory → SProp 𝓤) (run : Routine → Fun 𝓤) where
   -- the contracts of the functions that are called
@@ -146,12 +139,12 @@ module _ {M : Type 1} (𝓤 : URA M) (H : Heap 𝓤) (A : Atoms 𝓤) (W : Given
     gathered-typed : (g : Gathered) (u : Val) → Is G.the-row g (u ∷ []) → Holds (hasTy G′.mir u) × WT u
     gathered-typed g u is = LL.lawful G.the-type G′.the-laws 𝓤 H A W .typed g _ is .0
 
-    exits : (l : Line) → l ≡ lineOf (taken 64 (newOf s)) → Is L.the-row l (L′.lowered l ∷ [])
-        → ent 𝓤 (⋆ 𝓤 H A (raw (toks 𝓤 A 1 (κ, tt) (q, tt)) ∷ [])) (Post (L′.lowered l))
-    exits l e is =
+    exits : (g : Gathered) → g ≡ gatheredOf (taken 64 (newOf s)) (frontFrom keywords 64 (s .now) 0) → Is G.the-row g (G′.lowered g ∷ [])
+        → ent 𝓤 (⋆ 𝓤 H A (raw (toks 𝓤 A 1 (κ, tt) (q, tt)) ∷ [])) (Post (G′.lowered g))
+    exits g e is =
         qed W (raw (toks 𝓤 A 1 (κ, tt) (q, tt)) ∷ []) ∵
-        suffices ! _ (ends-at 𝓤 H A read.ended stayed (read.clauses 𝓤 H A mem run) W bound (L′.lowered l) l (tt, tt) (tt, tt)) $
-        says ! e $ frame ! $ none ! $ none ! $ fjoin ! $ frame ! $ owned ! L.the-row (Is L.the-row) (LL.makes L.the-type L′.the-plain 𝓤 H A) l _ is $ done !
+        suffices ! _ (ends-at 𝓤 H A read.ended stayed (read.clauses 𝓤 H A mem run) W bound (G′.lowered g) g (tt, tt) (tt, tt)) $
+        says ! e $ frame ! $ none ! $ none ! $ fjoin ! $ frame ! $ owned ! G.the-row (Is G.the-row) (LL.makes G.the-type G′.the-plain 𝓤 H A) g _ is $ done !
 
     -- what each call is passed
     abbrev to-new : New .Ghost
@@ -168,7 +161,7 @@ module _ {M : Type 1} (𝓤 : URA M) (H : Heap 𝓤) (A : Atoms 𝓤) (W : Given
 
     module _ (𝓣 : Tables 𝓤 H) (known : Known 𝓣) (l₀ l₁ l₂ l₃ l₄ l₅ l₆ l₇ : ℕ) where
       abbrev En : Env 𝓤 H
-      En = (L′.mir, l₀)
+      En = (G′.mir, l₀)
           ∷ (sliceTy (tyRef (named 0) imm (tyInt w8)), l₁)
           ∷ (T′.mir erased, l₂)
           ∷ (G′.mir, l₃)
@@ -189,7 +182,7 @@ module _ {M : Type 1} (𝓤 : URA M) (H : Heap 𝓤) (A : Atoms 𝓤) (W : Given
           ∷ g ∷ ‵ (fdies G′.mir l₃)
           ∷ ‵ (fat fullShare (T′.mir erased) l₂ 0 u) ∷ ‵ (fdies (T′.mir erased) l₂)
           ∷ ‵ (fat fullShare (sliceTy (tyRef (named 0) imm (tyInt w8))) l₁ 0 v) ∷ ‵ (fdies (sliceTy (tyRef (named 0) imm (tyInt w8))) l₁)
-          ∷ ‵ (froom L′.mir l₀ 0) ∷ ‵ (fdies L′.mir l₀)
+          ∷ ‵ (froom G′.mir l₀ 0) ∷ ‵ (fdies G′.mir l₀)
           ∷ []
 
       abbrev At : Turn s κ → List (Item 𝓤)
@@ -207,19 +200,18 @@ module _ {M : Type 1} (𝓤 : URA M) (H : Heap 𝓤) (A : Atoms 𝓤) (W : Given
           afterTurn 𝓤 H (Below 𝓤 H A Nearer At x)
           (afterBlock 𝓤 H (afterSeq 𝓤 H (Wp 𝓤 H (𝓣 .C) (𝓣 .Λ) En code.Mir.t-4 (atReturn 𝓤 H En Post)) (atReturn 𝓤 H En Post)))
 
-      -- the reading is over: the line is returned
+      -- the reading is over: what was gathered is returned
       leaves : (x : Turn s κ) → x .g .going ≡ false → Sq W (At x) (runs (𝓣 .C) (𝓣 .Λ) En code.Mir.turn-1 (anyQ (Turned x)))
       unfolding afterTurn
       leaves x off =
           assigns ! (of-opd ! (load ! (from ! (fld ! refl (stop !))) (look-in ! 10 (sub ! 0 refl (whole !))))) (from ! (stop !)) (init ! 6 refl (tt, tt)) $
           rewrite ! 6 (λ (b : Bool). ‵ (fat fullShare tyBool l₅ 0 (vbool b))) off refl $
           leaves-loop ! (load ! (from ! (stop !)) (look ! 6 refl)) $ exec ! (𝓣 .C) (𝓣 .Λ) En code.Mir.t-4 (atRet En Post) $
-          assigns ! (of-opd ! (load ! (from ! (fld ! refl (stop !))) (look-in ! 10 (sub ! 1 refl (whole !))))) (from ! (stop !))
-          (init ! 16 refl (LL.lawful L.the-type L′.the-laws 𝓤 H A W .typed (x .g .line) _ (line-is (x .g) (x .is-g)) .0)) $
+          assigns ! (of-opd ! (load ! (from ! (stop !)) (look ! 10 refl))) (from ! (stop !)) (init ! 16 refl (gathered-typed (x .g) _ (x .is-g))) $
           returns ! (look ! 16 refl) $ forget ! 6 refl $ forget ! 10 refl $ forget ! 12 refl $ forget ! 14 refl $ forget ! 16 refl $
           move ! (16 ∷ 17 ∷ []) $ free1 ! $ move ! (14 ∷ 15 ∷ []) $ free1 ! $ move ! (12 ∷ 13 ∷ []) $ free1 ! $ move ! (10 ∷ 11 ∷ []) $ free1 ! $
           move ! (8 ∷ 9 ∷ []) $ free1 ! $ move ! (6 ∷ 7 ∷ []) $ free1 ! $ move ! (4 ∷ 5 ∷ []) $ free1 ! $ move ! (2 ∷ 3 ∷ []) $ free1 ! $ free0 ! $
-          keep ! (1 ∷ []) $ by ! (exits (x .g .line) (stopped (x .reading) off) (line-is (x .g) (x .is-g)))
+          keep ! (1 ∷ []) $ by ! (exits (x .g) (stopped (x .reading) off) (x .is-g))
 
       -- the reading goes on: the next token is joined to what is gathered, and the reader moves behind it
       goes-on : (x : Turn s κ) → x .g .going ≡ true → Sq W (At x) (runs (𝓣 .C) (𝓣 .Λ) En code.Mir.turn-1 (anyQ (Turned x)))

@@ -4,8 +4,7 @@ use borrow.Author.Tests.{le-leb, lt-leb}
 use Rattle.numbers.proofs.Laws.{found as number-found}
 use Rattle.numbers.proofs.Places.{there}
 use Rattle.dates.specs.Dates.{behindSecondOf}
-use Rattle.dates.proofs.Laws.{number-arm, unread, promised}
-use Rattle.dates.proofs.Bounds.{behind-second-took}
+use Rattle.dates.proofs.Laws.{number-arm, unread}
 use borrow.Author.Needs.{needs}
 use Rattle.dates.proofs.date.behind_second.Statement.{statement}
 use Rattle.dates.proofs.date.behind_second.Tie as tie
@@ -15,7 +14,7 @@ unfolding behindSecondOf
 returns c =
     let entry = c .before .before in
     let l = entry .args .l .now in
-    promised (rw (le-leb (length l) (entry .args .t) (omega arith))) (behind-second-took _ _ _ _ l (entry .pre .0) (entry .pre .1))
+    rw (le-leb (length l) (entry .args .t) (omega arith))
 
 is-at-requires : tie.Need-is-at-requires
 is-at-requires c κs = search needs
@@ -42,14 +41,15 @@ returns-2 c =
     let l = entry .args .l .now in
     let is-at = c .before .before .before .before .before .is-at in
     let if2 = c .before .before .before .before .if2 in
-    let rest = c .before .before .before .rest in
     let num = c .before .before .num in
-    let arm = c .before .match in
     let room = there (is-at .ensures .1) (if2 .taken) in
-    promised
-    (rw (lt-leb (length l) (entry .args .t) (omega arith), ← (is-at .ensures .0), if2 .taken, ← (rest .ensures .0), ← (num .ensures .0))
-    (unread _ _ (number-arm (num .result) (arm .keys2)) (c .date-stopped .ensures)))
-    (behind-second-took _ _ _ _ l (entry .pre .0) (entry .pre .1))
+    rw (
+      lt-leb (length l) (entry .args .t) (omega arith),
+      ← (is-at .ensures .0),
+      if2 .taken,
+      ← (c .before .before .before .rest .ensures .0),
+      ← (num .ensures .0),
+    ) (unread _ _ (number-arm (num .result) (c .before .match .keys2)) (c .date-stopped .ensures))
 
 three-numbers-requires : tie.Need-three-numbers-requires
 three-numbers-requires c κs = search needs
@@ -59,9 +59,7 @@ add-t13 c = search needs
 
 add-t15 : tie.Need-add-t15
 add-t15 c =
-    let num = c .before .before .before .before .num in
-    let a = c .before .before .a in
-    let e = number-found (a .given .1) (num .ensures .1) in
+    let e = number-found (c .before .before .a .given .1) (c .before .before .before .before .num .ensures .1) in
     omega arith
 
 returns-3 : tie.Need-returns-3
@@ -71,21 +69,16 @@ returns-3 c =
     let l = entry .args .l .now in
     let is-at = c .before .before .before .before .before .before .before .is-at in
     let if2 = c .before .before .before .before .before .before .if2 in
-    let rest = c .before .before .before .before .before .rest in
-    let num = c .before .before .before .before .num in
-    let a = c .before .before .a in
     let room = there (is-at .ensures .1) (if2 .taken) in
-    promised
-    (rw (
+    rw (
       lt-leb (length l) (entry .args .t) (omega arith),
       ← (is-at .ensures .0),
       if2 .taken,
-      ← (rest .ensures .0),
-      ← (num .ensures .0),
-      a .given .1,
+      ← (c .before .before .before .before .before .rest .ensures .0),
+      ← (c .before .before .before .before .num .ensures .0),
+      c .before .before .a .given .1,
       ← (c .three-numbers .ensures),
-    ))
-    (behind-second-took _ _ _ _ l (entry .pre .0) (entry .pre .1))
+    )
 
 two-numbers-requires : tie.Need-two-numbers-requires
 two-numbers-requires c κs = search needs
@@ -95,11 +88,12 @@ unfolding behindSecondOf
 returns-4 c =
     let entry = c .before .before .before .before .before in
     let l = entry .args .l .now in
-    let is-at = c .before .before .is-at in
-    let if2 = c .before .if2 in
-    promised
-    (rw (lt-leb (length l) (entry .args .t) (omega arith), ← (is-at .ensures .0), if2 .left, ← (c .two-numbers .ensures)))
-    (behind-second-took _ _ _ _ l (entry .pre .0) (entry .pre .1))
+    rw (
+      lt-leb (length l) (entry .args .t) (omega arith),
+      ← (c .before .before .is-at .ensures .0),
+      c .before .if2 .left,
+      ← (c .two-numbers .ensures),
+    )
 
 pub behind-second-spec : {M : Type 1} → statement M
 behind-second-spec =

@@ -18,9 +18,7 @@ returns : tie.Need-returns
 unfolding dateOf
 returns c =
     let read-named-day = c .before .read-named-day in
-    promised
-    (rw (← (read-named-day .ensures .0)) (kept _ _ (date-arm (read-named-day .result) (c .match .keys2))))
-    (date-took _)
+    promised (rw (← (read-named-day .ensures)) (kept _ _ (date-arm (read-named-day .result) (c .match .keys2)))) (date-took _)
 
 num-requires : tie.Need-num-requires
 num-requires c κs = search needs
@@ -34,13 +32,12 @@ enum-told-2 c = search needs
 returns-2 : tie.Need-returns-2
 unfolding dateOf
 returns-2 c =
-    let read-named-day = c .before .before .before .before .before .read-named-day in
-    let enum-told = c .before .before .before .enum-told in
     let read-day-month-year = c .before .read-day-month-year in
-    promised
-    (rw (← (read-named-day .ensures .0), enum-told .given .1, ← (read-day-month-year .ensures .0))
-    (kept _ _ (date-arm (read-day-month-year .result) (c .match2 .keys2))))
-    (date-took _)
+    promised (rw (
+      ← (c .before .before .before .before .before .read-named-day .ensures),
+      c .before .before .before .enum-told .given .1,
+      ← (read-day-month-year .ensures),
+    ) (kept _ _ (date-arm (read-day-month-year .result) (c .match2 .keys2)))) (date-took _)
 
 read-month-requires : tie.Need-read-month-requires
 read-month-requires c κs = search needs
@@ -54,51 +51,34 @@ read-delimited-requires c κs = search needs
 returns-3 : tie.Need-returns-3
 unfolding dateOf
 returns-3 c =
-    let read-named-day = c .before .before .before .before .before .before .before .before .before .read-named-day in
-    let enum-told = c .before .before .before .before .before .before .before .enum-told in
-    let read-day-month-year = c .before .before .before .before .before .read-day-month-year in
-    let enum-told2 = c .before .before .before .enum-told2 in
     let read-month = c .before .before .read-month in
-    let arm3 = c .before .match3 in
-    promised
-    (rw (
-      ← (read-named-day .ensures .0),
-      enum-told .given .1,
-      ← (read-day-month-year .ensures .0),
-      enum-told2 .given .1,
+    promised (rw (
+      ← (c .before .before .before .before .before .before .before .before .before .read-named-day .ensures),
+      c .before .before .before .before .before .before .before .enum-told .given .1,
+      ← (c .before .before .before .before .before .read-day-month-year .ensures),
+      c .before .before .before .enum-told2 .given .1,
       ← (read-month .ensures .0),
-      month-none _ (read-month .ensures .0) (number-arm (read-month .result) (arm3 .keys2)),
-      ← (c .read-delimited .ensures .0),
-    ))
-    (date-took _)
+      month-none _ (read-month .ensures .0) (number-arm (read-month .result) (c .before .match3 .keys2)),
+      ← (c .read-delimited .ensures),
+    )) (date-took _)
 
 read-month-day-requires : tie.Need-read-month-day-requires
 read-month-day-requires c κs =
-    let read-month = c .before .before .before .read-month in
-    let month = c .before .month in
-    let b = found (ap parsedNumber (month .given .1)) (read-month .ensures .1) in
+    let b = found (ap parsedNumber (c .before .month .given .1)) (c .before .before .before .read-month .ensures .1) in
     omega arith
 
 returns-4 : tie.Need-returns-4
 unfolding dateOf
 returns-4 c =
-    let read-named-day = c .before .before .before .before .before .before .before .before .before .before .before .read-named-day in
-    let enum-told = c .before .before .before .before .before .before .before .before .before .enum-told in
-    let read-day-month-year = c .before .before .before .before .before .before .before .read-day-month-year in
-    let enum-told2 = c .before .before .before .before .before .enum-told2 in
-    let read-month = c .before .before .before .before .read-month in
-    let month = c .before .before .month in
-    promised
-    (rw (
-      ← (read-named-day .ensures .0),
-      enum-told .given .1,
-      ← (read-day-month-year .ensures .0),
-      enum-told2 .given .1,
-      ← (read-month .ensures .0),
-      month .given .1,
-      ← (c .read-month-day .ensures .0),
-    ))
-    (date-took _)
+    promised (rw (
+      ← (c .before .before .before .before .before .before .before .before .before .before .before .read-named-day .ensures),
+      c .before .before .before .before .before .before .before .before .before .enum-told .given .1,
+      ← (c .before .before .before .before .before .before .before .read-day-month-year .ensures),
+      c .before .before .before .before .before .enum-told2 .given .1,
+      ← (c .before .before .before .before .read-month .ensures .0),
+      c .before .before .month .given .1,
+      ← (c .read-month-day .ensures),
+    )) (date-took _)
 
 pub read-date-spec : {M : Type 1} → statement M
 read-date-spec =

@@ -3,8 +3,8 @@ use native.Mathlib.Omega.{arith}
 use Rattle.numbers.proofs.Laws.{found as number-found}
 use Rattle.dates.specs.Parsed.{parsedNumber}
 use Rattle.dates.specs.Dates.{dayMonthYearOf}
-use Rattle.dates.proofs.Laws.{number-arm, unread, found, promised}
-use Rattle.dates.proofs.Bounds.{month-none, day-month-year-took}
+use Rattle.dates.proofs.Laws.{number-arm, unread, found}
+use Rattle.dates.proofs.Bounds.{month-none}
 use borrow.Author.Needs.{needs}
 use Rattle.dates.proofs.date.read_day_month_year.Statement.{statement}
 use Rattle.dates.proofs.date.read_day_month_year.Tie as tie
@@ -19,16 +19,11 @@ returns : tie.Need-returns
 unfolding dayMonthYearOf
 returns c =
     let entry = c .before .before .before in
-    let arm = c .before .match in
-    promised
-    (rw (← (entry .pre .0)) (unread _ _ (number-arm (entry .args .a) (arm .keys2)) (c .date-stopped .ensures)))
-    (day-month-year-took _)
+    rw (← (entry .pre .0)) (unread _ _ (number-arm (entry .args .a) (c .before .match .keys2)) (c .date-stopped .ensures))
 
 rest-requires : tie.Need-rest-requires
 rest-requires c κs =
-    let entry = c .before .before .before .before in
-    let a = c .before .a in
-    let e = number-found (a .given .1) (entry .pre .1) in
+    let e = number-found (c .before .a .given .1) (c .before .before .before .before .pre .1) in
     omega arith
 
 read-month-requires : tie.Need-read-month-requires
@@ -40,34 +35,25 @@ enum-known-month c = search needs
 returns-2 : tie.Need-returns-2
 unfolding dayMonthYearOf
 returns-2 c =
-    let entry = c .before .before .before .before .before .before .before in
-    let a = c .before .before .before .before .a in
-    let rest = c .before .before .rest in
     let read-month = c .before .read-month in
-    promised
-    (rw (
-      ← (entry .pre .0),
-      a .given .1,
-      ← (rest .ensures .0),
+    rw (
+      ← (c .before .before .before .before .before .before .before .pre .0),
+      c .before .before .before .before .a .given .1,
+      ← (c .before .before .rest .ensures .0),
       ← (read-month .ensures .0),
       month-none _ (read-month .ensures .0) (number-arm (read-month .result) (c .match2 .keys2)),
-    ))
-    (day-month-year-took _)
+    )
 
 rest-requires-2 : tie.Need-rest-requires-2
 rest-requires-2 c κs =
     let entry = c .before .before .before .before .before .before .before .before .before in
-    let a = c .before .before .before .before .before .before .a in
-    let read-month = c .before .before .before .read-month in
-    let month = c .before .month in
-    let e = number-found (a .given .1) (entry .pre .1) in
-    let f = found (ap parsedNumber (month .given .1)) (read-month .ensures .1) in
+    let e = number-found (c .before .before .before .before .before .before .a .given .1) (entry .pre .1) in
+    let f = found (ap parsedNumber (c .before .month .given .1)) (c .before .before .before .read-month .ensures .1) in
     omega arith
 
 add-rest : tie.Need-add-rest
 add-rest c =
-    let entry = c .before .before .before .before .before .before .before .before .before in
-    let room = rest-requires-2 c (entry .κs) in
+    let room = rest-requires-2 c (c .before .before .before .before .before .before .before .before .before .κs) in
     omega arith
 
 num-requires : tie.Need-num-requires
@@ -82,26 +68,16 @@ date-stopped-requires-2 c κs = search needs
 returns-3 : tie.Need-returns-3
 unfolding dayMonthYearOf
 returns-3 c =
-    let entry = c .before .before .before .before .before .before .before .before .before .before .before .before .before in
-    let a = c .before .before .before .before .before .before .before .before .before .before .a in
-    let rest = c .before .before .before .before .before .before .before .before .rest in
-    let read-month = c .before .before .before .before .before .before .before .read-month in
-    let month = c .before .before .before .before .before .month in
-    let rest2 = c .before .before .before .rest2 in
     let num = c .before .before .num in
-    let arm3 = c .before .match3 in
-    promised
-    (rw (
-      ← (entry .pre .0),
-      a .given .1,
-      ← (rest .ensures .0),
-      ← (read-month .ensures .0),
-      month .given .1,
-      ← (rest2 .ensures .0),
+    rw (
+      ← (c .before .before .before .before .before .before .before .before .before .before .before .before .before .pre .0),
+      c .before .before .before .before .before .before .before .before .before .before .a .given .1,
+      ← (c .before .before .before .before .before .before .before .before .rest .ensures .0),
+      ← (c .before .before .before .before .before .before .before .read-month .ensures .0),
+      c .before .before .before .before .before .month .given .1,
+      ← (c .before .before .before .rest2 .ensures .0),
       ← (num .ensures .0),
-    )
-    (unread _ _ (number-arm (num .result) (arm3 .keys2)) (c .date-stopped2 .ensures)))
-    (day-month-year-took _)
+    ) (unread _ _ (number-arm (num .result) (c .before .match3 .keys2)) (c .date-stopped2 .ensures))
 
 add-t13 : tie.Need-add-t13
 add-t13 c = search needs
@@ -110,7 +86,6 @@ add-t15 : tie.Need-add-t15
 add-t15 c =
     let entry = c .before .before .before .before .before .before .before .before .before .before .before .before .before .before in
     let room = rest-requires-2 (c .before .before .before .before .before) (entry .κs) in
-    let left = c .before .before .before .before .rest2 .ensures .1 in
     let e = number-found (c .before .b .given .1) (c .before .before .before .num .ensures .1) in
     let whole = entry .good in
     omega arith
@@ -118,26 +93,16 @@ add-t15 c =
 returns-4 : tie.Need-returns-4
 unfolding dayMonthYearOf
 returns-4 c =
-    let entry = c .before .before .before .before .before .before .before .before .before .before .before .before .before .before in
-    let a = c .before .before .before .before .before .before .before .before .before .before .before .a in
-    let rest = c .before .before .before .before .before .before .before .before .before .rest in
-    let read-month = c .before .before .before .before .before .before .before .before .read-month in
-    let month = c .before .before .before .before .before .before .month in
-    let rest2 = c .before .before .before .before .rest2 in
-    let num = c .before .before .before .num in
-    let b = c .before .b in
-    promised
-    (rw (
-      ← (entry .pre .0),
-      a .given .1,
-      ← (rest .ensures .0),
-      ← (read-month .ensures .0),
-      month .given .1,
-      ← (rest2 .ensures .0),
-      ← (num .ensures .0),
-      b .given .1,
-    ))
-    (day-month-year-took _)
+    rw (
+      ← (c .before .before .before .before .before .before .before .before .before .before .before .before .before .before .pre .0),
+      c .before .before .before .before .before .before .before .before .before .before .before .a .given .1,
+      ← (c .before .before .before .before .before .before .before .before .before .rest .ensures .0),
+      ← (c .before .before .before .before .before .before .before .before .read-month .ensures .0),
+      c .before .before .before .before .before .before .month .given .1,
+      ← (c .before .before .before .before .rest2 .ensures .0),
+      ← (c .before .before .before .num .ensures .0),
+      c .before .b .given .1,
+    )
 
 pub read-day-month-year-spec : {M : Type 1} → statement M
 read-day-month-year-spec =

@@ -1,8 +1,7 @@
 use native.Mathlib.Omega.{arith}
 use Rattle.numbers.proofs.Laws.{found as number-found}
 use Rattle.dates.specs.Dates.{monthDayOf}
-use Rattle.dates.proofs.Laws.{number-arm, unread, promised}
-use Rattle.dates.proofs.Bounds.{month-day-took}
+use Rattle.dates.proofs.Laws.{number-arm, unread}
 use borrow.Author.Needs.{needs}
 use Rattle.dates.proofs.date.read_month_day.Statement.{statement}
 use Rattle.dates.proofs.date.read_month_day.Tie as tie
@@ -22,25 +21,18 @@ date-stopped-requires c κs = search needs
 returns : tie.Need-returns
 unfolding monthDayOf
 returns c =
-    let entry = c .before .before .before .before .before in
-    let rest = c .before .before .before .rest in
     let num = c .before .before .num in
-    let arm = c .before .match in
-    promised
-    (rw (← (rest .ensures .0), ← (num .ensures .0)) (unread _ _ (number-arm (num .result) (arm .keys2)) (c .date-stopped .ensures)))
-    (month-day-took _ (entry .args .l .now) (entry .pre))
+    rw (← (c .before .before .before .rest .ensures .0), ← (num .ensures .0))
+    (unread _ _ (number-arm (num .result) (c .before .match .keys2)) (c .date-stopped .ensures))
 
 rest-requires-2 : tie.Need-rest-requires-2
 rest-requires-2 c κs =
-    let num = c .before .before .before .num in
-    let a = c .before .a in
-    let e = number-found (a .given .1) (num .ensures .1) in
+    let e = number-found (c .before .a .given .1) (c .before .before .before .num .ensures .1) in
     omega arith
 
 add-rest : tie.Need-add-rest
 add-rest c =
-    let entry = c .before .before .before .before .before .before in
-    let room = rest-requires-2 c (entry .κs) in
+    let room = rest-requires-2 c (c .before .before .before .before .before .before .κs) in
     omega arith
 
 num-requires-2 : tie.Need-num-requires-2
@@ -71,42 +63,38 @@ enum-told-2 c = search needs
 returns-2 : tie.Need-returns-2
 unfolding monthDayOf
 returns-2 c =
-    let entry = c .before .before .before .before .before .before .before .before .before .before .before in
-    let rest = c .before .before .before .before .before .before .before .before .before .rest in
-    let num = c .before .before .before .before .before .before .before .before .num in
-    let a = c .before .before .before .before .before .before .a in
-    let rest2 = c .before .before .before .before .rest2 in
-    let num2 = c .before .before .before .num2 in
-    let year = c .before .year in
-    promised
-    (rw (← (rest .ensures .0), ← (num .ensures .0), a .given .1, ← (rest2 .ensures .0), ← (num2 .ensures .0), year .given .1))
-    (month-day-took _ (entry .args .l .now) (entry .pre))
+    rw (
+      ← (c .before .before .before .before .before .before .before .before .before .rest .ensures .0),
+      ← (c .before .before .before .before .before .before .before .before .num .ensures .0),
+      c .before .before .before .before .before .before .a .given .1,
+      ← (c .before .before .before .before .rest2 .ensures .0),
+      ← (c .before .before .before .num2 .ensures .0),
+      c .before .year .given .1,
+    )
 
 returns-3 : tie.Need-returns-3
 unfolding monthDayOf
 returns-3 c =
-    let entry = c .before .before .before .before .before .before .before .before .before .before in
-    let rest = c .before .before .before .before .before .before .before .before .rest in
-    let num = c .before .before .before .before .before .before .before .num in
-    let a = c .before .before .before .before .before .a in
-    let rest2 = c .before .before .before .rest2 in
-    let num2 = c .before .before .num2 in
-    promised
-    (rw (← (rest .ensures .0), ← (num .ensures .0), a .given .1, ← (rest2 .ensures .0), ← (num2 .ensures .0), c .enum-told .given .1))
-    (month-day-took _ (entry .args .l .now) (entry .pre))
+    rw (
+      ← (c .before .before .before .before .before .before .before .before .rest .ensures .0),
+      ← (c .before .before .before .before .before .before .before .num .ensures .0),
+      c .before .before .before .before .before .a .given .1,
+      ← (c .before .before .before .rest2 .ensures .0),
+      ← (c .before .before .num2 .ensures .0),
+      c .enum-told .given .1,
+    )
 
 returns-4 : tie.Need-returns-4
 unfolding monthDayOf
 returns-4 c =
-    let entry = c .before .before .before .before .before .before .before .before .before .before in
-    let rest = c .before .before .before .before .before .before .before .before .rest in
-    let num = c .before .before .before .before .before .before .before .num in
-    let a = c .before .before .before .before .before .a in
-    let rest2 = c .before .before .before .rest2 in
-    let num2 = c .before .before .num2 in
-    promised
-    (rw (← (rest .ensures .0), ← (num .ensures .0), a .given .1, ← (rest2 .ensures .0), ← (num2 .ensures .0), c .enum-told2 .given .1))
-    (month-day-took _ (entry .args .l .now) (entry .pre))
+    rw (
+      ← (c .before .before .before .before .before .before .before .before .rest .ensures .0),
+      ← (c .before .before .before .before .before .before .before .num .ensures .0),
+      c .before .before .before .before .before .a .given .1,
+      ← (c .before .before .before .rest2 .ensures .0),
+      ← (c .before .before .num2 .ensures .0),
+      c .enum-told2 .given .1,
+    )
 
 pub read-month-day-spec : {M : Type 1} → statement M
 read-month-day-spec =

@@ -3,8 +3,7 @@ use native.Mathlib.Omega.{arith}
 use Rattle.numbers.proofs.Laws.{found as number-found}
 use Rattle.dates.specs.Parsed.{parsedNumber}
 use Rattle.dates.specs.Times.{clockOf}
-use Rattle.dates.proofs.Laws.{number-arm, unread, found, promised}
-use Rattle.dates.proofs.Bounds.{clock-took}
+use Rattle.dates.proofs.Laws.{number-arm, unread, found}
 use borrow.Author.Needs.{needs}
 use Rattle.dates.proofs.time.read_clock.Statement.{statement}
 use Rattle.dates.proofs.time.read_clock.Tie as tie
@@ -22,14 +21,11 @@ returns : tie.Need-returns
 unfolding clockOf
 returns c =
     let num = c .before .before .num in
-    let arm = c .before .match in
-    promised (rw (← (num .ensures .0)) (unread _ _ (number-arm (num .result) (arm .keys2)) (c .time-stopped .ensures))) (clock-took _)
+    rw (← (num .ensures .0)) (unread _ _ (number-arm (num .result) (c .before .match .keys2)) (c .time-stopped .ensures))
 
 rest-requires : tie.Need-rest-requires
 rest-requires c κs =
-    let num = c .before .before .before .num in
-    let a = c .before .a in
-    let b = number-found (a .given .1) (num .ensures .1) in
+    let b = number-found (c .before .a .given .1) (c .before .before .before .num .ensures .1) in
     omega arith
 
 read-minute-requires : tie.Need-read-minute-requires
@@ -44,50 +40,35 @@ time-stopped-requires-2 c κs = search needs
 returns-2 : tie.Need-returns-2
 unfolding clockOf
 returns-2 c =
-    let num = c .before .before .before .before .before .before .before .num in
-    let a = c .before .before .before .before .before .a in
-    let rest = c .before .before .before .rest in
     let read-minute = c .before .before .read-minute in
-    let arm2 = c .before .match2 in
-    promised
-    (rw (← (num .ensures .0), a .given .1, ← (rest .ensures .0), ← (read-minute .ensures .0))
-    (unread _ _ (number-arm (read-minute .result) (arm2 .keys2)) (c .time-stopped2 .ensures)))
-    (clock-took _)
-
-read-half-requires : tie.Need-read-half-requires
-read-half-requires c κs =
-    let num = c .before .before .before .before .before .before .before .before .num in
-    let a = c .before .before .before .before .before .before .a in
-    let read-minute = c .before .before .before .read-minute in
-    let b = c .before .b in
-    let d = number-found (a .given .1) (num .ensures .1) in
-    let e = found (ap parsedNumber (b .given .1)) (read-minute .ensures .1) in
-    omega arith
+    rw (
+      ← (c .before .before .before .before .before .before .before .num .ensures .0),
+      c .before .before .before .before .before .a .given .1,
+      ← (c .before .before .before .rest .ensures .0),
+      ← (read-minute .ensures .0),
+    ) (unread _ _ (number-arm (read-minute .result) (c .before .match2 .keys2)) (c .time-stopped2 .ensures))
 
 add-read-half : tie.Need-add-read-half
 add-read-half c =
-    let entry = c .before .before .before .before .before .before .before .before .before .before in
-    let room = read-half-requires c (entry .κs) in
+    let num = c .before .before .before .before .before .before .before .before .num in
+    let d = number-found (c .before .before .before .before .before .before .a .given .1) (num .ensures .1) in
+    let e = found (ap parsedNumber (c .before .b .given .1)) (c .before .before .before .read-minute .ensures .1) in
     omega arith
+
+read-half-requires : tie.Need-read-half-requires
+read-half-requires c κs = search needs
 
 returns-3 : tie.Need-returns-3
 unfolding clockOf
 returns-3 c =
-    let num = c .before .before .before .before .before .before .before .before .before .num in
-    let a = c .before .before .before .before .before .before .before .a in
-    let rest = c .before .before .before .before .before .rest in
-    let read-minute = c .before .before .before .before .read-minute in
-    let b = c .before .before .b in
-    promised
-    (rw (
-      ← (num .ensures .0),
-      a .given .1,
-      ← (rest .ensures .0),
-      ← (read-minute .ensures .0),
-      b .given .1,
-      ← (c .read-half .ensures .0),
-    ))
-    (clock-took _)
+    rw (
+      ← (c .before .before .before .before .before .before .before .before .before .num .ensures .0),
+      c .before .before .before .before .before .before .before .a .given .1,
+      ← (c .before .before .before .before .before .rest .ensures .0),
+      ← (c .before .before .before .before .read-minute .ensures .0),
+      c .before .before .b .given .1,
+      ← (c .read-half .ensures),
+    )
 
 pub read-clock-spec : {M : Type 1} → statement M
 read-clock-spec =

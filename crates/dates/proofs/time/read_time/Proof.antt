@@ -13,9 +13,7 @@ is-at-requires c κs = search needs
 
 returns-2 : tie.Need-returns-2
 unfolding timeOf
-returns-2 c =
-    let is-at = c .before .is-at in
-    promised (rw (← (is-at .ensures .0), c .if2 .taken)) (time-took _)
+returns-2 c = promised (rw (← (c .before .is-at .ensures .0), c .if2 .taken)) (time-took _)
 
 is-at-requires-2 : tie.Need-is-at-requires-2
 is-at-requires-2 c κs = search needs
@@ -23,10 +21,12 @@ is-at-requires-2 c κs = search needs
 returns-3 : tie.Need-returns-3
 unfolding timeOf
 returns-3 c =
-    let is-at = c .before .before .before .is-at in
-    let if2 = c .before .before .if2 in
-    let is-at2 = c .before .is-at2 in
-    promised (rw (← (is-at .ensures .0), if2 .left, ← (is-at2 .ensures .0), c .if3 .taken)) (time-took _)
+    promised (rw (
+      ← (c .before .before .before .is-at .ensures .0),
+      c .before .before .if2 .left,
+      ← (c .before .is-at2 .ensures .0),
+      c .if3 .taken,
+    )) (time-took _)
 
 read-clock-requires : tie.Need-read-clock-requires
 read-clock-requires c κs = search needs
@@ -34,11 +34,13 @@ read-clock-requires c κs = search needs
 returns-4 : tie.Need-returns-4
 unfolding timeOf
 returns-4 c =
-    let is-at = c .before .before .before .before .is-at in
-    let if2 = c .before .before .before .if2 in
-    let is-at2 = c .before .before .is-at2 in
-    let if3 = c .before .if3 in
-    promised (rw (← (is-at .ensures .0), if2 .left, ← (is-at2 .ensures .0), if3 .left, ← (c .read-clock .ensures .0))) (time-took _)
+    promised (rw (
+      ← (c .before .before .before .before .is-at .ensures .0),
+      c .before .before .before .if2 .left,
+      ← (c .before .before .is-at2 .ensures .0),
+      c .before .if3 .left,
+      ← (c .read-clock .ensures),
+    )) (time-took _)
 
 pub read-time-spec : {M : Type 1} → statement M
 read-time-spec =

@@ -1,4 +1,4 @@
-use Rattle.evaluation.proofs.Laws.{moment-valid}
+use Rattle.calendar.proofs.Outcomes.{moment-valid}
 use mathlib.Core.Path.{refl}
 use borrow.Author.Needs.{needs}
 use Rattle.evaluation.proofs.date.date_at.Statement.{statement}

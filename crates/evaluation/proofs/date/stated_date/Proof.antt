@@ -1,5 +1,4 @@
-use Rattle.evaluation.specs.Refusals.{NoDate, Outside}
-use Rattle.evaluation.proofs.Laws.{date-valid, refused-valid}
+use Rattle.calendar.proofs.Outcomes.{date-valid, refused-valid}
 use Rattle.calendar.proofs.Valid.{test-date}
 use borrow.Author.Tests.{le-leb, lt-leb}
 use mathlib.Core.Path.{sym, _∙_}
@@ -8,10 +7,10 @@ use Rattle.evaluation.proofs.date.stated_date.Statement.{statement}
 use Rattle.evaluation.proofs.date.stated_date.Tie as tie
 
 returns : tie.Need-returns
-returns c = (rw (lt-leb _ _ (c .if1 .taken)), refused-valid Outside)
+returns c = (rw (lt-leb _ _ (c .if1 .taken)), refused-valid _)
 
 returns-2 : tie.Need-returns-2
-returns-2 c = (rw (le-leb _ _ (c .before .if1 .left), lt-leb _ _ (c .if2 .taken)), refused-valid Outside)
+returns-2 c = (rw (le-leb _ _ (c .before .if1 .left), lt-leb _ _ (c .if2 .taken)), refused-valid _)
 
 valid-date-requires : tie.Need-valid-date-requires
 valid-date-requires c κs = search needs
@@ -34,7 +33,7 @@ returns-4 c =
     let valid = c .before in
     let date = sym (valid .valid-date .ensures) ∙ c .if3 .left in
     let year = valid .before in
-    (rw (le-leb _ _ (year .before .if1 .left), le-leb _ _ (year .if2 .left), date), refused-valid NoDate)
+    (rw (le-leb _ _ (year .before .if1 .left), le-leb _ _ (year .if2 .left), date), refused-valid _)
 
 pub stated-date-spec : {M : Type 1} → statement M
 stated-date-spec =

@@ -1,5 +1,5 @@
 use mathlib.Core.Path.{refl}
-use Rattle.evaluation.proofs.Laws.{at-moment, moment-valid}
+use Rattle.calendar.proofs.Outcomes.{at-moment, moment-valid}
 use borrow.Author.Needs.{needs}
 use Rattle.evaluation.proofs.expr.by_year.Statement.{statement}
 use Rattle.evaluation.proofs.expr.by_year.Tie as tie

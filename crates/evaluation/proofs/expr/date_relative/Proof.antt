@@ -1,5 +1,4 @@
-use Rattle.evaluation.specs.Refusals.{NoSense}
-use Rattle.evaluation.proofs.Laws.{refused-valid}
+use Rattle.calendar.proofs.Outcomes.{refused-valid}
 use borrow.Author.Needs.{needs}
 use Rattle.evaluation.proofs.expr.date_relative.Statement.{statement}
 use Rattle.evaluation.proofs.expr.date_relative.Tie as tie
@@ -33,10 +32,10 @@ returns-2 : tie.Need-returns-2
 returns-2 c =
     let year = c .before .before in
     let date = c .before .is-month-and-day in
-    (rw (← (year .before .is-year .ensures), year .if1 .taken, ← (date .ensures), c .if2 .left), refused-valid NoSense)
+    (rw (← (year .before .is-year .ensures), year .if1 .taken, ← (date .ensures), c .if2 .left), refused-valid _)
 
 returns-3 : tie.Need-returns-3
-returns-3 c = (rw (← (c .before .is-year .ensures), c .if1 .left), refused-valid NoSense)
+returns-3 c = (rw (← (c .before .is-year .ensures), c .if1 .left), refused-valid _)
 
 pub date-relative-spec : {M : Type 1} → statement M
 date-relative-spec =

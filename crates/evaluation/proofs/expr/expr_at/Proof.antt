@@ -2,8 +2,8 @@ use Prim.Native.Nat.{_≤_, _<_}
 use mathlib.Core.Path.{_≡_, refl, ap, _∙_}
 use mathlib.Core.Bool.{true}
 use Rattle.expressions.specs.declared.expr.Expr.{Expr}
-use Rattle.evaluation.specs.Formed.{hasDuration}
-use Rattle.evaluation.proofs.Laws.{moment-valid}
+use Rattle.expressions.specs.Shapes.{hasDuration}
+use Rattle.calendar.proofs.Outcomes.{moment-valid}
 use borrow.Author.Needs.{needs}
 use Rattle.evaluation.proofs.expr.expr_at.Statement.{statement}
 use Rattle.evaluation.proofs.expr.expr_at.Tie as tie

@@ -1,5 +1,4 @@
-use Rattle.evaluation.specs.Refusals.{NoSense}
-use Rattle.evaluation.proofs.Laws.{refused-valid}
+use Rattle.calendar.proofs.Outcomes.{refused-valid}
 use borrow.Author.Needs.{needs}
 use Rattle.evaluation.proofs.expr.unit_relative.Statement.{statement}
 use Rattle.evaluation.proofs.expr.unit_relative.Tie as tie
@@ -8,7 +7,7 @@ is-sub-daily-unit-requires : tie.Need-is-sub-daily-unit-requires
 is-sub-daily-unit-requires c κs = search needs
 
 returns : tie.Need-returns
-returns c = (rw (← (c .before .is-sub-daily-unit .ensures), c .if1 .taken), refused-valid NoSense)
+returns c = (rw (← (c .before .is-sub-daily-unit .ensures), c .if1 .taken), refused-valid _)
 
 enum-told : tie.Need-enum-told
 enum-told c = search needs
@@ -38,7 +37,7 @@ returns-3 c =
 returns-4 : tie.Need-returns-4
 returns-4 c =
     let test = c .before .before in
-    (rw (← (test .before .is-sub-daily-unit .ensures), test .if1 .left, c .enum-told3 .given .1), refused-valid NoSense)
+    (rw (← (test .before .is-sub-daily-unit .ensures), test .if1 .left, c .enum-told3 .given .1), refused-valid _)
 
 pub unit-relative-spec : {M : Type 1} → statement M
 unit-relative-spec =

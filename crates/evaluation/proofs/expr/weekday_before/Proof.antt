@@ -1,5 +1,5 @@
 use native.Mathlib.Omega.{arith}
-use Rattle.evaluation.proofs.Laws.{at-moment}
+use Rattle.calendar.proofs.Outcomes.{at-moment}
 use borrow.Author.Needs.{needs}
 use Rattle.evaluation.proofs.expr.weekday_before.Statement.{statement}
 use Rattle.evaluation.proofs.expr.weekday_before.Tie as tie

@@ -1,5 +1,4 @@
-use Rattle.evaluation.specs.Refusals.{NoSense}
-use Rattle.evaluation.proofs.Laws.{refused-valid}
+use Rattle.calendar.proofs.Outcomes.{refused-valid}
 use borrow.Author.Needs.{needs}
 use Rattle.evaluation.proofs.expr.weekday_relative.Statement.{statement}
 use Rattle.evaluation.proofs.expr.weekday_relative.Tie as tie
@@ -14,7 +13,7 @@ returns : tie.Need-returns
 returns c = rw (← (c .before .before .is-week .ensures), c .before .if1 .taken) (c .in-week .ensures)
 
 returns-2 : tie.Need-returns-2
-returns-2 c = (rw (← (c .before .is-week .ensures), c .if1 .left), refused-valid NoSense)
+returns-2 c = (rw (← (c .before .is-week .ensures), c .if1 .left), refused-valid _)
 
 pub weekday-relative-spec : {M : Type 1} → statement M
 weekday-relative-spec = tie.close (tie.spec is-week-requires in-week-requires returns returns-2)

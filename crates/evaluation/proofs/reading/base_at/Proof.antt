@@ -1,6 +1,6 @@
 use mathlib.Core.Path.{refl}
 use Rattle.evaluation.specs.Evaluate.{evaluate}
-use Rattle.evaluation.proofs.Laws.{moment-valid}
+use Rattle.calendar.proofs.Outcomes.{moment-valid}
 use borrow.Author.Needs.{needs}
 use Rattle.evaluation.proofs.reading.base_at.Statement.{statement}
 use Rattle.evaluation.proofs.reading.base_at.Tie as tie

@@ -2,13 +2,12 @@ use Prim.Native.Nat.{_-_, _≤_}
 use native.Mathlib.Omega.{arith}
 use mathlib.Core.Path.{_≡_, ap, sym, _∙_}
 use lib.ListN.{length, length-map}
-use Rattle.calendar.specs.Moments.{IsMoment, moment}
+use Rattle.calendar.specs.Moments.{IsMoment, moment, reachedOf}
 use Rattle.phrase.specs.Flat.{treeOf}
-use Rattle.evaluation.specs.Steps.{reachedOf}
 use Rattle.evaluation.specs.Evaluate.{evaluate}
 use Rattle.evaluation.specs.Formed.{baseOf}
-use Rattle.evaluation.specs.declared.step.Reached.{Reached}
-use Rattle.evaluation.proofs.Laws.{moment-valid, at-moment, refused-valid}
+use Rattle.calendar.specs.declared.moments.Reached.{Reached}
+use Rattle.calendar.proofs.Outcomes.{moment-valid, at-moment, refused-valid}
 use Rattle.evaluation.proofs.Links.{linksAt, stepped, around-step, reading-walked, no-link, from-moment, stays}
 use borrow.Author.Needs.{needs}
 use Rattle.evaluation.proofs.reading.evaluate.Statement.{statement}

@@ -4,11 +4,11 @@ use mathlib.Core.Path.{_≡_, ap, sym, _∙_}
 use lib.ListN.{length, length-map}
 use lib.Seq.{slice}
 use borrow.Author.Needs.{needs}
-use Rattle.calendar.specs.Moments.{IsMoment, Outcome, moment}
+use Rattle.calendar.specs.Moments.{IsMoment, Outcome, moment, reachedOf}
 use Rattle.phrase.specs.Flat.{rowDuration}
-use Rattle.evaluation.specs.Steps.{reachedOf, durationStep}
-use Rattle.evaluation.specs.declared.step.Reached.{Reached}
-use Rattle.evaluation.proofs.Laws.{at-moment, moment-valid, refused-valid}
+use Rattle.evaluation.specs.Steps.{durationStep}
+use Rattle.calendar.specs.declared.moments.Reached.{Reached}
+use Rattle.calendar.proofs.Outcomes.{at-moment, moment-valid, refused-valid}
 use Rattle.evaluation.proofs.Rows.{overRow, parted, row-first, row-end, row-walked, row-stays}
 use Rattle.evaluation.proofs.step.duration_step.Statement.{statement}
 use Rattle.evaluation.proofs.step.duration_step.Tie as tie

@@ -1,5 +1,4 @@
-use Rattle.evaluation.specs.Refusals.{NoTime}
-use Rattle.evaluation.proofs.Laws.{time-valid, refused-valid}
+use Rattle.calendar.proofs.Outcomes.{time-valid, refused-valid}
 use Rattle.calendar.proofs.Valid.{test-time}
 use mathlib.Core.Path.{sym, _∙_}
 use borrow.Author.Needs.{needs}
@@ -19,10 +18,10 @@ returns c =
     rw (c .with-time .ensures) (rw (told .before .if1 .taken, time), time-valid (told .before .before .pre) (test-time _ _ _ time))
 
 returns-2 : tie.Need-returns-2
-returns-2 c = (rw (c .before .before .if1 .taken, sym (c .before .valid-time .ensures) ∙ c .if2 .left), refused-valid NoTime)
+returns-2 c = (rw (c .before .before .if1 .taken, sym (c .before .valid-time .ensures) ∙ c .if2 .left), refused-valid _)
 
 returns-3 : tie.Need-returns-3
-returns-3 c = (rw (c .if1 .left), refused-valid NoTime)
+returns-3 c = (rw (c .if1 .left), refused-valid _)
 
 pub stated-time-spec : {M : Type 1} → statement M
 stated-time-spec =

@@ -1,5 +1,5 @@
 use mathlib.Core.Path.{refl}
-use Rattle.evaluation.proofs.Laws.{time-valid}
+use Rattle.calendar.proofs.Outcomes.{time-valid}
 use borrow.Author.Needs.{needs}
 use Rattle.evaluation.proofs.time.time_at.Statement.{statement}
 use Rattle.evaluation.proofs.time.time_at.Tie as tie

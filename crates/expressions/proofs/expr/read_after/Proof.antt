@@ -15,13 +15,9 @@ read-date-requires c κs = search needs
 enum-known-d : tie.Need-enum-known-d
 enum-known-d c = search needs
 
-add-t11 : tie.Need-add-t11
-add-t11 c =
-    let rest = c .before .before .before .before .rest in
-    let read-date = c .before .before .before .read-date in
-    let d = c .before .d in
-    let b = found (ap parsedDate (d .given .1)) (read-date .ensures .1) in
-    let left = rest .ensures .1 in
+add-t9 : tie.Need-add-t9
+add-t9 c =
+    let b = found (ap parsedDate (c .before .d .given .1)) (c .before .before .before .read-date .ensures .1) in
     omega arith
 
 enum-told : tie.Need-enum-told
@@ -32,22 +28,19 @@ enum-told-2 c = search needs
 
 returns : tie.Need-returns
 returns c =
-    let rest = c .before .before .before .before .rest in
-    let read-date = c .before .before .before .read-date in
-    let d = c .before .d in
-    rw (← (rest .ensures .0), ← (read-date .ensures .0), d .given .1)
+    λ dur. rw (
+      ← (c .before .before .before .before .rest .ensures .0),
+      ← (c .before .before .before .read-date .ensures .0),
+      c .before .d .given .1,
+    )
 
 returns-2 : tie.Need-returns-2
 returns-2 c =
-    let rest = c .before .before .before .rest in
-    let read-date = c .before .before .read-date in
-    rw (← (rest .ensures .0), ← (read-date .ensures .0), c .enum-told .given .1)
+    λ dur. rw (← (c .before .before .before .rest .ensures .0), ← (c .before .before .read-date .ensures .0), c .enum-told .given .1)
 
 returns-3 : tie.Need-returns-3
 returns-3 c =
-    let rest = c .before .before .before .rest in
-    let read-date = c .before .before .read-date in
-    rw (← (rest .ensures .0), ← (read-date .ensures .0), c .enum-told2 .given .1)
+    λ dur. rw (← (c .before .before .before .rest .ensures .0), ← (c .before .before .read-date .ensures .0), c .enum-told2 .given .1)
 
 pub read-after-spec : {M : Type 1} → statement M
 read-after-spec =
@@ -56,7 +49,7 @@ read-after-spec =
     rest-requires
     read-date-requires
     enum-known-d
-    add-t11
+    add-t9
     enum-told
     enum-told-2
     returns

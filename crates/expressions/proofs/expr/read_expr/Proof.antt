@@ -1,12 +1,10 @@
 use mathlib.Core.Path.{ap}
 use native.Mathlib.Omega.{arith}
-use lib.ListN.{drop}
 use denote.Ref.{now}
 use Rattle.dates.specs.Dates.{parsedDate}
 use Rattle.dates.proofs.Laws.{found}
-use Rattle.expressions.specs.DateExprs.{tailOf, dateExprOf}
-use Rattle.expressions.proofs.Answers.{date-tailed}
-use Rattle.expressions.proofs.Few.{expr-few, expr-promised}
+use Rattle.expressions.specs.DateExprs.{dateExprOf}
+use Rattle.expressions.proofs.Own.{expr-promised}
 use borrow.Author.Needs.{needs}
 use Rattle.expressions.proofs.expr.read_expr.Statement.{statement}
 use Rattle.expressions.proofs.expr.read_expr.Tie as tie
@@ -17,12 +15,10 @@ read-date-requires c κs = search needs
 enum-known-d : tie.Need-enum-known-d
 enum-known-d c = search needs
 
-read-date-tail-requires : tie.Need-read-date-tail-requires
-read-date-tail-requires c κs =
-    let read-date = c .before .before .before .read-date in
-    let d = c .before .d in
-    let b = found (ap parsedDate (d .given .1)) (read-date .ensures .1) in
-    (omega arith, search needs)
+read-tail-requires : tie.Need-read-tail-requires
+read-tail-requires c κs =
+    let b = found (ap parsedDate (c .before .d .given .1)) (c .before .before .before .read-date .ensures .1) in
+    omega arith
 
 enum-told : tie.Need-enum-told
 enum-told c = search needs
@@ -36,35 +32,26 @@ enum-told-2 c = search needs
 returns : tie.Need-returns
 unfolding dateExprOf
 returns c =
-    let args = c .before .before .before .before .before .before .args in
-    let read-date = c .before .before .before .before .read-date in
-    let d = c .before .before .d in
-    expr-promised (args .parts)
-    (rw (
-      ← (read-date .ensures .0),
-      d .given .1,
-      ← (date-tailed (d .given .0 .0) (d .given .0 .1 .0) (args .parts) (tailOf (drop (d .given .0 .1 .0) (now (args .l))))),
-    ) (c .read-date-tail .ensures))
-    (expr-few (now (args .l)))
+    expr-promised (now (c .before .before .before .before .before .before .args .l)) (rw (
+      ← (c .before .before .before .before .read-date .ensures .0),
+      c .before .before .d .given .1,
+    ) (c .read-tail .ensures))
 
 returns-2 : tie.Need-returns-2
 unfolding dateExprOf
 returns-2 c =
-    let args = c .before .before .before .before .before .args in
-    let read-date = c .before .before .before .read-date in
-    let enum-told = c .before .enum-told in
-    expr-promised (args .parts)
-    (rw (← (read-date .ensures .0), enum-told .given .1) (c .read-undated .ensures .0))
-    (expr-few (now (args .l)))
+    expr-promised (now (c .before .before .before .before .before .args .l)) (rw (
+      ← (c .before .before .before .read-date .ensures .0),
+      c .before .enum-told .given .1,
+    ) (c .read-undated .ensures))
 
 returns-3 : tie.Need-returns-3
 unfolding dateExprOf
 returns-3 c =
-    let args = c .before .before .before .before .args in
-    let read-date = c .before .before .read-date in
-    expr-promised (args .parts)
-    (rw (← (read-date .ensures .0), c .enum-told2 .given .1))
-    (expr-few (now (args .l)))
+    expr-promised (now (c .before .before .before .before .args .l)) (rw (
+      ← (c .before .before .read-date .ensures .0),
+      c .enum-told2 .given .1,
+    ))
 
 pub read-expr-spec : {M : Type 1} → statement M
 read-expr-spec =
@@ -72,7 +59,7 @@ read-expr-spec =
     (tie.spec
     read-date-requires
     enum-known-d
-    read-date-tail-requires
+    read-tail-requires
     enum-told
     read-undated-requires
     enum-told-2

@@ -1,12 +1,10 @@
 use mathlib.Core.Path.{ap}
 use native.Mathlib.Omega.{arith}
-use denote.Ref.{now}
 use Rattle.dates.specs.Units.{parsedSpecifier}
 use Rattle.dates.specs.Parsed.{parsedNumber}
 use Rattle.dates.proofs.Laws.{found, number-arm}
 use Rattle.expressions.specs.DateExprs.{relativeExprOf}
-use Rattle.expressions.proofs.Answers.{weekday-none}
-use Rattle.expressions.proofs.Few.{relative-few, expr-promised}
+use Rattle.expressions.proofs.Own.{weekday-none}
 use borrow.Author.Needs.{needs}
 use Rattle.expressions.proofs.expr.read_relative.Statement.{statement}
 use Rattle.expressions.proofs.expr.read_relative.Tie as tie
@@ -22,18 +20,11 @@ enum-told c = search needs
 
 returns : tie.Need-returns
 unfolding relativeExprOf
-returns c =
-    let args = c .before .before .before .before .args in
-    let read-specifier = c .before .before .read-specifier in
-    expr-promised (args .parts)
-    (rw (← (read-specifier .ensures .0), c .enum-told .given .1))
-    (relative-few (now (args .l)))
+returns c = rw (← (c .before .before .read-specifier .ensures .0), c .enum-told .given .1)
 
 rest-requires : tie.Need-rest-requires
 rest-requires c κs =
-    let read-specifier = c .before .before .before .read-specifier in
-    let spec = c .before .spec in
-    let b = found (ap parsedSpecifier (spec .given .1)) (read-specifier .ensures .1) in
+    let b = found (ap parsedSpecifier (c .before .spec .given .1)) (c .before .before .before .read-specifier .ensures .1) in
     omega arith
 
 read-weekday-requires : tie.Need-read-weekday-requires
@@ -54,71 +45,49 @@ enum-told-2 c = search needs
 returns-2 : tie.Need-returns-2
 unfolding relativeExprOf
 returns-2 c =
-    let args = c .before .before .before .before .before .before .before .before .before .before .before .args in
-    let read-specifier = c .before .before .before .before .before .before .before .before .before .read-specifier in
-    let spec = c .before .before .before .before .before .before .before .spec in
-    let rest = c .before .before .before .before .before .rest in
     let read-weekday = c .before .before .before .before .read-weekday in
-    let match2 = c .before .before .before .match2 in
-    let read-unit = c .before .before .read-unit in
-    let none = weekday-none _ (read-weekday .ensures .0) (number-arm (read-weekday .result) (match2 .keys2)) in
-    expr-promised (args .parts)
-    (rw (
-      ← (read-specifier .ensures .0),
-      spec .given .1,
-      ← (rest .ensures .0),
+    let none = weekday-none _ (read-weekday .ensures .0) (number-arm (read-weekday .result) (c .before .before .before .match2 .keys2)) in
+    rw (
+      ← (c .before .before .before .before .before .before .before .before .before .read-specifier .ensures .0),
+      c .before .before .before .before .before .before .before .spec .given .1,
+      ← (c .before .before .before .before .before .rest .ensures .0),
       ← (read-weekday .ensures .0),
       none,
-      ← (read-unit .ensures .0),
+      ← (c .before .before .read-unit .ensures .0),
       c .enum-told2 .given .1,
-    ))
-    (relative-few (now (args .l)))
+    )
 
 returns-3 : tie.Need-returns-3
 unfolding relativeExprOf
 returns-3 c =
-    let args = c .before .before .before .before .before .before .before .before .before .before .before .before .args in
-    let read-specifier = c .before .before .before .before .before .before .before .before .before .before .read-specifier in
-    let spec = c .before .before .before .before .before .before .before .before .spec in
-    let rest = c .before .before .before .before .before .before .rest in
     let read-weekday = c .before .before .before .before .before .read-weekday in
-    let match2 = c .before .before .before .before .match2 in
-    let read-unit = c .before .before .before .read-unit in
-    let unit = c .before .unit in
-    let none = weekday-none _ (read-weekday .ensures .0) (number-arm (read-weekday .result) (match2 .keys2)) in
-    expr-promised (args .parts)
-    (rw (
-      ← (read-specifier .ensures .0),
-      spec .given .1,
-      ← (rest .ensures .0),
+    let arm = number-arm (read-weekday .result) (c .before .before .before .before .match2 .keys2) in
+    let none = weekday-none _ (read-weekday .ensures .0) arm in
+    rw (
+      ← (c .before .before .before .before .before .before .before .before .before .before .read-specifier .ensures .0),
+      c .before .before .before .before .before .before .before .before .spec .given .1,
+      ← (c .before .before .before .before .before .before .rest .ensures .0),
       ← (read-weekday .ensures .0),
       none,
-      ← (read-unit .ensures .0),
-      unit .given .1,
-    ))
-    (relative-few (now (args .l)))
+      ← (c .before .before .before .read-unit .ensures .0),
+      c .before .unit .given .1,
+    )
 
-add-t16 : tie.Need-add-t16
-add-t16 c =
-    let rest = c .before .before .before .before .rest in
-    let read-weekday = c .before .before .before .read-weekday in
-    let w = c .before .w in
-    let b = found (ap parsedNumber (w .given .1)) (read-weekday .ensures .1) in
-    let left = rest .ensures .1 in
+add-t12 : tie.Need-add-t12
+add-t12 c =
+    let b = found (ap parsedNumber (c .before .w .given .1)) (c .before .before .before .read-weekday .ensures .1) in
     omega arith
 
 returns-4 : tie.Need-returns-4
 unfolding relativeExprOf
 returns-4 c =
-    let args = c .before .before .before .before .before .before .before .before .before .before .args in
-    let read-specifier = c .before .before .before .before .before .before .before .before .read-specifier in
-    let spec = c .before .before .before .before .before .before .spec in
-    let rest = c .before .before .before .before .rest in
-    let read-weekday = c .before .before .before .read-weekday in
-    let w = c .before .w in
-    expr-promised (args .parts)
-    (rw (← (read-specifier .ensures .0), spec .given .1, ← (rest .ensures .0), ← (read-weekday .ensures .0), w .given .1))
-    (relative-few (now (args .l)))
+    rw (
+      ← (c .before .before .before .before .before .before .before .before .read-specifier .ensures .0),
+      c .before .before .before .before .before .before .spec .given .1,
+      ← (c .before .before .before .before .rest .ensures .0),
+      ← (c .before .before .before .read-weekday .ensures .0),
+      c .before .w .given .1,
+    )
 
 pub read-relative-spec : {M : Type 1} → statement M
 read-relative-spec =
@@ -136,5 +105,5 @@ read-relative-spec =
     enum-told-2
     returns-2
     returns-3
-    add-t16
+    add-t12
     returns-4)

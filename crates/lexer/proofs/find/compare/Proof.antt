@@ -1,128 +1,54 @@
--- `lexer::find::compare` meets its contract. The loop's invariant: the first j bytes are the same, so the rests decide;
--- it begins with j = 1. Assumes nothing.
-use mathlib.Core.Path.{_≡_, sym, _∙_}
-use mathlib.Core.List.{List, _∷_}
-use Prim.Native.Nat.{ℕ, _+_, _-_}
-use native.Mathlib.Omega.{arith}
-use borrow.Author.Needs.{needs}
-use lib.ListN.{length, drop, length-map, List·getD-map}
+-- `lexer::find::compare` meets its contract. Assumes nothing.
+use mathlib.Core.Path.{_≡_, sym}
+use borrow.Author.Tests.{le-ltb}
 use Rattle.lexer.specs.Keywords.{keywords}
-use Rattle.lexer.specs.Words.{ordered, lowerOf, folded}
-use Rattle.lexer.specs.Table.{sorted, spellingAt}
-use Rattle.lexer.proofs.Order.{opened, head-less, head-more, head-same, end-more, end-less, end-same}
-use Rattle.lexer.proofs.Starts.{begins-same}
-use Rattle.lexer.proofs.Rows.{row-letter}
+use Rattle.lexer.specs.Table.{sorted, spellingAt, headOf, tailOf, byNumber}
+use Rattle.lexer.specs.declared.find.Order.{Order}
+use Rattle.lexer.specs.declared.find.Order.the-variants.{Same}
+use Rattle.lexer.proofs.Keys.{number-less, number-more}
+use borrow.Author.Needs.{needs}
 use Rattle.lexer.proofs.find.compare.Statement.{statement}
 use Rattle.lexer.proofs.find.compare.Tie as tie
 
-abbrev Inv-loop : tie.InvT-loop
-Inv-loop words i w n j₀ j =
-    ordered (spellingAt (sorted keywords) i) (folded w) ≡ ordered (drop j (spellingAt (sorted keywords) i)) (drop j (folded w))
+-- the heads are the same: the tails decide
+same-heads : (d : tie.After-tail-at) {o : Order} →
+    let args = d .before .before .before .before .args in
+    let row = spellingAt (sorted keywords) (args .i) in
+    o ≡ byNumber (d .tail-at .result) (args .tail) Same
+    → o ≡ byNumber (headOf row) (args .head) (byNumber (tailOf row) (args .tail) Same)
+same-heads d e =
+    let if1 = d .before .before .if1 in
+    let head = d .before .before .before .head-at .ensures in
+    rw (← head, ← (d .tail-at .ensures), le-ltb _ _ (if1 .left), le-ltb _ _ (d .before .if2 .left)) e
 
-abbrev μ-loop : tie.MeasureT-loop
-μ-loop words i w n j₀ j = n - j
+head-at-requires : tie.Need-head-at-requires
+head-at-requires c κs = search needs
 
--- the row's word and the folded word
-abbrev row : tie.At-loop Inv-loop μ-loop → List ℕ
-row at = spellingAt (sorted keywords) (at .before .before .before .args .i)
+returns : tie.Need-returns
+returns c = rw (← (c .before .head-at .ensures)) (sym (number-less _ _ _ (c .if1 .taken)))
 
-abbrev looked : tie.At-loop Inv-loop μ-loop → List ℕ
-looked at = folded (at .before .before .before .args .w .now)
+returns-2 : tie.Need-returns-2
+returns-2 c = rw (← (c .before .before .head-at .ensures)) (sym (number-more _ _ _ (c .if2 .taken)))
 
-looked-length : (at : tie.At-loop Inv-loop μ-loop) → length (looked at) ≡ length (at .before .before .before .args .w .now)
-looked-length at = length-map (at .before .before .before .args .w .now) lowerOf
+tail-at-requires : tie.Need-tail-at-requires
+tail-at-requires c κs = search needs
 
--- both bytes are read: they decide, or what follows them
-module _ (c : tie.After-lower Inv-loop μ-loop) where
-  abbrev at : tie.At-loop Inv-loop μ-loop
-  at = c .before .before .before .before .before
+returns-3 : tie.Need-returns-3
+returns-3 c =
+    let d = c .before in
+    same-heads d (sym (number-less _ _ _ (c .if3 .taken)))
 
-  abbrev a : ℕ
-  a = c .before .before .byte-of .result
-
-  abbrev b : ℕ
-  b = c .lower .result
-
-  abbrev row-rest : List ℕ
-  row-rest = drop (at .loop .j + 1) (row at)
-
-  abbrev looked-rest : List ℕ
-  looked-rest = drop (at .loop .j + 1) (looked at)
-
-  compared : ordered (row at) (looked at) ≡ ordered (a ∷ row-rest) (b ∷ looked-rest)
-  compared =
-      let w = at .before .before .before .args .w .now in
-      let j = at .loop .j in
-      at .loop .inv
-      ∙ opened (row at) (looked at) j a b (omega arith) (omega (arith, looked-length at))
-      (c .before .before .byte-of .ensures) (c .lower .ensures ∙ sym (List·getD-map lowerOf w j 0))
-
-length-of-requires : tie.Need-length-of-requires Inv-loop μ-loop
-length-of-requires c κs = search needs
-
-loop-holds : tie.Need-loop-holds Inv-loop μ-loop
-loop-holds c =
-    let s = c .before .before in
-    let i = s .args .i in
-    begins-same (spellingAt (sorted keywords) i) (folded (s .args .w .now)) (omega (arith, row-letter i (s .pre .1))) (s .pre .2)
-
-returns : tie.Need-returns Inv-loop μ-loop
-returns c =
-    let at = c .before .before in
-    sym (at .loop .inv ∙ end-more (row at) (looked at) (at .loop .j) (omega arith) (omega (arith, looked-length at)))
-
-byte-of-requires : tie.Need-byte-of-requires Inv-loop μ-loop
-byte-of-requires c κs = (c .before .before .before .before .before .pre .0, omega arith, omega arith)
-
-shared-slice-read-lower : tie.Need-shared-slice-read-lower Inv-loop μ-loop
-shared-slice-read-lower c = omega arith
-
-lower-requires : tie.Need-lower-requires Inv-loop μ-loop
-lower-requires c κs = search needs
-
-returns-2 : tie.Need-returns-2 Inv-loop μ-loop
-returns-2 c = let d = c .before in sym (compared d ∙ head-less (a d) (b d) (row-rest d) (looked-rest d) (c .if2 .taken))
-
-returns-3 : tie.Need-returns-3 Inv-loop μ-loop
-returns-3 c = let d = c .before .before in sym (compared d ∙ head-more (a d) (b d) (row-rest d) (looked-rest d) (c .if3 .taken))
-
-add-j : tie.Need-add-j Inv-loop μ-loop
-add-j c = omega arith
-
-loop-less : tie.Need-loop-less Inv-loop μ-loop
-loop-less c = omega arith
-
-loop-again : tie.Need-loop-again Inv-loop μ-loop
-loop-again c =
-    let d = c .before .before in
-    compared d ∙ head-same (a d) (b d) (row-rest d) (looked-rest d) (omega arith)
-
-returns-4 : tie.Need-returns-4 Inv-loop μ-loop
+returns-4 : tie.Need-returns-4
 returns-4 c =
-    let at = c .before .before in
-    sym (at .loop .inv ∙ end-less (row at) (looked at) (at .loop .j) (omega arith) (omega (arith, looked-length at)))
+    let d = c .before .before in
+    same-heads d (sym (number-more _ _ _ (c .if4 .taken)))
 
-returns-5 : tie.Need-returns-5 Inv-loop μ-loop
+returns-5 : tie.Need-returns-5
 returns-5 c =
-    let at = c .before .before in
-    sym (at .loop .inv ∙ end-same (row at) (looked at) (at .loop .j) (omega arith) (omega (arith, looked-length at)))
+    let d = c .before .before in
+    same-heads d (sym (simp (le-ltb _ _ (c .before .if3 .left), le-ltb _ _ (c .if4 .left))))
 
 pub compare-spec : {M : Type 1} → statement M
 compare-spec =
     tie.close
-    (tie.spec
-    Inv-loop
-    μ-loop
-    length-of-requires
-    loop-holds
-    returns
-    byte-of-requires
-    shared-slice-read-lower
-    lower-requires
-    returns-2
-    returns-3
-    add-j
-    loop-less
-    loop-again
-    returns-4
-    returns-5)
+    (tie.spec head-at-requires returns returns-2 tail-at-requires returns-3 returns-4 returns-5)

@@ -1,126 +1,87 @@
--- `lexer::find::find` meets its contract. The loop's invariant: each row before `lo` is less than the word, each from `hi` on is more,
--- and each between begins with the word's first letter. Assumes nothing.
+-- `lexer::find::find` meets its contract. The loop's invariant: each row before `lo` is less than the word that the numbers stand for,
+-- and each from `hi` on is more. Assumes nothing.
 use mathlib.Core.Path.{_≡_, sym, ap, _∙_}
-use mathlib.Core.List.{List, []}
+use mathlib.Core.List.{List}
 use Prim.Native.Nat.{ℕ, _+_, _-_, _/_, _≤_, _<_}
 use native.Mathlib.Omega.{arith}
 use borrow.Author.Needs.{needs}
-use lib.ListN.{length, getD, drop-of-length-le, length-map, List·getD-map}
+use lib.ListN.{length}
 use Rattle.lexer.specs.Keywords.{keywords}
-use Rattle.lexer.specs.Words.{ordered, meaning, lowerOf, folded}
-use Rattle.lexer.specs.Table.{sorted, spellingAt}
+use Rattle.lexer.specs.Words.{ordered}
+use Rattle.lexer.specs.Table.{sorted, spellingAt, Stands}
 use Rattle.lexer.specs.declared.find.Order.the-variants.{Less, Same, More}
 use Rattle.lexer.specs.declared.find.Found.the-variants.{Lexeme}
 use Rattle.lexer.proofs.Order.{Tri, below, equal, above, tri, clash}
 use Rattle.lexer.proofs.Sorting.{meaning-sorted}
 use Rattle.lexer.proofs.Halves.{all-less, all-more, none-before, absent, present}
-use Rattle.lexer.proofs.Starts.{first-row-most, begins-with, starts-less, starts-more}
-use Rattle.lexer.proofs.Rows.{rows-count, rows-increasing, in-table}
+use Rattle.lexer.proofs.Keys.{stands-ordered}
+use Rattle.lexer.proofs.Rows.{rows-count, rows-increasing, in-table, row-short, row-small}
 use Rattle.lexer.proofs.find.find.Statement.{statement}
 use Rattle.lexer.proofs.find.find.Tie as tie
 
 -- each row before `lo` is less than w
 abbrev Below : List ℕ → ℕ → Type 0
-Below w lo = (k : ℕ) → k < lo → ordered (spellingAt (sorted keywords) k) (folded w) ≡ Less
+Below w lo = (k : ℕ) → k < lo → ordered (spellingAt (sorted keywords) k) w ≡ Less
 
 -- each row from `hi` on is more than w
 abbrev Above : List ℕ → ℕ → Type 0
-Above w hi = (k : ℕ) → hi ≤ k → k < length (sorted keywords) → ordered (spellingAt (sorted keywords) k) (folded w) ≡ More
+Above w hi = (k : ℕ) → hi ≤ k → k < length (sorted keywords) → ordered (spellingAt (sorted keywords) k) w ≡ More
+
+-- what is known of the word that two numbers stand for
+abbrev Between : ℕ → ℕ → ℕ → ℕ → Type 0
+Between head tail lo hi = (w : List ℕ) → Stands head tail w → Below w lo × Above w hi
 
 abbrev Inv-loop : tie.InvT-loop
-Inv-loop words w b lo₀ hi₀ lo hi = (lo₀ ≤ lo) × (hi ≤ hi₀) × (hi ≤ 133) × Below w lo × Above w hi
+Inv-loop words head tail lo₀ hi₀ lo hi = (hi ≤ 133) × Between head tail lo hi
 
 abbrev μ-loop : tie.MeasureT-loop
-μ-loop words w b lo₀ hi₀ lo hi = hi - lo
+μ-loop words head tail lo₀ hi₀ lo hi = hi - lo
 
 -- no row is left between `lo` and `hi`: none spells w
 none-left : (w : List ℕ) (lo hi : ℕ) → hi ≤ lo → Below w lo → Above w hi
-    → (k : ℕ) → k < length (sorted keywords) → ordered (spellingAt (sorted keywords) k) (folded w) ≡ Same → ⊥
+    → (k : ℕ) → k < length (sorted keywords) → ordered (spellingAt (sorted keywords) k) w ≡ Same → ⊥
 none-left w lo hi l low high k h = go (tri k lo)
   where
-    go : Tri k lo → ordered (spellingAt (sorted keywords) k) (folded w) ≡ Same → ⊥
+    go : Tri k lo → ordered (spellingAt (sorted keywords) k) w ≡ Same → ⊥
     go (below a) e = clash (low k a) e tt
     go (equal a) e = clash (high k (omega arith) h) e tt
     go (above a) e = clash (high k (omega arith) h) e tt
 
--- the entry, from a turn of the loop
-abbrev start : tie.At-loop Inv-loop μ-loop → tie.Start Inv-loop μ-loop
-start at = at .before .before .before .before .before .before .before
-
--- the word's first byte
-first-folded : (c : tie.After-lower Inv-loop μ-loop) → c .lower .result ≡ getD (folded (c .before .before .before .before .args .w .now)) 0 0
-first-folded c = c .lower .ensures ∙ sym (List·getD-map lowerOf (c .before .before .before .before .args .w .now) 0 0)
-
 -- the middle row beside the word
-module _ (c : tie.In-loop Inv-loop μ-loop) where
+module _ (c : tie.After-compare Inv-loop μ-loop) where
   abbrev at : tie.At-loop Inv-loop μ-loop
-  at = c .before
+  at = c .before .before
 
-  abbrev looked : List ℕ
-  looked = folded (start at .args .w .now)
+  abbrev start : tie.Start Inv-loop μ-loop
+  start = at .before
 
   abbrev mid : ℕ
-  mid = at .loop .lo + (at .loop .hi - at .loop .lo - 1) / 2
+  mid = (at .loop .lo + at .loop .hi - 1) / 2
+
+  mid-below : mid < 133
+  mid-below = omega arith
 
   mid-in : mid < length (sorted keywords)
-  mid-in = in-table mid (omega arith)
+  mid-in = in-table mid mid-below
 
-  mid-begins : getD (spellingAt (sorted keywords) mid) 0 0 ≡ getD looked 0 0
-  mid-begins =
-      let hi = at .before in
-      let lo = hi .before in
-      begins-with (sorted keywords) rows-increasing (lo .before .lower .result) mid
-      (omega (arith, lo .first-row .ensures)) (omega (arith, hi .first-row2 .ensures))
-      ∙ first-folded (lo .before)
-
-returns : tie.Need-returns Inv-loop μ-loop
-unfolding keywords
-returns c =
-    let w = c .before .before .args .w .now in
-    let none : w ≡ [] = drop-of-length-le w {i = 0} (omega arith) in
-    sym (ap (λ (l : List ℕ). meaning keywords (folded l)) none)
-
-shared-slice-read-lower : tie.Need-shared-slice-read-lower Inv-loop μ-loop
-shared-slice-read-lower c = omega arith
-
-lower-requires : tie.Need-lower-requires Inv-loop μ-loop
-lower-requires c κs = search needs
-
-cast-b : tie.Need-cast-b Inv-loop μ-loop
-cast-b c = search needs
-
-first-row-requires : tie.Need-first-row-requires Inv-loop μ-loop
-first-row-requires c κs = search needs
-
-add-first-row : tie.Need-add-first-row Inv-loop μ-loop
-add-first-row c = search needs
-
-first-row-requires-2 : tie.Need-first-row-requires-2 Inv-loop μ-loop
-first-row-requires-2 c κs = search needs
+  compared : (w : List ℕ) → Stands (start .args .head) (start .args .tail) w
+      → ordered (spellingAt (sorted keywords) mid) w ≡ c .compare .result
+  compared w k =
+      stands-ordered (spellingAt (sorted keywords) mid) (row-small mid mid-below) (row-short mid mid-below)
+      (start .args .head) (start .args .tail) w k
+      ∙ sym (c .compare .ensures)
 
 loop-holds : tie.Need-loop-holds Inv-loop μ-loop
-loop-holds c =
-    let d = c .before .before in
-    let w = d .before .before .before .before .args .w .now in
-    let b = first-folded d in (
-      omega arith,
-      omega arith,
-      omega (arith, c .first-row2 .ensures, first-row-most (sorted keywords) (d .lower .result + 1), rows-count),
-      (λ k h. starts-less (sorted keywords) (folded w) (omega (arith, length-map w lowerOf)) k (rw (← b, ← (c .before .first-row .ensures)) h)),
-      (λ k h l. starts-more (sorted keywords) (folded w) rows-increasing k (rw (← b, ← (c .first-row2 .ensures)) h) l),
-    )
-
-sub-mid : tie.Need-sub-mid Inv-loop μ-loop
-sub-mid c = omega arith
-
-sub-mid-2 : tie.Need-sub-mid-2 Inv-loop μ-loop
-sub-mid-2 c = omega arith
+loop-holds c = (omega arith, (λ w k. ((λ i h. absurd (omega arith)), (λ i h l. absurd (omega (arith, rows-count))))))
 
 add-mid : tie.Need-add-mid Inv-loop μ-loop
 add-mid c = omega arith
 
+sub-mid : tie.Need-sub-mid Inv-loop μ-loop
+sub-mid c = omega arith
+
 compare-requires : tie.Need-compare-requires Inv-loop μ-loop
-compare-requires c κs = (start (at c) .pre, omega arith, mid-begins c)
+compare-requires c κs = (c .before .before .pre, omega arith)
 
 enum-told : tie.Need-enum-told Inv-loop μ-loop
 enum-told c = search needs
@@ -133,31 +94,26 @@ loop-less c = omega arith
 
 loop-again : tie.Need-loop-again Inv-loop μ-loop
 loop-again c =
-    let compared = c .before .before in
-    let d = compared .before in (
+    let d = c .before .before in (
       omega arith,
-      omega arith,
-      omega arith,
-      all-less (sorted keywords) rows-increasing (looked d) (mid d) (mid-in d) (sym (compared .compare .ensures) ∙ c .enum-told .given .1),
-      at d .loop .inv .4,
+      (λ w k. (
+        all-less (sorted keywords) rows-increasing w (mid d) (mid-in d) (compared d w k ∙ c .enum-told .given .1),
+        at d .loop .inv .1 w k .1,
+      )),
     )
 
 enum-told-2 : tie.Need-enum-told-2 Inv-loop μ-loop
 enum-told-2 c = search needs
 
-lexeme-of-requires : tie.Need-lexeme-of-requires Inv-loop μ-loop
-lexeme-of-requires c κs = (start (c .before .before .before .before) .pre, omega arith)
+lexeme-at-requires : tie.Need-lexeme-at-requires Inv-loop μ-loop
+lexeme-at-requires c κs = (c .before .before .before .before .before .pre, omega arith)
 
-returns-2 : tie.Need-returns-2 Inv-loop μ-loop
-returns-2 c =
-    let compared = c .before .before .before in
-    let d = compared .before in
-    let e : ordered (spellingAt (sorted keywords) (mid d)) (looked d) ≡ Same =
-    sym (compared .compare .ensures) ∙ c .before .enum-told2 .given .1 in
-    let none = none-before (sorted keywords) rows-increasing (looked d) (mid d) (mid-in d) e in
-    ap Lexeme (c .lexeme-of .ensures)
-    ∙ sym (present (sorted keywords) (looked d) (mid d) (mid-in d) none e)
-    ∙ meaning-sorted keywords (looked d)
+returns : tie.Need-returns Inv-loop μ-loop
+returns c = λ w k.
+    let d = c .before .before .before in
+    let e : ordered (spellingAt (sorted keywords) (mid d)) w ≡ Same = compared d w k ∙ c .before .enum-told2 .given .1 in
+    let none = none-before (sorted keywords) rows-increasing w (mid d) (mid-in d) e in
+    ap Lexeme (c .lexeme-at .ensures) ∙ sym (present (sorted keywords) w (mid d) (mid-in d) none e) ∙ meaning-sorted keywords w
 
 enum-told-3 : tie.Need-enum-told-3 Inv-loop μ-loop
 enum-told-3 c = search needs
@@ -167,21 +123,19 @@ loop-less-2 c = omega arith
 
 loop-again-2 : tie.Need-loop-again-2 Inv-loop μ-loop
 loop-again-2 c =
-    let compared = c .before .before in
-    let d = compared .before in (
+    let d = c .before .before in (
       omega arith,
-      omega arith,
-      omega arith,
-      at d .loop .inv .3,
-      all-more (sorted keywords) rows-increasing (looked d) (mid d) (mid-in d) (sym (compared .compare .ensures) ∙ c .enum-told3 .given .1),
+      (λ w k. (
+        at d .loop .inv .1 w k .0,
+        all-more (sorted keywords) rows-increasing w (mid d) (mid-in d) (compared d w k ∙ c .enum-told3 .given .1),
+      )),
     )
 
-returns-3 : tie.Need-returns-3 Inv-loop μ-loop
-returns-3 c =
+returns-2 : tie.Need-returns-2 Inv-loop μ-loop
+returns-2 c = λ w k.
     let l = c .before .loop in
-    let w = start (c .before) .args .w .now in
-    sym (absent (sorted keywords) (folded w) (none-left w (l .lo) (l .hi) (c .loop-test .left) (l .inv .3) (l .inv .4)))
-    ∙ meaning-sorted keywords (folded w)
+    let b = l .inv .1 w k in
+    sym (absent (sorted keywords) w (none-left w (l .lo) (l .hi) (c .loop-test .left) (b .0) (b .1))) ∙ meaning-sorted keywords w
 
 pub find-spec : {M : Type 1} → statement M
 find-spec =
@@ -189,26 +143,18 @@ find-spec =
     (tie.spec
     Inv-loop
     μ-loop
-    returns
-    shared-slice-read-lower
-    lower-requires
-    cast-b
-    first-row-requires
-    add-first-row
-    first-row-requires-2
     loop-holds
-    sub-mid
-    sub-mid-2
     add-mid
+    sub-mid
     compare-requires
     enum-told
     add-lo
     loop-less
     loop-again
     enum-told-2
-    lexeme-of-requires
-    returns-2
+    lexeme-at-requires
+    returns
     enum-told-3
     loop-less-2
     loop-again-2
-    returns-3)
+    returns-2)

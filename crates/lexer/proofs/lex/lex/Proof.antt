@@ -1,37 +1,66 @@
 -- `lexer::lex::lex` meets its contract. The loop's invariant: what was read so far stands in front of what is left. Assumes nothing.
 use mathlib.Core.Path.{_≡_, refl, sym, ap, _∙_}
-use mathlib.Core.List.{List, [], _∷_, _++_, append-nil}
+use mathlib.Core.List.{List, [], _∷_, _++_, append-nil, append-assoc}
 use Prim.Native.Nat.{ℕ, _+_, _-_, _≤_}
 use native.Mathlib.Omega.{arith}
 use borrow.Author.Needs.{needs}
 use borrow.Author.Tests.{le-leb, lt-leb}
 use lib.ListN.{length, length-append}
+use lib.Seq.{sets}
 use Rattle.lexer.specs.Keywords.{keywords}
-use Rattle.lexer.specs.Lex.{tokenAt, Item, item, ahead, lexFrom, lexed, filled, codesOf, startsOf}
+use Rattle.lexer.specs.Lex.{tokenAt, Item, item, Lexed, ahead, lexFrom, lexed, frontFrom, front}
+use Rattle.lexer.specs.Lex.{codesOf, startsOf, endedOf, Placed}
+use Rattle.lexer.specs.declared.lex.Ended.{Ended}
 use Rattle.lexer.specs.declared.lex.Token.the-variants.{Finish, Taken, Refused}
 use Rattle.lexer.proofs.Lines.{lex-finish, lex-refused, lex-full, lex-taken, ahead-none, ahead-more, array-more}
-use Rattle.lexer.proofs.Places.{answered}
+use Rattle.lexer.proofs.Places.{taken-below, placed}
 use Rattle.lexer.proofs.lex.lex.Statement.{statement}
 use Rattle.lexer.proofs.lex.lex.Tie as tie
 
--- the phrase s is read up to `at`: n lexemes, `done`
-record Read (s codes starts : List ℕ) (n at : ℕ) : Type 0 where
+-- the phrase s is read up to `at`: n lexemes, `done`, are stored in the arrays
+record Read (s codes₀ starts₀ codes starts : List ℕ) (n at : ℕ) : Type 0 where
   done : List Item
   count : length done ≡ n
   room : n ≤ 64
-  codes-are : codes ≡ filled (codesOf done)
-  starts-are : starts ≡ filled (startsOf done)
+  codes-are : codes ≡ sets codes₀ 0 (codesOf done)
+  starts-are : starts ≡ sets starts₀ 0 (startsOf done)
   read : lexed keywords s ≡ ahead done (lexFrom keywords (64 - n) s at)
+  ahead-of : front keywords s ≡ done ++ frontFrom keywords (64 - n) s at
 
 abbrev Inv-loop : tie.InvT-loop
-Inv-loop s words codes₀ starts₀ n₀ at₀ codes starts n at = Read s codes starts n at
+Inv-loop s codes₀ starts₀ words n₀ at₀ codes starts n at = Read s codes₀ starts₀ codes starts n at
 
 abbrev μ-loop : tie.MeasureT-loop
-μ-loop s words codes₀ starts₀ n₀ at₀ codes starts n at = 64 - n
+μ-loop s codes₀ starts₀ words n₀ at₀ codes starts n at = 64 - n
 
--- the phrase, at a turn of the loop
-abbrev phrase : tie.At-loop Inv-loop μ-loop → List ℕ
-phrase at = at .before .before .before .before .args .s .now
+-- what `lex` owes for an answer and the arrays that it leaves
+abbrev Owed : List ℕ → List ℕ → List ℕ → List ℕ → List ℕ → Ended → Type 0
+Owed s codes₀ starts₀ codes starts r =
+    (r ≡ endedOf (lexed keywords s))
+    × ((codes ≡ sets codes₀ 0 (codesOf (front keywords s)))
+    × ((starts ≡ sets starts₀ 0 (startsOf (front keywords s)))
+    × Placed (length s) r))
+
+-- no lexeme follows those that were read: the answer is settled, and so are the arrays
+stopped : (s codes₀ starts₀ : List ℕ) {codes starts : List ℕ} {n at : ℕ} {w : Lexed} {r : Ended}
+    (h : Read s codes₀ starts₀ codes starts n at)
+    → (lexFrom keywords (64 - n) s at ≡ w) × (frontFrom keywords (64 - n) s at ≡ []) → r ≡ endedOf (ahead (h .done) w)
+    → Owed s codes₀ starts₀ codes starts r
+stopped s codes₀ starts₀ {codes} {starts} {n} {at} {w} {r} h (e, none) a =
+    let all : front keywords s ≡ h .done = h .ahead-of ∙ ap (_++_ (h .done)) none ∙ append-nil (h .done) in
+    let right : r ≡ endedOf (lexed keywords s) = a ∙ ap endedOf (sym (h .read ∙ ap (ahead (h .done)) e)) in
+    (right, (rw all (h .codes-are), (rw all (h .starts-are), placed keywords s right)))
+
+-- the phrase and the arrays at the entry, from a turn of the loop
+module _ (at : tie.At-loop Inv-loop μ-loop) where
+  abbrev phrase : List ℕ
+  phrase = at .before .before .before .before .args .s .now
+
+  abbrev codes₀ : List ℕ
+  codes₀ = at .before .before .before .before .args .codes .now
+
+  abbrev starts₀ : List ℕ
+  starts₀ = at .before .before .before .before .args .starts .now
 
 -- the token there is a lexeme
 module _ (d : tie.After-t2 Inv-loop μ-loop) where
@@ -54,26 +83,30 @@ refuse-requires : tie.Need-refuse-requires Inv-loop μ-loop
 refuse-requires c κs = search needs
 
 returns : tie.Need-returns Inv-loop μ-loop
-unfolding lexed
+unfolding lexed front
 returns c =
     let s = c .before .before .before .args .s .now in
-    answered keywords s (c .refuse .ensures ∙ sym (simp (lt-leb (length s) 256 (c .before .if1 .taken))))
+    let long = lt-leb (length s) 256 (c .before .if1 .taken) in
+    let right : c .refuse .result ≡ endedOf (lexed keywords s) = c .refuse .ensures ∙ sym (simp long) in
+    (right, (simp long, (simp long, placed keywords s right)))
+
+rows-requires : tie.Need-rows-requires Inv-loop μ-loop
+rows-requires c κs = search needs
 
 loop-holds : tie.Need-loop-holds Inv-loop μ-loop
-unfolding lexed
+unfolding lexed front
 loop-holds c =
     let s = c .before .before .before .args .s .now in
+    let short = le-leb (length s) 256 (c .before .if1 .left) in
     record {
       done = [];
       count = refl;
       room = omega arith;
       codes-are = refl;
       starts-are = refl;
-      read = simp (le-leb (length s) 256 (c .before .if1 .left)) (sym (ahead-none (lexFrom keywords 64 s 0)));
+      read = simp short (sym (ahead-none (lexFrom keywords 64 s 0)));
+      ahead-of = simp short;
     }
-
-rows-requires : tie.Need-rows-requires Inv-loop μ-loop
-rows-requires c κs = search needs
 
 token-in-requires : tie.Need-token-in-requires Inv-loop μ-loop
 token-in-requires c κs = search needs
@@ -86,14 +119,8 @@ returns-2 c =
     let at = c .before .before .before .before in
     let l = at .loop in
     let e : tokenAt keywords (phrase at) (l .at) ≡ Finish = sym (c .before .before .token-in .ensures) ∙ c .enum-told .given .1 in
-    answered keywords (phrase at) (rw (
-      l .inv .read,
-      lex-finish keywords (phrase at) (l .at) (64 - l .n) e,
-      append-nil (l .inv .done),
-      l .inv .count,
-      ← (l .inv .codes-are),
-      ← (l .inv .starts-are),
-    ))
+    stopped (phrase at) (codes₀ at) (starts₀ at) (l .inv) (lex-finish keywords (phrase at) (l .at) (64 - l .n) e)
+    (rw (append-nil (l .inv .done), l .inv .count))
 
 enum-known-t : tie.Need-enum-known-t Inv-loop μ-loop
 enum-known-t c = search needs
@@ -109,10 +136,8 @@ returns-3 c =
     let g = d .t .given in
     let e : tokenAt keywords (phrase at) (l .at) ≡ Refused (g .0 .0) (g .0 .1 .0) (g .0 .1 .1 .0) =
     sym (d .before .before .token-in .ensures) ∙ g .1 in
-    answered keywords (phrase at) (rw (
-      l .inv .read,
-      lex-refused keywords (phrase at) (l .at) (64 - l .n) (g .0 .0) (g .0 .1 .0) (g .0 .1 .1 .0) e,
-    ) (c .refuse2 .ensures))
+    stopped (phrase at) (codes₀ at) (starts₀ at) (l .inv)
+    (lex-refused keywords (phrase at) (l .at) (64 - l .n) (g .0 .0) (g .0 .1 .0) (g .0 .1 .1 .0) e) (c .refuse2 .ensures)
 
 enum-known-t-2 : tie.Need-enum-known-t-2 Inv-loop μ-loop
 enum-known-t-2 c = search needs
@@ -124,22 +149,23 @@ returns-4 : tie.Need-returns-4 Inv-loop μ-loop
 returns-4 c =
     let d = c .before .before .before in
     let l = at d .loop in
-    answered keywords (phrase (at d)) (rw (
-      l .inv .read,
-      lex-full keywords (phrase (at d)) (l .at) (64 - l .n) (code d) (start d) (end d) (omega arith) (taken d),
-    ) (c .refuse3 .ensures))
+    stopped (phrase (at d)) (codes₀ (at d)) (starts₀ (at d)) (l .inv)
+    (lex-full keywords (phrase (at d)) (l .at) (64 - l .n) (code d) (start d) (end d) (omega arith) (taken d)) (c .refuse3 .ensures)
 
 mul-codes : tie.Need-mul-codes Inv-loop μ-loop
 mul-codes c = omega arith
 
-array-write-codes : tie.Need-array-write-codes Inv-loop μ-loop
-array-write-codes c = omega arith
+element-write-codes : tie.Need-element-write-codes Inv-loop μ-loop
+element-write-codes c = omega arith
 
-mul-starts : tie.Need-mul-starts Inv-loop μ-loop
-mul-starts c = omega arith
+cast-starts : tie.Need-cast-starts Inv-loop μ-loop
+cast-starts c =
+    let d = c .before .before in
+    let l = at d .loop in
+    omega (arith, taken-below keywords (phrase (at d)) (l .at) (code d) (start d) (end d) (taken d))
 
-array-write-starts : tie.Need-array-write-starts Inv-loop μ-loop
-array-write-starts c = omega arith
+element-write-starts : tie.Need-element-write-starts Inv-loop μ-loop
+element-write-starts c = omega arith
 
 add-n : tie.Need-add-n Inv-loop μ-loop
 add-n c = omega arith
@@ -155,16 +181,16 @@ loop-again c =
     let n = l .n in
     let i = item (code d) (start d) in
     let done = l .inv .done in
+    let next = lex-taken keywords s (l .at) (64 - n) (64 - (n + 1)) (code d) (start d) (end d) (omega arith) (taken d) in
     record {
       done = done ++ (i ∷ []);
       count = simp length-append (omega (arith, l .inv .count));
       room = omega arith;
-      codes-are = array-more (λ (i : Item). i .code) done i n (l .inv .count) (omega arith) (l .inv .codes-are);
-      starts-are = array-more (λ (i : Item). i .start) done i n (l .inv .count) (omega arith) (l .inv .starts-are);
-      read =
-          l .inv .read
-          ∙ ap (ahead done) (lex-taken keywords s (l .at) (64 - n) (64 - (n + 1)) (code d) (start d) (end d) (omega arith) (taken d))
-          ∙ ahead-more done (i ∷ []) (lexFrom keywords (64 - (n + 1)) s (end d));
+      codes-are = array-more (λ (i : Item). i .code) done i n (codes₀ (at d)) (l .inv .count) (l .inv .codes-are);
+      starts-are = array-more (λ (i : Item). i .start) done i n (starts₀ (at d)) (l .inv .count) (l .inv .starts-are);
+      read = l .inv .read ∙ ap (ahead done) (next .0) ∙ ahead-more done (i ∷ []) (lexFrom keywords (64 - (n + 1)) s (end d));
+      ahead-of =
+          l .inv .ahead-of ∙ ap (_++_ done) (next .1) ∙ sym (append-assoc done (i ∷ []) (frontFrom keywords (64 - (n + 1)) s (end d)));
     }
 
 pub lex-spec : {M : Type 1} → statement M
@@ -187,9 +213,9 @@ lex-spec =
     refuse-requires-3
     returns-4
     mul-codes
-    array-write-codes
-    mul-starts
-    array-write-starts
+    element-write-codes
+    cast-starts
+    element-write-starts
     add-n
     loop-less
     loop-again)

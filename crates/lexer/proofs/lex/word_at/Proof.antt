@@ -1,25 +1,43 @@
 -- `lexer::lex::word_at` meets its contract. Assumes nothing.
-use native.Mathlib.Omega.{arith}
+use mathlib.Core.Path.{_≡_, sym, ap}
+use mathlib.Core.List.{List}
+use Prim.Native.Nat.{ℕ}
 use borrow.Author.Needs.{needs}
+use Rattle.lexer.specs.Keywords.{keywords}
+use Rattle.lexer.specs.Words.{meaning}
 use Rattle.lexer.specs.Classes.{Letter}
-use Rattle.lexer.specs.Lex.{wordAt}
-use Rattle.lexer.proofs.Runs.{run-within}
+use Rattle.refusals.specs.Table as refusal
+use Rattle.lexer.specs.Lex.{runEnd, wordFrom, wordAt}
+use Rattle.lexer.specs.declared.lex.Token.{Token}
+use Rattle.lexer.specs.declared.lex.Token.the-variants.{Taken, Refused}
+use Rattle.lexer.specs.declared.word.Key.{Key}
+use Rattle.lexer.proofs.Letters.{word-small}
 use Rattle.lexer.proofs.lex.word_at.Statement.{statement}
 use Rattle.lexer.proofs.lex.word_at.Tie as tie
 
-run-end-requires : tie.Need-run-end-requires
-run-end-requires c κs = search needs
+module _ (d : tie.After-find) where
+  abbrev s : List ℕ
+  s = d .before .before .before .args .s .now
 
-sub-find : tie.Need-sub-find
-sub-find c = search needs
+  abbrev a : ℕ
+  a = d .before .before .before .args .a
 
-part-find-start : tie.Need-part-find-start
-part-find-start c = search needs
+  -- what is found is what the word means
+  found : d .find .result ≡ meaning keywords (wordFrom s a)
+  found =
+      let k = d .before .key-at .ensures in
+      d .find .ensures (wordFrom s a) (record {
+        letters = word-small s a;
+        head-is = sym (ap (λ (x : Key). x .head) k);
+        tail-is = sym (ap (λ (x : Key). x .tail) k);
+      })
 
-part-find-end : tie.Need-part-find-end
-part-find-end c =
-    let st = c .before .before in
-    omega (arith, c .run-end .ensures, run-within Letter (st .args .s .now) (st .args .a) (st .pre .1))
+  -- up to its end
+  ends : (f : ℕ → Token) → f (d .before .key-at .result .end) ≡ f (runEnd Letter s a)
+  ends f = ap (λ (x : Key). f (x .end)) (d .before .key-at .ensures)
+
+key-at-requires : tie.Need-key-at-requires
+key-at-requires c κs = search needs
 
 find-requires : tie.Need-find-requires
 find-requires c κs = search needs
@@ -34,24 +52,14 @@ returns : tie.Need-returns
 unfolding wordAt
 returns c =
     let d = c .before .before in
-    rw (← (d .before .before .run-end .ensures), ← (d .find .ensures), c .enum-told .given .1)
+    rw (← (found d), c .enum-told .given .1) (ends d (λ (e : ℕ). Refused refusal.Unknown (a d) e))
 
 returns-2 : tie.Need-returns-2
 unfolding wordAt
 returns-2 c =
     let d = c .before .before .before in
-    rw (← (d .before .before .run-end .ensures), ← (d .find .ensures), c .before .f .given .1)
+    rw (← (found d), c .before .f .given .1) (ends d (λ (e : ℕ). Taken (c .before .f .given .0 .0) (a d) e))
 
 pub word-at-spec : {M : Type 1} → statement M
 word-at-spec =
-    tie.close
-    (tie.spec
-    run-end-requires
-    sub-find
-    part-find-start
-    part-find-end
-    find-requires
-    enum-known-f
-    enum-told
-    returns
-    returns-2)
+    tie.close (tie.spec key-at-requires find-requires enum-known-f enum-told returns returns-2)

@@ -4,8 +4,8 @@ use Prim.Native.Nat.{ℕ, _+_}
 use borrow.Author.Needs.{needs}
 use Rattle.lexer.specs.Keywords.{keywords}
 use Rattle.lexer.specs.Lex.{between, lexed, placeOf}
-use Rattle.lexer.specs.declared.lex.Line.{Line}
-use Rattle.lexer.proofs.Places.{line-place, line-part}
+use Rattle.lexer.specs.declared.lex.Ended.{Ended}
+use Rattle.lexer.proofs.Places.{ended-place, ended-part}
 use Rattle.lexer.proofs.part.offending.Statement.{statement}
 use Rattle.lexer.proofs.part.offending.Tie as tie
 
@@ -18,10 +18,10 @@ part-requires c κs = search needs
 returns : tie.Need-returns
 returns c =
     let d = c .before in
-    let s = d .before .before .args .s in
+    let s = d .before .before .before .before .args .s in
     let r = lexed keywords (s .now) in
-    let place : d .lex .result .place ≡ placeOf r = ap (λ (l : Line). l .place) (d .lex .ensures .0) ∙ line-place r in (
-      c .part .ensures .0 ∙ ap (λ (l : Line). between (s .now) (l .place) (l .end)) (d .lex .ensures .0) ∙ line-part (s .now) r,
+    let place : d .lex .result .place ≡ placeOf r = ap (λ (e : Ended). e .place) (d .lex .ensures .0) ∙ ended-place r in (
+      c .part .ensures .0 ∙ ap (λ (e : Ended). between (s .now) (e .place) (e .end)) (d .lex .ensures .0) ∙ ended-part (s .now) r,
       c .part .ensures .1 ∙ ap (λ (a : ℕ). (s .ptr .0, a + s .ptr .1)) place,
     )
 

@@ -1,10 +1,8 @@
 use native.Mathlib.Omega.{arith}
+use mathlib.Core.Path.{_∙_}
 use denote.Ref.{now}
-use Rattle.expressions.specs.DateExprs.{dateExprOf}
 use Rattle.phrase.specs.DateTimes.{turnOf}
-use Rattle.phrase.proofs.Answers.{expr-turn}
-use Rattle.phrase.proofs.Few.{turn-few}
-use Rattle.phrase.proofs.Said.{expr-read, expr-none, expr-overflow, turn-promised}
+use Rattle.phrase.proofs.Turns.{time-stopped, dated-turn}
 use borrow.Author.Needs.{needs}
 use Rattle.phrase.proofs.date_time.read_turn.Statement.{statement}
 use Rattle.phrase.proofs.date_time.read_turn.Tie as tie
@@ -12,30 +10,36 @@ use Rattle.phrase.proofs.date_time.read_turn.Tie as tie
 is-at-requires : tie.Need-is-at-requires
 is-at-requires c κs = search needs
 
-with-base-requires : tie.Need-with-base-requires
-with-base-requires c κs = search needs
-
 returns : tie.Need-returns
 unfolding turnOf
-returns c =
-    let if1 = c .before .if1 in
-    let is-at = c .before .before .is-at in
-    let args = c .before .before .before .before .before .args in
-    let pre = c .before .before .before .before .before .pre in
-    turn-promised (args .r) _ (rw (← (is-at .ensures .0), if1 .taken, c .with-base .ensures)) (turn-few (now (args .l))) pre
+returns c = rw (← (c .before .is-at .ensures .0), c .if1 .taken)
 
 read-expr-requires : tie.Need-read-expr-requires
 read-expr-requires c κs = search needs
 
-enum-known-taken : tie.Need-enum-known-taken
-enum-known-taken c = search needs
+enum-known-e : tie.Need-enum-known-e
+enum-known-e c = search needs
 
-with-expr-requires : tie.Need-with-expr-requires
-with-expr-requires c κs =
-    let taken = c .before .taken in
-    let read-expr = c .before .before .before .before .read-expr in
-    let b = rw (taken .given .1) at (read-expr .ensures .1 .bounds) in
+time-behind-requires : tie.Need-time-behind-requires
+time-behind-requires c κs =
+    let b = (rw (c .before .e .given .1) at (c .before .before .before .read-expr .ensures .1)) .bounds in
     omega arith
+
+enum-known-a : tie.Need-enum-known-a
+enum-known-a c = search needs
+
+turn-stopped-requires : tie.Need-turn-stopped-requires
+turn-stopped-requires c κs = search needs
+
+returns-2 : tie.Need-returns-2
+returns-2 c =
+    let d = c .before .before .before .before .before .before in
+    let e = c .before .before .before .before .e in
+    let behind = c .before .before .time-behind in
+    let l = now (d .before .before .before .before .args .l) in
+    let dated = dated-turn l (d .before .before .is-at .ensures .0) (d .before .if1 .left) (d .read-expr .ensures .0) (e .given .1) in
+    let stopped = time-stopped (e .given .0 .0) (e .given .0 .1 .1 .0) (behind .result) (c .before .match2 .keys2) (behind .ensures) in
+    c .turn-stopped .ensures ∙ stopped ∙ dated
 
 enum-told : tie.Need-enum-told
 enum-told c = search needs
@@ -46,67 +50,43 @@ read-undated-requires c κs = search needs
 enum-told-2 : tie.Need-enum-told-2
 enum-told-2 c = search needs
 
-returns-2 : tie.Need-returns-2
-unfolding turnOf
-returns-2 c =
-    let taken = c .before .before .taken in
-    let read-expr = c .before .before .before .before .before .read-expr in
-    let if1 = c .before .before .before .before .before .before .if1 in
-    let is-at = c .before .before .before .before .before .before .before .is-at in
-    let args = c .before .before .before .before .before .before .before .before .before .before .args in
-    let pre = c .before .before .before .before .before .before .before .before .before .before .pre in
-    let said = expr-read (args .r .parts) (dateExprOf (now (args .l))) (read-expr .ensures .0) (taken .given .1) in
-    turn-promised (args .r) _ (rw (
-      ← (is-at .ensures .0),
-      if1 .left,
-      said .reading,
-      ← (expr-turn (now (args .l)) (said .expr) _ (args .r)),
-      ← (said .shaped),
-      ← (said .parts),
-    ) (c .with-expr .ensures)) (turn-few (now (args .l))) pre
-
 returns-3 : tie.Need-returns-3
-unfolding turnOf
 returns-3 c =
-    let enum-told = c .before .enum-told in
-    let read-expr = c .before .before .before .before .read-expr in
-    let if1 = c .before .before .before .before .before .if1 in
-    let is-at = c .before .before .before .before .before .before .is-at in
-    let args = c .before .before .before .before .before .before .before .before .before .args in
-    let pre = c .before .before .before .before .before .before .before .before .before .pre in
-    turn-promised (args .r) _ (rw (
-      ← (is-at .ensures .0),
-      if1 .left,
-      expr-none (args .r .parts) (dateExprOf (now (args .l))) (read-expr .ensures .0) (enum-told .given .1),
-    ) (c .read-undated .ensures .0)) (turn-few (now (args .l))) pre
+    let d = c .before .before .before .before .before .before .before in
+    let e = c .before .before .before .before .before .e in
+    let l = now (d .before .before .before .before .args .l) in
+    let dated = dated-turn l (d .before .before .is-at .ensures .0) (d .before .if1 .left) (d .read-expr .ensures .0) (e .given .1) in
+    rw (← (c .before .before .before .time-behind .ensures), c .before .a .given .1) at dated
 
 returns-4 : tie.Need-returns-4
-unfolding turnOf
 returns-4 c =
-    let read-expr = c .before .before .before .read-expr in
-    let if1 = c .before .before .before .before .if1 in
-    let is-at = c .before .before .before .before .before .is-at in
-    let args = c .before .before .before .before .before .before .before .before .args in
-    let pre = c .before .before .before .before .before .before .before .before .pre in
-    turn-promised (args .r) _ (rw (
-      ← (is-at .ensures .0),
-      if1 .left,
-      expr-overflow (args .r .parts) (dateExprOf (now (args .l))) (read-expr .ensures .0) (c .enum-told2 .given .1),
-    )) (turn-few (now (args .l))) pre
+    let d = c .before .before .before in
+    let l = now (d .before .before .before .before .args .l) in
+    let dated = dated-turn l (d .before .before .is-at .ensures .0) (d .before .if1 .left) (d .read-expr .ensures .0) (c .before .enum-told .given .1) in
+    c .read-undated .ensures ∙ dated
+
+returns-5 : tie.Need-returns-5
+returns-5 c =
+    let d = c .before .before in
+    let l = now (d .before .before .before .before .args .l) in
+    let dated = dated-turn l (d .before .before .is-at .ensures .0) (d .before .if1 .left) (d .read-expr .ensures .0) (c .enum-told2 .given .1) in
+    dated
 
 pub read-turn-spec : {M : Type 1} → statement M
 read-turn-spec =
     tie.close
     (tie.spec
     is-at-requires
-    with-base-requires
     returns
     read-expr-requires
-    enum-known-taken
-    with-expr-requires
+    enum-known-e
+    time-behind-requires
+    enum-known-a
+    turn-stopped-requires
+    returns-2
     enum-told
     read-undated-requires
     enum-told-2
-    returns-2
     returns-3
-    returns-4)
+    returns-4
+    returns-5)

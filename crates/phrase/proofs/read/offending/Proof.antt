@@ -1,7 +1,7 @@
 use Prim.Native.Nat.{ℕ, _+_}
 use mathlib.Core.Path.{ap, _∙_}
 use denote.Ref.{now}
-use Rattle.phrase.proofs.Phrases.{part-within, part-is, part-place}
+use Rattle.phrase.proofs.Phrases.{part-within, part-is}
 use borrow.Author.Needs.{needs}
 use Rattle.phrase.proofs.read.offending.Statement.{statement}
 use Rattle.phrase.proofs.read.offending.Tie as tie
@@ -18,10 +18,9 @@ returns : tie.Need-returns
 returns c =
     let read = c .before .read in
     let args = c .before .before .before .args in
-    let s = args .phrase in (
-      c .part .ensures .0 ∙ part-is (now s) (read .ensures),
-      c .part .ensures .1 ∙ ap (λ (a : ℕ). (s .ptr .0, a + s .ptr .1)) (part-place (now s) (read .ensures)),
-    )
+    let s = args .phrase in
+    let is = part-is (now s) (read .ensures) in
+    (c .part .ensures .0 ∙ is .1, c .part .ensures .1 ∙ ap (λ (a : ℕ). (s .ptr .0, a + s .ptr .1)) (is .0))
 
 pub offending-spec : {M : Type 1} → statement M
 offending-spec = tie.close (tie.spec read-requires part-requires returns)

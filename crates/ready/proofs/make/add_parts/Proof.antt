@@ -4,6 +4,8 @@ use mathlib.Core.Path.{_≡_, refl, ap, sym, _∙_}
 use lib.ListN.{length, length-map}
 use lib.Seq.{slice}
 use Rattle.steps.specs.Plans.{addTo}
+use Rattle.steps.specs.declared.plan.Move.{Move}
+use Rattle.steps.specs.declared.plan.Step.the-variants.{By}
 use Rattle.ready.specs.Bounds.{Longer}
 use Rattle.evaluation.proofs.Rows.{overRow, row-first, row-end}
 use Rattle.ready.proofs.Rows.{stepBehind, row-added}
@@ -35,13 +37,13 @@ mul-slot c = search needs
 element-copy-out-slot : tie.Need-element-copy-out-slot Inv-loop μ-loop
 element-copy-out-slot c = search needs
 
-part-step-requires : tie.Need-part-step-requires Inv-loop μ-loop
-part-step-requires c κs = search needs
+part-move-requires : tie.Need-part-move-requires Inv-loop μ-loop
+part-move-requires c κs = search needs
 
 add-requires : tie.Need-add-requires Inv-loop μ-loop
 add-requires c κs =
     let inv = c .before .before .before .loop .inv in
-    omega (arith, c .part-step .ensures .1, inv .2 .some, inv .2 .most, inv .2 .minutes)
+    omega (arith, c .part-move .ensures .1, inv .2 .some, inv .2 .most, inv .2 .minutes)
 
 add-i : tie.Need-add-i Inv-loop μ-loop
 add-i c = search needs
@@ -54,15 +56,15 @@ loop-again c =
     let loop = c .before .before .before .before .loop in
     let start = c .before .before .before .before .before in
     let inv = loop .inv in
-    let step = c .before .part-step in
-    let more = grown (step .result) (c .add .ensures) (inv .2 .some) in
+    let step = c .before .part-move in
+    let more = grown (By (step .result)) (c .add .ensures) (inv .2 .some) in
     let few = step .ensures .1 in (
       omega arith,
       omega arith,
       record { some = more .some; most = omega (arith, inv .2 .most); minutes = omega (arith, inv .2 .minutes) },
       inv .3 ∙ row-first (stepBehind (start .args .back)) _ _ _ _ (c .before .before .before .loop-test .taken) (within start)
           ∙ sym (ap (overRow (stepBehind (start .args .back)) (slice (loop .i + 1) (start .args .to) (start .args .t2 .items)))
-          (c .add .ensures ∙ ap (addTo (loop .q)) (step .ensures .0))),
+          (c .add .ensures ∙ ap (λ (m : Move). addTo (loop .q) (By m)) (step .ensures .0))),
     )
 
 returns : tie.Need-returns Inv-loop μ-loop
@@ -82,7 +84,7 @@ add-parts-spec =
     cast-slot
     mul-slot
     element-copy-out-slot
-    part-step-requires
+    part-move-requires
     add-requires
     add-i
     loop-less

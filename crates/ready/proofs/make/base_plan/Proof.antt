@@ -1,5 +1,4 @@
 use native.Mathlib.Omega.{arith}
-use mathlib.Core.Path.{refl}
 use Rattle.steps.specs.declared.plan.Step.the-variants.{AtTime}
 use Rattle.ready.specs.Made.{treeSteps}
 use Rattle.ready.proofs.Within.{may-add, started, behind}
@@ -43,7 +42,7 @@ add-requires-2 c κs =
 
 returns : tie.Need-returns
 unfolding treeSteps
-returns c = rw (c .before .enum-told .given .1) (started _ (c .single .ensures) refl (omega arith))
+returns c = rw (c .before .enum-told .given .1) (started _ (c .single .ensures) (omega arith))
 
 returns-2 : tie.Need-returns-2
 unfolding treeSteps

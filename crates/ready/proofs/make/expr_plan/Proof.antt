@@ -4,8 +4,9 @@ use mathlib.Core.Path.{_≡_, refl, ap, _∙_}
 use mathlib.Core.Bool.{true}
 use lib.ListN.{length, length-map}
 use Rattle.expressions.specs.declared.expr.Expr.{Expr}
-use Rattle.evaluation.specs.Formed.{hasDuration}
-use Rattle.steps.specs.declared.plan.Step.the-variants.{BackTo}
+use Rattle.expressions.specs.Shapes.{hasDuration}
+use Rattle.steps.specs.declared.plan.Move.the-variants.{BackTo}
+use Rattle.steps.specs.declared.plan.Step.the-variants.{By}
 use Rattle.ready.specs.Made.{exprSteps}
 use Rattle.ready.proofs.Rows.{row-size}
 use Rattle.ready.proofs.Within.{may-add, started, widened, behind}
@@ -75,7 +76,7 @@ add-requires c κs =
     let parts = start .args .parts in
     let here = own start (c .before .before .expr8 .given .1) refl in
     let all = row-size (parts .items) (start .args .own) (parts .n) (here .0) (within start) in
-    may-add (c .from-date3 .ensures .1) (BackTo (c .before .before .expr8 .given .0 .0)) (omega arith) (omega arith)
+    may-add (c .from-date3 .ensures .1) (By (BackTo (c .before .before .expr8 .given .0 .0))) (omega arith) (omega arith)
 
 enum-known-expr-9 : tie.Need-enum-known-expr-9
 enum-known-expr-9 c = search needs
@@ -103,7 +104,7 @@ single-requires-4 c κs = search needs
 
 returns : tie.Need-returns
 unfolding exprSteps
-returns c = rw (c .before .before .expr .given .1) (started _ (c .single .ensures) refl (omega arith))
+returns c = rw (c .before .before .expr .given .1) (started _ (c .single .ensures) (omega arith))
 
 returns-2 : tie.Need-returns-2
 unfolding exprSteps
@@ -123,7 +124,7 @@ returns-5 c = rw (c .before .before .expr5 .given .1) (c .unit-relative .ensures
 
 returns-6 : tie.Need-returns-6
 unfolding exprSteps
-returns-6 c = rw (c .before .before .expr6 .given .1) (started _ (c .single2 .ensures) refl (omega arith))
+returns-6 c = rw (c .before .before .expr6 .given .1) (started _ (c .single2 .ensures) (omega arith))
 
 returns-7 : tie.Need-returns-7
 unfolding exprSteps
@@ -133,7 +134,7 @@ returns-8 : tie.Need-returns-8
 unfolding exprSteps
 returns-8 c =
     let given = c .before .before .before .expr8 .given in
-    rw (given .1) (behind (c .before .from-date3 .ensures) (BackTo (given .0 .0)) (c .add .ensures) (omega arith) (omega arith))
+    rw (given .1) (behind (c .before .from-date3 .ensures) (By (BackTo (given .0 .0))) (c .add .ensures) (omega arith) (omega arith))
 
 returns-9 : tie.Need-returns-9
 unfolding exprSteps
@@ -145,11 +146,11 @@ returns-10 c = rw (c .before .before .expr10 .given .1) (widened (c .from-date5 
 
 returns-11 : tie.Need-returns-11
 unfolding exprSteps
-returns-11 c = rw (c .before .before .expr11 .given .1) (started _ (c .single3 .ensures) refl (omega arith))
+returns-11 c = rw (c .before .before .expr11 .given .1) (started _ (c .single3 .ensures) (omega arith))
 
 returns-12 : tie.Need-returns-12
 unfolding exprSteps
-returns-12 c = rw (c .before .enum-told .given .1) (started _ (c .single4 .ensures) refl (omega arith))
+returns-12 c = rw (c .before .enum-told .given .1) (started _ (c .single4 .ensures) (omega arith))
 
 pub expr-plan-spec : {M : Type 1} → statement M
 expr-plan-spec =

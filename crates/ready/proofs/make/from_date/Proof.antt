@@ -1,12 +1,12 @@
 use Prim.Native.Nat.{_≤_}
 use native.Mathlib.Omega.{arith}
-use mathlib.Core.Path.{_≡_, refl, ap, _∙_}
+use mathlib.Core.Path.{_≡_, ap, _∙_}
 use lib.ListN.{length, length-map}
 use lib.Seq.{slice}
 use Rattle.phrase.specs.Flat.{rowDuration}
-use Rattle.steps.specs.Plans.{pushed, blankPlan}
+use Rattle.steps.specs.Plans.{begun}
 use Rattle.steps.specs.declared.plan.Plan.{Plan}
-use Rattle.steps.specs.declared.plan.Step.the-variants.{OnDate}
+use Rattle.steps.specs.declared.plan.Start.the-variants.{OnDate}
 use Rattle.ready.specs.Made.{addDuration, held}
 use Rattle.ready.specs.Bounds.{Within}
 use Rattle.ready.proofs.Rows.{row-size}
@@ -20,8 +20,8 @@ within : (c : tie.Start) → c .args .parts .n ≤ length (c .args .parts .items
 within c = let long = simp length-map at (c .good .1 .0 .1 .1 .1 .0 .1 .0 .1) in omega (arith, c .pre .1)
 
 -- the date
-start : (c : tie.After-single) → (c .single .result ≡ pushed blankPlan (OnDate (c .before .args .date))) × Within (c .single .result) 1
-start c = started _ (c .single .ensures) refl (omega arith)
+start : (c : tie.After-single) → (c .single .result ≡ begun (OnDate (c .before .args .date))) × Within (c .single .result) 1
+start c = started _ (c .single .ensures) (omega arith)
 
 single-requires : tie.Need-single-requires
 single-requires c κs = search needs

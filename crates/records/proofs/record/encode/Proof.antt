@@ -4,24 +4,20 @@ use mathlib.Core.Path.{_≡_, refl}
 use mathlib.Core.List.{List}
 use lib.ListN.{length, length-map}
 use lib.Seq.{sets}
-use Rattle.steps.specs.Plans.{stepsIn}
 use Rattle.steps.specs.declared.plan.Plan.{Plan}
-use Rattle.steps.proofs.Listed.{stepsFrom, stepAt, all-steps, few-steps, no-step, next-step}
+use Rattle.steps.proofs.Listed.{stepsFrom, stepAt, no-step, next-step}
 use Rattle.records.specs.Words.{wordsOf}
 use Rattle.records.specs.Records.{bytesOfWords, encodeOf}
 use Rattle.records.proofs.Numbers.{sets-append}
-use Rattle.records.proofs.Steps.{Fits, AllFit, none, more}
-use Rattle.records.proofs.Lists.{decoded-back}
 use borrow.Author.Needs.{needs}
 use Rattle.records.proofs.record.encode.Statement.{statement}
 use Rattle.records.proofs.record.encode.Tie as tie
 
--- what is still to be put makes the rest, and what was put fits
+-- what is still to be put makes the rest
 record Putting (b₀ : List ℕ) (p : Plan) (b : List ℕ) (i : ℕ) : Type 0 where
   size : length b ≡ length b₀
   part : i ≤ p .n
   bytes : sets b (16 * i) (encodeOf (stepsFrom p i)) ≡ sets b₀ 0 (encodeOf (stepsFrom p 0))
-  fit : AllFit (stepsFrom p i) → AllFit (stepsFrom p 0)
 
 abbrev Inv-loop : tie.InvT-loop
 Inv-loop b₀ p n i₀ b i = Putting b₀ p b i
@@ -34,7 +30,7 @@ within : (c : tie.Start Inv-loop μ-loop) → c .args .t1 .n ≤ length (c .args
 within c = let long = simp length-map at (c .good .0 .1 .1 .1 .0 .1 .0 .1) in omega (arith, c .pre .0)
 
 loop-holds : tie.Need-loop-holds Inv-loop μ-loop
-loop-holds c = record { size = refl; part = search needs; bytes = refl; fit = λ f. f }
+loop-holds c = record { size = refl; part = search needs; bytes = refl }
 
 mul-slot : tie.Need-mul-slot Inv-loop μ-loop
 mul-slot c = search needs
@@ -68,17 +64,10 @@ loop-again c =
     let place : 16 * (l .i + 1) ≡ 16 * l .i + 16 = omega arith in
     let step = stepAt p (l .i) in
     let turn = sets-append (l .b) (16 * l .i) (bytesOfWords (wordsOf step)) (encodeOf (stepsFrom p (l .i + 1))) in
-    let first : Fits step =
-    record {
-      a = rw (← (w .words-of .ensures)) (search needs);
-      b = rw (← (w .words-of .ensures)) (search needs);
-      c = rw (← (w .words-of .ensures)) (search needs);
-    } in
     record {
       size = search needs;
       part = search needs;
       bytes = rw (place, put .ensures, w .words-of .ensures, ← turn) (rw next at (l .inv .bytes));
-      fit = λ f. l .inv .fit (rw next (more first f));
     }
 
 same-length : tie.Need-same-length Inv-loop μ-loop
@@ -89,10 +78,9 @@ returns c =
     let l = c .before .loop in
     let s = c .before .before .before in
     let p = s .args .t1 in
-    let all = all-steps p (s .pre .0) in
     let last : l .i ≡ p .n = omega arith in
     let end = no-step p last in
-    (rw (all, ← (l .inv .bytes), end), decoded-back (stepsIn p) (few-steps p (s .pre .0)) (rw all (l .inv .fit (rw end none))))
+    rw (← (l .inv .bytes), end)
 
 pub encode-spec : {M : Type 1} → statement M
 encode-spec =

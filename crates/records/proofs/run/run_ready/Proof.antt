@@ -1,6 +1,6 @@
 use mathlib.Core.Path.{sym, _∙_}
 use Rattle.calendar.proofs.Valid.{test-moment}
-use Rattle.evaluation.proofs.Laws.{refused-valid}
+use Rattle.calendar.proofs.Outcomes.{refused-valid}
 use Rattle.steps.specs.Running.{runOf}
 use borrow.Author.Needs.{needs}
 use Rattle.records.proofs.run.run_ready.Statement.{statement}

@@ -2,10 +2,9 @@ use Prim.Native.Nat.{_+_, _-_, _*_, _/_}
 use native.Mathlib.Nat.{sub-zero}
 use mathlib.Core.Path.{_≡_, sym, _∙_}
 use lib.ListN.{length}
-use Rattle.calendar.specs.Moments.{IsMoment, andThen}
-use Rattle.evaluation.specs.Steps.{reachedOf}
-use Rattle.evaluation.specs.declared.step.Reached.{Reached}
-use Rattle.evaluation.proofs.Laws.{moment-valid, refused-valid, at-moment}
+use Rattle.calendar.specs.Moments.{IsMoment, andThen, reachedOf}
+use Rattle.calendar.specs.declared.moments.Reached.{Reached}
+use Rattle.calendar.proofs.Outcomes.{moment-valid, refused-valid, at-moment}
 use Rattle.steps.specs.Running.{walkOf}
 use Rattle.records.specs.Records.{stepsAt, decodeOf}
 use Rattle.records.proofs.Lists.{steps-next}

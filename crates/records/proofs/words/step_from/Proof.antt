@@ -10,17 +10,17 @@ date-from-requires c κs = search needs
 specifier-from-requires : tie.Need-specifier-from-requires
 specifier-from-requires c κs = search needs
 
-cast-t10 : tie.Need-cast-t10
-cast-t10 c = search needs
+cast-t14 : tie.Need-cast-t14
+cast-t14 c = search needs
 
-cast-t11 : tie.Need-cast-t11
-cast-t11 c = search needs
+cast-t15 : tie.Need-cast-t15
+cast-t15 c = search needs
 
-mul-t12 : tie.Need-mul-t12
-mul-t12 c = search needs
+mul-t16 : tie.Need-mul-t16
+mul-t16 c = search needs
 
-add-t13 : tie.Need-add-t13
-add-t13 c = search needs
+add-t17 : tie.Need-add-t17
+add-t17 c = search needs
 
 time-from-requires : tie.Need-time-from-requires
 time-from-requires c κs = search needs
@@ -85,10 +85,10 @@ step-from-spec =
     (tie.spec
     date-from-requires
     specifier-from-requires
-    cast-t10
-    cast-t11
-    mul-t12
-    add-t13
+    cast-t14
+    cast-t15
+    mul-t16
+    add-t17
     time-from-requires
     returns
     returns-2

@@ -1,0 +1,107 @@
+/* lent.h: arrays between two fences, pages that nobody may touch, and the lines of the replayed list. Linux only; for the tests. */
+#ifndef LENT_H
+#define LENT_H
+
+#include <ctype.h>
+#include <stdint.h>
+#include <stdio.h>
+#include <stdlib.h>
+#include <string.h>
+#include <sys/mman.h>
+#include <unistd.h>
+
+#define PATTERN 0xa5
+
+/* One page or more between two fences; an array in it ends at the upper fence or begins at the lower one. */
+struct field {
+    uint8_t *first;
+    size_t size;
+};
+
+static inline void stop(const char *what) {
+    printf("failed: %s\n", what);
+    exit(1);
+}
+
+static inline struct field fenced(size_t least) {
+    size_t page = (size_t)sysconf(_SC_PAGESIZE);
+    struct field f;
+    uint8_t *all;
+    f.size = (least + page - 1) / page * page;
+    all = mmap(NULL, f.size + 2 * page, PROT_NONE, MAP_PRIVATE | MAP_ANONYMOUS, -1, 0);
+    if (all == MAP_FAILED) stop("no memory");
+    f.first = all + page;
+    if (mprotect(f.first, f.size, PROT_READ | PROT_WRITE) != 0) stop("no fences");
+    return f;
+}
+
+/* The bytes beside an array of n bytes that are looked at too, as far as the fences. */
+#define BESIDE 64
+
+static inline const uint8_t *begin_beside(struct field f, const uint8_t *at) {
+    return at < f.first + BESIDE ? f.first : at - BESIDE;
+}
+
+static inline const uint8_t *end_beside(struct field f, const uint8_t *at, size_t n) {
+    const uint8_t *end = f.first + f.size;
+    return at + n + BESIDE > end ? end : at + n + BESIDE;
+}
+
+/* An array of n bytes at one fence or the other, full of a pattern as what is beside it. */
+static inline uint8_t *lent(struct field f, size_t n, int upper) {
+    uint8_t *at = upper ? f.first + f.size - n : f.first;
+    uint8_t *begin = f.first + (begin_beside(f, at) - f.first);
+    memset(begin, PATTERN, (size_t)(end_beside(f, at, n) - begin));
+    return at;
+}
+
+/* Whether of an array of n bytes and what is beside it only the first bytes were written. */
+static inline int kept_but(struct field f, const uint8_t *at, size_t n, size_t written) {
+    const uint8_t *p, *end = end_beside(f, at, n);
+    for (p = begin_beside(f, at); p < at; p++) {
+        if (*p != PATTERN) return 0;
+    }
+    for (p = at + written; p < end; p++) {
+        if (*p != PATTERN) return 0;
+    }
+    return 1;
+}
+
+/* A line of the replayed list: `NOW|PHRASE`, where \xHH in the phrase is one byte. A now of another form stands for zeros, which are none. */
+#define MOST_PHRASE 1024
+struct line {
+    uint32_t now[6];
+    uint8_t phrase[MOST_PHRASE];
+    size_t length;
+};
+
+static inline int is_now(const char *text, size_t n) {
+    static const char form[] = "0000-00-00 00:00:00";
+    size_t i;
+    for (i = 0; i < n && i < sizeof form - 1; i++) {
+        if (form[i] == '0' ? !isdigit((unsigned char)text[i]) : text[i] != form[i]) return 0;
+    }
+    return n == sizeof form - 1;
+}
+
+static inline void take_line(const char *text, struct line *l) {
+    const char *p = strchr(text, '|');
+    unsigned n[6] = {0, 0, 0, 0, 0, 0}, byte;
+    size_t i;
+    if (p == NULL) stop("a line of the list");
+    if (is_now(text, (size_t)(p - text))) sscanf(text, "%u-%u-%u %u:%u:%u", &n[0], &n[1], &n[2], &n[3], &n[4], &n[5]);
+    for (i = 0; i < 6; i++) l->now[i] = n[i];
+    l->length = 0;
+    for (p++; *p != '\0' && *p != '\n'; l->length++) {
+        if (l->length == MOST_PHRASE) stop("a line of the list is too long");
+        if (p[0] == '\\' && p[1] == 'x' && isxdigit((unsigned char)p[2]) && isxdigit((unsigned char)p[3])) {
+            sscanf(p + 2, "%2x", &byte);
+            l->phrase[l->length] = (uint8_t)byte;
+            p += 4;
+        } else {
+            l->phrase[l->length] = (uint8_t)*p++;
+        }
+    }
+}
+
+#endif

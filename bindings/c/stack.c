@@ -1,0 +1,90 @@
+/* Prints the most bytes of stack that each function was seen to use, over the replayed list and over phrases that nest as deeply as 256 bytes let
+ * them: stack LIST. A call runs on a stack of its own that is full of a pattern; what an empty call uses is taken off. */
+#define _DEFAULT_SOURCE
+#include "fuzzy.h"
+#include "lent.h"
+
+#include <ucontext.h>
+
+#define ROOM (1 << 18)
+
+static struct field stack;
+static struct line line;
+static uint8_t ready[FUZZY_READY_SIZE];
+static uint32_t moment[FUZZY_MOMENT_NUMBERS];
+static uint64_t made;
+static ucontext_t here, there;
+
+static void call_nothing(void) {
+}
+
+static void call_read(void) {
+    const uint32_t *n = line.now;
+    fuzzy_read(line.phrase, line.length, n[0], n[1], n[2], n[3], n[4], n[5], moment);
+}
+
+static void call_make_ready(void) {
+    made = fuzzy_make_ready(line.phrase, line.length, ready);
+}
+
+static void call_run(void) {
+    const uint32_t *n = line.now;
+    fuzzy_run(ready, fuzzy_length(made), n[0], n[1], n[2], n[3], n[4], n[5], moment);
+}
+
+/* The bytes of stack that a call changes, counted from the top down to the lowest one. */
+static size_t used_by(void (*call)(void)) {
+    uint8_t *p, *end = stack.first + stack.size;
+    if (getcontext(&there) != 0) stop("no context");
+    there.uc_stack.ss_sp = stack.first;
+    there.uc_stack.ss_size = stack.size;
+    there.uc_link = &here;
+    makecontext(&there, call, 0);
+    if (swapcontext(&here, &there) != 0) stop("no switch");
+    for (p = stack.first; p < end && *p == PATTERN; p++) continue;
+    memset(p, PATTERN, (size_t)(end - p));
+    return (size_t)(end - p);
+}
+
+static size_t most[3];
+
+/* All three functions on the phrase of `line`. */
+static void measure(void) {
+    static void (*const calls[3])(void) = {call_read, call_make_ready, call_run};
+    size_t i;
+    for (i = 0; i < 3; i++) {
+        size_t used = i == 2 && fuzzy_number(made) != 0 ? 0 : used_by(calls[i]);
+        if (used > most[i]) most[i] = used;
+    }
+}
+
+/* A part over and over, as often as there is room for it, and an end. */
+static void nested(const char *part, const char *end) {
+    size_t n = strlen(part), last = strlen(end);
+    for (line.length = 0; line.length + n + last <= 256; line.length += n) memcpy(line.phrase + line.length, part, n);
+    memcpy(line.phrase + line.length, end, last);
+    line.length += last;
+    measure();
+}
+
+int main(int count, char **arguments) {
+    static const char *const names[3] = {"fuzzy_read", "fuzzy_make_ready", "fuzzy_run"};
+    static const char *const parts[] = {"million ", "1 million ", "a day after ", "1 day before ", "1day from", "1day after ", "1 day, ", "1 day and "};
+    static const char *const ends[] = {"days ago", "today", "noon", "1 day ago", "now", ""};
+    static char text[8192];
+    size_t i, j, nothing;
+    FILE *in = count == 2 ? fopen(arguments[1], "r") : NULL;
+    if (in == NULL) stop("usage: stack LIST");
+    stack = fenced(ROOM);
+    memset(stack.first, PATTERN, stack.size);
+    nothing = used_by(call_nothing);
+    while (fgets(text, sizeof text, in) != NULL) {
+        take_line(text, &line);
+        measure();
+    }
+    for (i = 0; i < sizeof parts / sizeof parts[0]; i++) {
+        for (j = 0; j < sizeof ends / sizeof ends[0]; j++) nested(parts[i], ends[j]);
+    }
+    for (i = 0; i < 3; i++) printf("%-18s %6zu bytes of stack\n", names[i], most[i] - nothing);
+    return 0;
+}

@@ -1,0 +1,39 @@
+-- Which outcomes are valid: a moment of the calendar, and every refusal. And what follows an outcome.
+use mathlib.Core.Path.{_≡_, refl, ap, subst}
+use Prim.Native.Nat.{ℕ}
+use native.Mathlib.Omega.{arith}
+use Rattle.calendar.specs.Gregorian.{IsDate}
+use Rattle.calendar.specs.Moments.{IsTime, IsMoment, Outcome, moment, refused, reachedOf, Valid, andThen, withDate, withTime}
+use Rattle.calendar.specs.declared.moments.Moment.{Moment}
+use Rattle.calendar.specs.declared.moments.Reached.{Reached}
+use Rattle.calendar.specs.declared.moments.Reached.the-variants.{At}
+
+-- a moment of the calendar
+pub moment-valid : {t : Moment} → IsMoment t → Valid (moment t)
+moment-valid {t} v = record { valid = λ u e. let same : t ≡ u = cc in subst IsMoment same v }
+
+-- a date of the calendar at a moment's time of day
+pub date-valid : {t : Moment} {y m d : ℕ} → IsMoment t → IsDate y m d → Valid (moment (withDate y m d t))
+date-valid v w = moment-valid (record { date = w; time = v .time })
+
+-- a time of day on a moment's date
+pub time-valid : {t : Moment} {h m s : ℕ} → IsMoment t → IsTime h m s → Valid (moment (withTime h m s t))
+time-valid v w = moment-valid (record { date = v .date; time = w })
+
+-- a refusal
+pub refused-valid : (k : ℕ) → Valid (refused k)
+refused-valid k = record { valid = λ u e. let z : _≡_ {A = ℕ} 0 1 = cc in absurd (omega arith) }
+
+-- a moment that code takes out of a valid answer is one of the calendar
+pub at-moment : {r : Reached} {t : Moment} → Valid (reachedOf r) → r ≡ At t → IsMoment t
+at-moment v e = v .valid _ (ap reachedOf e)
+
+-- what follows is the same where it is the same from every moment
+pub then-same : (o : Outcome) (f g : Moment → Outcome) → ((t : Moment) → f t ≡ g t) → andThen o f ≡ andThen o g
+then-same (moment t) f g e = e t
+then-same (refused k) f g e = refl
+
+-- staying where it led changes nothing
+pub then-moment : (o : Outcome) → andThen o moment ≡ o
+then-moment (moment t) = refl
+then-moment (refused k) = refl

@@ -1,0 +1,230 @@
+-- Every number that a reader gives is below 2 ^ 32, so that it fits a field of a record, whatever the lexemes are.
+use mathlib.Core.Path.{_≡_, refl}
+use mathlib.Core.Bool.{Bool, true, false}
+use mathlib.Core.List.{List}
+use Prim.Native.Nat.{ℕ, _+_, _<_, _≤_}
+use native.Mathlib.Omega.{arith}
+use lib.Dec.{eqb, leb, ltb}
+use lib.ListN.{length, drop}
+use Rattle.lexer.specs.Lexemes as lexeme
+use Rattle.numbers.specs.Slices.{get, isAt, within}
+use Rattle.numbers.specs.Numbers.{numOf}
+use Rattle.numbers.specs.Answers.{Read}
+use Rattle.numbers.specs.declared.Found.{Found}
+use Rattle.numbers.specs.declared.Found.the-variants as number
+use Rattle.numbers.proofs.Again.{again-keeps}
+use Rattle.numbers.proofs.Bounds.{num-read}
+use Rattle.numbers.proofs.Places.{within-bounds}
+use Rattle.dates.specs.Parsed.{Parsed, is, nothing, overflow, pick, orElse, ifLet, andThen, parsedNumber}
+use Rattle.dates.specs.Units.{isArticle, unitOf, monthOf, weekdayOf}
+use Rattle.dates.specs.Dates.{namedDayOf, dayMonthYearOf, monthDayOf, isDelim, pickDate, threeNumbersOf, twoNumbersOf, behindSecondOf}
+use Rattle.dates.specs.Dates.{delimitedOf, dateOf}
+use Rattle.dates.specs.Times.{minuteOf, halfOf, clockOf, timeOf}
+use Rattle.dates.specs.Durations.{Duration, part, concat, specificOf, articleOf, concreteOf, durationStep, durationOf}
+use Rattle.dates.specs.declared.date.Date.{Date}
+use Rattle.dates.specs.declared.date.Date.the-variants.{YearMonthNumDay, MonthNumDayYear, DayMonthYear, MonthDayYear}
+use Rattle.dates.specs.declared.date.Date.the-variants.{MonthNumDay, MonthDay, Today, Tomorrow, Yesterday, Empty as NoDate}
+use Rattle.dates.specs.declared.time.Time.{Time}
+use Rattle.dates.specs.declared.time.Time.the-variants.{HourMin, HourMinAM, HourMinPM, Empty as NoTime}
+use Rattle.dates.specs.declared.duration.Part.{Part}
+use Rattle.dates.specs.declared.duration.Part.the-variants.{Article, Specific}
+
+-- below 2 ^ 32
+abbrev pub Small : ℕ → Type 0
+Small n = n < 4294967296
+
+-- every number of a date
+abbrev pub SmallDate : Date → Type 0
+SmallDate (YearMonthNumDay y m d) = Small y × Small m × Small d
+SmallDate (MonthNumDayYear m d y) = Small m × Small d × Small y
+SmallDate (DayMonthYear d m y) = Small d × Small m × Small y
+SmallDate (MonthDayYear m d y) = Small m × Small d × Small y
+SmallDate (MonthNumDay m d) = Small m × Small d
+SmallDate (MonthDay m d) = Small m × Small d
+SmallDate Today = Unit
+SmallDate Tomorrow = Unit
+SmallDate Yesterday = Unit
+SmallDate NoDate = Unit
+
+-- of a time of day
+abbrev pub SmallTime : Time → Type 0
+SmallTime (HourMin h m) = Small h × Small m
+SmallTime (HourMinAM h m) = Small h × Small m
+SmallTime (HourMinPM h m) = Small h × Small m
+SmallTime NoTime = Unit
+
+-- of a part
+abbrev pub SmallPart : Part → Type 0
+SmallPart (Article u) = Unit
+SmallPart (Specific u n) = Small n
+
+-- of a duration
+abbrev pub SmallDuration : Duration → Type 0
+SmallDuration (part p) = SmallPart p
+SmallDuration (concat p d) = SmallPart p × SmallDuration d
+
+abbrev Holds : {A : Type 0} → (A → Type 0) → Parsed A → Type 0
+Holds P (is v t) = P v
+Holds P nothing = Unit
+Holds P overflow = Unit
+
+-- what a reader gives has the property P
+pub record Gives {A : Type 0} (P : A → Type 0) (p : Parsed A) : Type 0 where
+  pub holds : Holds P p
+
+module _ {A : Type 0} {P : A → Type 0} where
+  -- nothing has every property
+  pub nothing-gives : Gives P nothing
+  nothing-gives = record { holds = tt }
+
+  -- a value that has it
+  pub is-gives : {v : A} {t : ℕ} → P v → Gives P (is v t)
+  is-gives h = record { holds = h }
+
+  -- a test
+  pub pick-gives : (b : Bool) {x y : Parsed A} → Gives P x → Gives P y → Gives P (pick b x y)
+  pick-gives true g h = g
+  pick-gives false g h = h
+
+  -- two alternatives
+  or-gives : (x : Parsed A) {y : Parsed A} → Gives P x → Gives P y → Gives P (orElse x y)
+  or-gives (is v t) g h = g
+  or-gives nothing g h = h
+  or-gives overflow g h = g
+
+  -- what follows a reader
+  pub then-gives : {B : Type 0} {Q : B → Type 0} (p : Parsed A) {f : A → ℕ → Parsed B}
+      → Gives P p → ((v : A) (t : ℕ) → P v → Gives Q (f v t)) → Gives Q (andThen p f)
+  then-gives (is v t) g h = h v t (g .holds)
+  then-gives nothing g h = record { holds = tt }
+  then-gives overflow g h = record { holds = tt }
+
+  -- what follows it, and what stands where it finds nothing
+  pub if-let-gives : {B : Type 0} {Q : B → Type 0} (p : Parsed A) {f : A → ℕ → Parsed B} {b : Parsed B}
+      → Gives P p → ((v : A) (t : ℕ) → P v → Gives Q (f v t)) → Gives Q b → Gives Q (ifLet p f b)
+  if-let-gives (is v t) g h z = h v t (g .holds)
+  if-let-gives nothing g h z = z
+  if-let-gives overflow g h z = record { holds = tt }
+
+-- any value at all
+pub any : {A : Type 0} (p : Parsed A) → Gives (λ v. Unit) p
+any (is v t) = is-gives tt
+any nothing = nothing-gives
+any overflow = record { holds = tt }
+
+small-number : (w : Found) (k n : ℕ) → Read w k n → Gives Small (parsedNumber w)
+small-number (number.Is v t) k n h = is-gives (let b = h .bounds in omega arith)
+small-number number.Nothing k n h = nothing-gives
+small-number number.Overflow k n h = record { holds = tt }
+
+-- a number
+num-small : (l : List ℕ) → Gives Small (parsedNumber (numOf l))
+num-small l = small-number (numOf l) 1 (length l) (num-read l)
+
+-- a lexeme between two small ones
+small-within : (lo x hi v : ℕ) → Small hi → (x ≤ hi → Small v) → Gives Small (pick (within lo x hi) (is v 1) nothing)
+small-within lo x hi v small f = go (within lo x hi) refl
+  where
+    go : (b : Bool) → within lo x hi ≡ b → Gives Small (pick b (is v 1) nothing)
+    go true e = is-gives (f (within-bounds lo x hi refl e .1))
+    go false e = nothing-gives
+
+month-small : (l : List ℕ) → Gives Small (monthOf l)
+unfolding monthOf
+month-small l = small-within lexeme.January (get l 0) lexeme.December _ (omega arith) (λ h. omega arith)
+
+pub weekday-small : (l : List ℕ) → Gives Small (weekdayOf l)
+unfolding weekdayOf
+weekday-small l = small-within lexeme.Monday (get l 0) lexeme.Sunday _ (omega arith) (λ h. omega arith)
+
+-- one of three, which have no number
+named-day-small : (l : List ℕ) → Gives SmallDate (namedDayOf l)
+unfolding namedDayOf
+named-day-small l =
+    pick-gives (isAt l 0 lexeme.Today) (is-gives tt)
+    (pick-gives (isAt l 0 lexeme.Tomorrow) (is-gives tt)
+    (pick-gives (isAt l 0 lexeme.Yesterday) (is-gives tt) nothing-gives))
+
+day-month-year-small : (l : List ℕ) → Gives SmallDate (dayMonthYearOf l)
+unfolding dayMonthYearOf
+day-month-year-small l =
+    then-gives _ (num-small l) (λ day t a.
+    then-gives _ (month-small (drop t l)) (λ month u b.
+    then-gives _ (num-small (drop (t + u) l)) (λ year v c. is-gives (a, b, c))))
+
+month-day-small : (month : ℕ) (l : List ℕ) → Small month → Gives SmallDate (monthDayOf month l)
+unfolding monthDayOf
+month-day-small month l a =
+    then-gives _ (num-small (drop 1 l)) (λ num t b.
+    if-let-gives _ (num-small (drop (1 + t) l)) (λ year u c. is-gives (a, b, c)) (is-gives (a, b)))
+
+-- `if`, of dates
+pick-small : (b : Bool) (d e : Date) → SmallDate d → SmallDate e → SmallDate (pickDate b d e)
+pick-small true d e g h = g
+pick-small false d e g h = h
+
+behind-second-small : (delim num1 num2 t : ℕ) (l : List ℕ) → Small num1 → Small num2 → Gives SmallDate (behindSecondOf delim num1 num2 t l)
+unfolding behindSecondOf threeNumbersOf twoNumbersOf
+behind-second-small delim num1 num2 t l a b =
+    pick-gives (leb (length l) t) nothing-gives
+    (pick-gives (isAt l t delim)
+    (then-gives _ (num-small (drop (t + 1) l)) (λ num3 u c.
+    is-gives (pick-small (ltb 1000 num1) _ _ (a, b, c) (pick-small (eqb delim lexeme.Dot) _ _ (b, a, c) (a, b, c)))))
+    (is-gives (pick-small (eqb delim lexeme.Dot) _ _ (b, a) (a, b))))
+
+delimited-small : (l : List ℕ) → Gives SmallDate (delimitedOf l)
+unfolding delimitedOf
+delimited-small l =
+    then-gives _ (num-small l) (λ num1 t a.
+    pick-gives (isDelim (get l t))
+    (then-gives _ (num-small (drop (t + 1) l)) (λ num2 u b. behind-second-small (get l t) num1 num2 (t + 1 + u) l a b))
+    nothing-gives)
+
+-- a date
+pub date-small : (l : List ℕ) → Gives SmallDate (dateOf l)
+unfolding dateOf
+date-small l =
+    or-gives _ (named-day-small l)
+    (or-gives _ (day-month-year-small l)
+    (if-let-gives _ (month-small l) (λ month t a. month-day-small month l a) (delimited-small l)))
+
+minute-small : (l : List ℕ) → Gives Small (minuteOf l)
+unfolding minuteOf
+minute-small l =
+    pick-gives (isAt l 0 lexeme.Colon)
+    (if-let-gives _ (num-small (drop 1 l)) (λ min t a. is-gives a) (is-gives (omega arith)))
+    (is-gives (omega arith))
+
+half-small : (hour minute t : ℕ) (l : List ℕ) → Small hour → Small minute → Gives SmallTime (halfOf hour minute t l)
+unfolding halfOf
+half-small hour minute t l a b =
+    pick-gives (isAt l t lexeme.AM) (is-gives (a, b)) (pick-gives (isAt l t lexeme.PM) (is-gives (a, b)) (is-gives (a, b)))
+
+-- a time of day
+pub time-small : (l : List ℕ) → Gives SmallTime (timeOf l)
+unfolding timeOf clockOf
+time-small l =
+    pick-gives (isAt l 0 lexeme.Midnight) (is-gives (omega arith))
+    (pick-gives (isAt l 0 lexeme.Noon) (is-gives (omega arith))
+    (then-gives _ (num-small l) (λ hour t a.
+    then-gives _ (minute-small (drop t l)) (λ minute u b. half-small hour minute (t + u) l a b))))
+
+part-small : (l : List ℕ) → Gives SmallPart (concreteOf l)
+unfolding concreteOf specificOf articleOf
+part-small l =
+    or-gives _ (then-gives _ (num-small l) (λ num t a. then-gives _ (any (unitOf (drop t l))) (λ u k b. is-gives a)))
+    (pick-gives (isArticle l) (then-gives _ (any (unitOf (drop 1 l))) (λ u k b. is-gives tt)) nothing-gives)
+
+step-small : (D : List ℕ → Parsed Duration) → ((m : List ℕ) → Gives SmallDuration (D m)) → (l : List ℕ)
+    → Gives SmallDuration (durationStep D l)
+unfolding durationStep
+step-small D small l =
+    then-gives _ (part-small l) (λ d t a.
+    pick-gives (isAt l t lexeme.And)
+    (if-let-gives _ (small (drop (t + 1) l)) (λ dur2 u b. is-gives (a, b)) (is-gives a))
+    (is-gives a))
+
+-- a duration
+pub duration-small : (l : List ℕ) → Gives SmallDuration (durationOf l)
+unfolding durationOf
+duration-small l = again-keeps nothing durationStep (λ m w. Gives SmallDuration w) (λ m. nothing-gives) step-small l

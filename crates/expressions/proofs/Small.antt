@@ -1,0 +1,92 @@
+-- Every number of a date expression that is read is below 2 ^ 32.
+use Prim.Native.Nat.{ℕ, _+_}
+use mathlib.Core.Bool.{_&&_, not}
+use mathlib.Core.List.{List}
+use lib.ListN.{drop}
+use Rattle.lexer.specs.Lexemes as lexeme
+use Rattle.numbers.specs.Slices.{isAt}
+use Rattle.dates.specs.Parsed.{is, andThen}
+use Rattle.dates.specs.Dates.{dateOf}
+use Rattle.dates.specs.Units.{unitOf, relativeSpecifierOf}
+use Rattle.dates.specs.Durations.{Duration, isSubDaily}
+use Rattle.dates.specs.declared.date.Date.{Date}
+use Rattle.dates.proofs.Small.{Small, SmallDate, SmallDuration, Gives, nothing-gives, is-gives, pick-gives, then-gives, if-let-gives, any}
+use Rattle.dates.proofs.Small.{date-small, weekday-small, duration-small}
+use Rattle.expressions.specs.Tree.{DateExpr, date, dateRelative, dateExpressionAfter, dateExpressionBefore, unitRelative}
+use Rattle.expressions.specs.Tree.{relativeWeekday, weekdayRelative, weekdayExpressionBefore, before, after, weekday, empty}
+use Rattle.expressions.specs.DateExprs.{Tail, relative, ago, inside, stray, inTailOf, durationTailOf, tailOf, withDate, withWeekday}
+use Rattle.expressions.specs.DateExprs.{withDurationOf, relativeExprOf, weekdayExprOf, undatedOf, dateExprOf}
+
+-- every number of a date expression
+abbrev pub SmallExpr : DateExpr → Type 0
+SmallExpr (date d) = SmallDate d
+SmallExpr (dateRelative d s u) = SmallDate d
+SmallExpr (dateExpressionAfter d dur) = SmallDate d × SmallDuration dur
+SmallExpr (dateExpressionBefore d dur) = SmallDate d × SmallDuration dur
+SmallExpr (unitRelative s u) = Unit
+SmallExpr (relativeWeekday s w) = Small w
+SmallExpr (weekdayRelative w s u) = Small w
+SmallExpr (weekdayExpressionBefore w dur) = Small w × SmallDuration dur
+SmallExpr (before dur d) = SmallDate d × SmallDuration dur
+SmallExpr (after dur d) = SmallDate d × SmallDuration dur
+SmallExpr (weekday w) = Small w
+SmallExpr empty = Unit
+
+-- of a tail
+abbrev SmallTail : Tail → Type 0
+SmallTail (relative s u) = Unit
+SmallTail (ago d) = SmallDuration d
+SmallTail (inside d) = SmallDuration d
+SmallTail stray = Unit
+
+tail-small : (l : List ℕ) → Gives SmallTail (tailOf l)
+unfolding tailOf durationTailOf inTailOf
+tail-small l =
+    if-let-gives _ (any (relativeSpecifierOf l))
+    (λ s t a. if-let-gives _ (any (unitOf (drop t l))) (λ u k b. is-gives tt) (is-gives tt))
+    (if-let-gives _ (duration-small l)
+    (λ d t a. pick-gives (isAt l t lexeme.Ago && not (isSubDaily d)) (is-gives a) (is-gives tt))
+    (pick-gives (isAt l 0 lexeme.In)
+    (if-let-gives _ (duration-small (drop 1 l)) (λ d t a. pick-gives (isSubDaily d) (is-gives tt) (is-gives a)) (is-gives tt))
+    nothing-gives))
+
+date-tail : (d : Date) (t : ℕ) (x : Tail) (u : ℕ) → SmallDate d → SmallTail x → Gives SmallExpr (withDate d t x u)
+date-tail d t (relative s k) u a b = is-gives a
+date-tail d t (ago dur) u a b = is-gives (a, b)
+date-tail d t (inside dur) u a b = is-gives (a, b)
+date-tail d t stray u a b = is-gives a
+
+weekday-tail : (w t : ℕ) (x : Tail) (u : ℕ) → Small w → SmallTail x → Gives SmallExpr (withWeekday w t x u)
+weekday-tail w t (relative s k) u a b = is-gives a
+weekday-tail w t (ago dur) u a b = is-gives (a, b)
+weekday-tail w t (inside dur) u a b = is-gives (a, b)
+weekday-tail w t stray u a b = is-gives a
+
+after-small : (dur : Duration) (t : ℕ) (l : List ℕ) → SmallDuration dur →
+    Gives SmallExpr (andThen (dateOf (drop (t + 1) l)) (λ d u. is (after dur d) (t + 1 + u)))
+after-small dur t l a = then-gives _ (date-small (drop (t + 1) l)) (λ d u b. is-gives (b, a))
+
+with-duration-small : (dur : Duration) (t : ℕ) (l : List ℕ) → SmallDuration dur → Gives SmallExpr (withDurationOf dur t l)
+unfolding withDurationOf
+with-duration-small dur t l a =
+    pick-gives (isSubDaily dur) nothing-gives
+    (pick-gives (isAt l t lexeme.Ago) (is-gives (tt, a))
+    (pick-gives (isAt l t lexeme.After) (after-small dur t l a)
+    (pick-gives (isAt l t lexeme.From) (after-small dur t l a) nothing-gives)))
+
+weekday-expr-small : (l : List ℕ) → Gives SmallExpr (weekdayExprOf l)
+unfolding weekdayExprOf relativeExprOf
+weekday-expr-small l =
+    if-let-gives _ (weekday-small l)
+    (λ w t a. if-let-gives _ (tail-small (drop t l)) (λ x u b. weekday-tail w t x u a b) (is-gives a))
+    (then-gives _ (any (relativeSpecifierOf l)) (λ s t a.
+    if-let-gives _ (weekday-small (drop t l)) (λ w u b. is-gives b)
+    (then-gives _ (any (unitOf (drop t l))) (λ k u b. is-gives tt))))
+
+-- a date expression
+pub expr-small : (l : List ℕ) → Gives SmallExpr (dateExprOf l)
+unfolding dateExprOf undatedOf
+expr-small l =
+    if-let-gives _ (date-small l)
+    (λ d t a. if-let-gives _ (tail-small (drop t l)) (λ x u b. date-tail d t x u a b) (is-gives a))
+    (if-let-gives _ (duration-small l) (λ dur t a. with-duration-small dur t l a) (weekday-expr-small l))

@@ -1,0 +1,186 @@
+-- What is gathered, link after link, is the flat reading of the tree.
+use Prim.Native.Nat.{ℕ, _+_, _*_, _≤_, _<_}
+use native.Mathlib.Omega.{arith}
+use mathlib.Core.Path.{_≡_, refl}
+use mathlib.Core.Bool.{Bool, true, false, cond}
+use mathlib.Core.List.{List}
+use lib.Dec.{ltb}
+use lib.ListN.{length, drop, set, length-drop}
+use lib.Seq.{drop-drop}
+use Rattle.dates.specs.Parsed.{Parsed, is, nothing, overflow}
+use Rattle.dates.specs.Durations.{Duration, into, durationOf, rowed}
+use Rattle.dates.specs.declared.duration.Parts.{Parts}
+use Rattle.dates.specs.declared.duration.Rowed.{Rowed}
+use Rattle.dates.specs.declared.time.Time.the-variants.{Empty}
+use Rattle.dates.proofs.Durations.{duration-bounds, into-n}
+use Rattle.expressions.specs.Tree.{DateExpr, date, dateRelative, dateExpressionAfter, dateExpressionBefore, unitRelative}
+use Rattle.expressions.specs.Tree.{relativeWeekday, weekdayRelative, weekdayExpressionBefore, before, after, weekday, empty}
+use Rattle.expressions.specs.Shapes.{shape, hasDuration, ownOf, intoExpr, OwnStands}
+use Rattle.phrase.specs.Tree.{DateTime, dateTime, timeDate, durationAfter, durationBefore, now, around}
+use Rattle.phrase.specs.DateTimes.{dateTimeOf}
+use Rattle.phrase.specs.Flat.{linkedParts, flatFrom, flat, blank}
+use Rattle.phrase.specs.Outlines.{linkTaken, outline, outlineAnswer, countOf, treeIn, kept, isBack, withOwn}
+use Rattle.phrase.specs.declared.reading.Base.the-variants.{Now}
+use Rattle.phrase.specs.declared.reading.Link.{Link}
+use Rattle.phrase.specs.declared.reading.Reading.{Reading}
+use Rattle.phrase.specs.declared.gather.Gathered.{Gathered}
+use Rattle.phrase.specs.declared.date_time.Count.{Count}
+use Rattle.phrase.specs.declared.date_time.Outline.{Outline}
+use Rattle.dates.proofs.Each.{Each}
+use Rattle.phrase.proofs.Stands.{LinkStands, TreeStands, TreeHolds, date-time-holds}
+use Rattle.phrase.proofs.Turns.{around-outline}
+use Rattle.phrase.proofs.Decoded.{some}
+
+-- a reading of i links so far
+abbrev held : Parts → List Link → ℕ → Reading
+held ps ks i = record { base = Now; time = Empty; parts = ps; own = 0; m = i; links = ks }
+
+-- what is gathered up to the place at, and what is left: a tree whose outline is that of the whole
+pub record Gathering (l : List ℕ) (k : Count) (o : Outline) (goal : Reading) (ps : Parts) (ks : List Link) (i at : ℕ) : Type 0 where
+  pub left : DateTime
+  pub stands : TreeStands (drop at l) left
+  pub outlined : outline k i (drop at l) left ≡ o
+  pub flattened : flatFrom (held ps ks i) left ≡ goal
+  pub within : at ≤ length l
+  pub room : 3 * ps .n + length l ≤ 64 + at
+  pub few : i ≤ ps .n
+
+-- nothing yet
+pub begin : (l : List ℕ) (n : ℕ) {o : Outline} → length l ≤ 64 → let w = kept n (dateTimeOf l) in
+    o ≡ outlineAnswer l w → Gathering l (countOf w) o (flat (treeIn w)) (blank .parts) (blank .links) 0 0
+begin l n h answer =
+    record {
+      left = treeIn (kept n (dateTimeOf l));
+      stands = go (dateTimeOf l) (date-time-holds l);
+      outlined = rw answer;
+      flattened = refl;
+      within = omega arith;
+      room = omega arith;
+      few = omega arith;
+    }
+  where
+    go : (w : Parsed DateTime) → Each (TreeHolds l) w → TreeStands l (treeIn (kept n w))
+    go (is x t) h = only (ltb t n)
+      where
+        only : (b : Bool) → TreeStands l (cond b now x)
+        only true = tt
+        only false = h .bounds .stands
+    go nothing h = tt
+    go overflow h = tt
+
+-- a tree with links still to come
+record LinkLeft (x : DateTime) : Type 0 where
+  back : Bool
+  duration : Duration
+  inner : DateTime
+  same : x ≡ around back duration inner
+
+link-left : (x : DateTime) (k : Count) (i : ℕ) (l : List ℕ) → i < outline k i l x .m → LinkLeft x
+link-left (dateTime e t) k i l h = absurd (omega arith)
+link-left (timeDate t e) k i l h = absurd (omega arith)
+link-left (durationAfter dur x) k i l h = record { back = false; duration = dur; inner = x; same = refl }
+link-left (durationBefore dur x) k i l h = record { back = true; duration = dur; inner = x; same = refl }
+link-left now k i l h = absurd (omega arith)
+
+around-stood : (back : Bool) (dur : Duration) (x : DateTime) (l : List ℕ) → TreeStands l (around back dur x) →
+    LinkStands l back dur (linkTaken l) × (linkTaken l ≤ length l) × TreeStands (drop (linkTaken l) l) x
+around-stood true dur x l h = h
+around-stood false dur x l h = h
+
+around-flat : (back : Bool) (dur : Duration) (x : DateTime) (r : Reading) →
+    flatFrom r (around back dur x) ≡ flatFrom (linkedParts back (into dur (r .parts)) r) x
+around-flat true dur x r = refl
+around-flat false dur x r = refl
+
+module _ {l : List ℕ} {k : Count} {o : Outline} {goal : Reading} {ps : Parts} {ks : List Link} {i at : ℕ}
+    (g : Gathering l k o goal ps ks i at) where
+  -- one link more, with the row x that its duration gave, and its direction
+  pub one-link : i < o .m → {x : Rowed} {back : Bool} {m : List ℕ} → m ≡ drop at l → x ≡ rowed ps (durationOf m) → back ≡ isBack m (x .end) →
+      Gathering l k o goal (x .parts) (set ks i (record { back = back; from = ps .n; to = x .parts .n })) (i + 1) (at + x .end + 1)
+  one-link more here row direction =
+      let x = link-left (g .left) k i (drop at l) (rw (g .outlined) more) in
+      let s = around-stood (x .back) (x .duration) (x .inner) (drop at l) (rw (x .same) at (g .stands)) in
+      let b = duration-bounds (drop at l) (s .0 .reading) in
+      let n = into-n (x .duration) ps in
+      let p = some (x .duration) in
+      let lexemes = length-drop at l in
+      let one = s .0 .one in
+      let same : at + linkTaken (drop at l) ≡ at + s .0 .taken + 1 = omega arith in
+      let there = rw same at (drop-drop (linkTaken (drop at l)) at l) in
+      rw (direction, row, here, s .0 .reading, s .0 .direction) (record {
+        left = x .inner;
+        stands = rw there at (s .2);
+        outlined = rw (← there, ← (around-outline (x .back) (x .duration) (x .inner) k i (drop at l)), ← (x .same)) (g .outlined);
+        flattened = rw (← (around-flat (x .back) (x .duration) (x .inner) (held ps ks i)), ← (x .same)) (g .flattened);
+        within = omega arith;
+        room = omega arith;
+        few = omega arith;
+      })
+
+-- the parts of a date expression's duration are those at its place
+own-into : (x : DateExpr) (l : List ℕ) (ps : Parts) → OwnStands (ownOf x) l → cond (hasDuration (shape x)) (rowed ps (durationOf l) .parts) ps ≡ intoExpr x ps
+own-into (date d) l ps h = refl
+own-into (dateRelative d s u) l ps h = refl
+own-into (dateExpressionAfter d dur) l ps h = rw (h .reading)
+own-into (dateExpressionBefore d dur) l ps h = rw (h .reading)
+own-into (unitRelative s u) l ps h = refl
+own-into (relativeWeekday s w) l ps h = refl
+own-into (weekdayRelative w s u) l ps h = refl
+own-into (weekdayExpressionBefore w dur) l ps h = rw (h .reading)
+own-into (before dur d) l ps h = rw (h .reading)
+own-into (after dur d) l ps h = rw (h .reading)
+own-into (weekday w) l ps h = refl
+own-into empty l ps h = refl
+
+-- the links of an outline are those in front and those of the tree
+links-most : (x : DateTime) (k : Count) (i : ℕ) (l : List ℕ) → i ≤ outline k i l x .m
+links-most (dateTime e t) k i l = omega arith
+links-most (timeDate t e) k i l = omega arith
+links-most (durationAfter dur x) k i l = let h = links-most x k (i + 1) (drop (linkTaken l) l) in omega arith
+links-most (durationBefore dur x) k i l = let h = links-most x k (i + 1) (drop (linkTaken l) l) in omega arith
+links-most now k i l = omega arith
+
+-- with no link left, the base and its own duration's parts are all
+pub record Based (l : List ℕ) (k : Count) (o : Outline) (goal : Reading) (ps : Parts) (ks : List Link) (i at : ℕ) : Type 0 where
+  pub reading :
+      record {
+        base = o .base;
+        time = o .time;
+        parts = withOwn (o .base) (drop (at + o .own) l) ps;
+        own = ps .n;
+        m = o .m;
+        links = ks;
+      } ≡ goal
+  pub count : o .taken ≡ k
+  pub within : at + o .own ≤ length l
+  pub links : o .m ≡ i
+
+module _ {l : List ℕ} {k : Count} {o : Outline} {goal : Reading} {ps : Parts} {ks : List Link} {i at : ℕ} where
+  pub base-left : Gathering l k o goal ps ks i at → o .m ≤ i → Based l k o goal ps ks i at
+  base-left g done = rw (← (g .outlined)) (go (g .left) (g .stands) (g .flattened) (rw (← (g .outlined)) at done))
+    where
+      own : (e : DateExpr) (p : ℕ) → OwnStands (ownOf e) (drop p (drop at l)) →
+          cond (hasDuration (shape e)) (rowed ps (durationOf (drop (at + p) l)) .parts) ps ≡ intoExpr e ps
+      own e p h = own-into e (drop (at + p) l) ps (rw (drop-drop p at l) at h)
+
+      go : (x : DateTime) → TreeStands (drop at l) x → flatFrom (held ps ks i) x ≡ goal → outline k i (drop at l) x .m ≤ i →
+          Based l k (outline k i (drop at l) x) goal ps ks i at
+      go (dateTime e t) s f d =
+          let left = length-drop at l in
+          record { reading = rw (own e _ (s .stands)) f; count = refl; within = omega arith; links = refl }
+      go (timeDate t e) s f d =
+          let left = length-drop at l in
+          record { reading = rw (own e _ (s .stands)) f; count = refl; within = omega arith; links = refl }
+      go (durationAfter dur x) s f d = let h = links-most x k (i + 1) (drop (linkTaken (drop at l)) (drop at l)) in absurd (omega arith)
+      go (durationBefore dur x) s f d = let h = links-most x k (i + 1) (drop (linkTaken (drop at l)) (drop at l)) in absurd (omega arith)
+      go now s f d = record { reading = f; count = refl; within = omega arith; links = refl }
+
+  -- and so the whole is gathered
+  pub all-gathered : Based l k o goal ps ks i at → {all : Parts} {m : List ℕ} → m ≡ drop (at + o .own) l → all ≡ withOwn (o .base) m ps →
+      _≡_ {A = Gathered}
+      (record {
+        reading = record { base = o .base; time = o .time; parts = all; own = ps .n; m = o .m; links = ks };
+        taken = o .taken;
+      })
+      (record { reading = goal; taken = k })
+  all-gathered b here own = rw (own, here, b .reading, b .count)

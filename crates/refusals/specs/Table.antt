@@ -1,0 +1,54 @@
+-- The paper's table of refusal numbers, "tested in this order".
+use Prim.Native.Nat.{ℕ}
+
+-- "phrase longer than 256 bytes"
+abbrev pub TooLong : ℕ
+TooLong = 1
+
+-- "a word that is no keyword, or a byte with no meaning"
+abbrev pub Unknown : ℕ
+Unknown = 2
+
+-- "a digit run above 4,294,967,295"
+abbrev pub LargeDigits : ℕ
+LargeDigits = 3
+
+-- "a 65th lexeme"
+abbrev pub TooMany : ℕ
+TooMany = 4
+
+-- "`DateTime::parse` reads nothing"
+abbrev pub Nothing : ℕ
+Nothing = 5
+
+-- "a sum or product in a number passes 4,294,967,295"
+abbrev pub LargeSum : ℕ
+LargeSum = 6
+
+-- "lexemes are left after the reading"
+abbrev pub LeftOver : ℕ
+LeftOver = 7
+
+-- "now is no date and time in years 1 to 9999"
+abbrev pub NoNow : ℕ
+NoNow = 8
+
+-- "the reading or step list has no sense"
+abbrev pub NoSense : ℕ
+NoSense = 9
+
+-- "no such month or day"
+abbrev pub NoDate : ℕ
+NoDate = 10
+
+-- "no such time of day"
+abbrev pub NoTime : ℕ
+NoTime = 11
+
+-- "a moment outside years 1 to 9999"
+abbrev pub Outside : ℕ
+Outside = 12
+
+-- "a year step from 29 February into a common year"
+abbrev pub NoLeapDay : ℕ
+NoLeapDay = 13

@@ -1,0 +1,40 @@
+// The paper's refusal numbers, in the order in which they are tested, under the names of include/fuzzy.h.
+
+// The phrase is longer than 256 bytes.
+pub const TOO_LONG: u8 = 1;
+
+// A word is no keyword, or a byte has no meaning.
+pub const UNKNOWN: u8 = 2;
+
+// A digit run is above 4,294,967,295.
+pub const LARGE_DIGITS: u8 = 3;
+
+// There is a 65th lexeme.
+pub const TOO_MANY: u8 = 4;
+
+// DateTime::parse reads nothing.
+pub const NOTHING: u8 = 5;
+
+// A sum or product in a number passes 4,294,967,295.
+pub const LARGE_SUM: u8 = 6;
+
+// Lexemes are left after the reading.
+pub const LEFT_OVER: u8 = 7;
+
+// Now is no date and time in years 1 to 9999.
+pub const NO_NOW: u8 = 8;
+
+// The reading or step list has no sense.
+pub const NO_SENSE: u8 = 9;
+
+// There is no such month or day.
+pub const NO_DATE: u8 = 10;
+
+// There is no such time of day.
+pub const NO_TIME: u8 = 11;
+
+// The moment is outside years 1 to 9999.
+pub const OUTSIDE: u8 = 12;
+
+// A year step leads from 29 February into a common year.
+pub const NO_LEAP_DAY: u8 = 13;

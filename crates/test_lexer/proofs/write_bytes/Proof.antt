@@ -1,0 +1,50 @@
+-- `test_lexer::write_bytes` is safe and ends. Assumes nothing.
+use Prim.Native.Nat.{_-_}
+use borrow.Author.Needs.{needs}
+use Rattle.test_lexer.proofs.write_bytes.Statement.{statement}
+use Rattle.test_lexer.proofs.write_bytes.Tie as tie
+
+abbrev Inv-loop : tie.InvT-loop
+Inv-loop b₀ b = Unit {0}
+
+abbrev μ-loop : tie.MeasureT-loop
+μ-loop b₀ b = 256 - b
+
+loop-holds : tie.Need-loop-holds Inv-loop μ-loop
+loop-holds c = search needs
+
+cast-t5 : tie.Need-cast-t5 Inv-loop μ-loop
+cast-t5 c = search needs
+
+slice-aggregate-write-answer : tie.Need-slice-aggregate-write-answer Inv-loop μ-loop
+slice-aggregate-write-answer c = search needs
+
+write-answer-requires : tie.Need-write-answer-requires Inv-loop μ-loop
+write-answer-requires c κs = search needs
+
+add-b : tie.Need-add-b Inv-loop μ-loop
+add-b c = search needs
+
+loop-less : tie.Need-loop-less Inv-loop μ-loop
+loop-less c = search needs
+
+loop-again : tie.Need-loop-again Inv-loop μ-loop
+loop-again c = search needs
+
+returns : tie.Need-returns Inv-loop μ-loop
+returns c = search needs
+
+pub write-bytes-spec : {M : Type 1} → statement M
+write-bytes-spec =
+    tie.close
+    (tie.spec
+    Inv-loop
+    μ-loop
+    loop-holds
+    cast-t5
+    slice-aggregate-write-answer
+    write-answer-requires
+    add-b
+    loop-less
+    loop-again
+    returns)

@@ -1,0 +1,93 @@
+// Lexes every single byte as a phrase, then each line of standard input, and writes two lines for each: what the lexer answers, and what
+// lexing by a reader answers. An answer is the lexemes' codes with their places, or the refusal with its place, the end of its part and
+// the part's length.
+use bytes::scan;
+use lexer::lex::Ended;
+use lexer::lex::lex;
+use lexer::part::offending;
+use libc::STDOUT_FILENO;
+ghost use Prim.Native.Nat.{_≤_};
+
+// A number behind a text.
+fn write_number(text: &[u8], n: u64) {
+    io::write_all(STDOUT_FILENO, text);
+    io::print_decimal(STDOUT_FILENO, n);
+}
+
+// The place of a lexeme's first byte, `@5`.
+fn write_start(start: u8) {
+    write_number(b"@", start as u64);
+}
+
+// The lexemes, `118@0 123@5`.
+fn write_lexemes(codes: &[u64; 64], starts: &[u8; 64], count: usize)
+    requires { ⌜ count ≤ 64 ⌝ }
+{
+    let mut i: usize = 0;
+    while i < count {
+        if 0 < i {
+            io::write_all(STDOUT_FILENO, b" ");
+        }
+        io::print_decimal(STDOUT_FILENO, codes[i]);
+        write_start(starts[i]);
+        i += 1;
+    }
+}
+
+// A refusal, `refused 2 at 3 to 8 part 5`.
+fn write_refusal(number: u8, place: usize, end: usize, part: &[u8]) {
+    write_number(b"refused ", number as u64);
+    write_number(b" at ", place as u64);
+    write_number(b" to ", end as u64);
+    write_number(b" part ", part.len() as u64);
+}
+
+// An answer to a phrase.
+fn write_line(phrase: &[u8], r: Ended, codes: &[u64; 64], starts: &[u8; 64])
+    requires { ⌜ r .count ≤ 64 ⌝ }
+{
+    let number = r.number;
+    if number == 0 {
+        write_lexemes(codes, starts, r.count);
+    } else {
+        write_refusal(number, r.place, r.end, offending(phrase));
+    }
+    io::write_all(STDOUT_FILENO, b"\n");
+}
+
+// What lexing answers to a phrase, and what lexing by a reader does.
+fn write_answer(phrase: &[u8]) {
+    let mut codes = [0u64; 64];
+    let mut starts = [0u8; 64];
+    let r = lex(phrase, &mut codes, &mut starts);
+    write_line(phrase, r, &codes, &starts);
+    let by_reader = reader::lex(phrase, &mut codes, &mut starts);
+    write_line(phrase, by_reader, &codes, &starts);
+}
+
+// Every single byte as a phrase.
+fn write_bytes() {
+    let mut b: u64 = 0;
+    while b < 256 {
+        write_answer(&[b as u8]);
+        b += 1;
+    }
+}
+
+// Each line as a phrase; bytes behind the last line feed, if any, are a line.
+fn write_lines(text: &[u8]) {
+    let mut at: usize = 0;
+    while at < text.len() {
+        let end = scan::find(text, at, text.len(), b'\n');
+        write_answer(&text[at..end]);
+        at = end + 1;
+    }
+}
+
+// Standard input has fewer than 65,536 bytes: data/expected.py, which writes it, sees to that.
+fn main() {
+    write_bytes();
+    let mut text = io::large_buffer();
+    let n = io::read_full(libc::STDIN_FILENO, &mut text);
+    write_lines(&text[..n]);
+}

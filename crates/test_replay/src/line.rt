@@ -1,0 +1,37 @@
+// One line.
+use super::escape::unescape;
+use super::moment::write_moment;
+use super::now::now_of;
+use super::read::write_phrase;
+use answer::Answered;
+use answer::answer;
+use bytes::scan;
+use test_print::out::number;
+use test_print::out::text;
+
+// What a phrase is read as, and its moment at now's six numbers or its refusal.
+fn write_answer(phrase: &[u8], now: [u32; 6]) {
+    write_phrase(phrase);
+    match answer(phrase, now[0], now[1], now[2], now[3], now[4], now[5]) {
+        Answered::At(t) => write_moment(t),
+        Answered::Refused {
+            number: n,
+            place,
+            end,
+        } => {
+            number(b"refused ", n as u64);
+            number(b" at ", place as u64);
+            number(b" to ", end as u64);
+        }
+    }
+    text(b"\n");
+}
+
+// `NOW|PHRASE`: only the first bar splits, and with no bar there is no phrase. Of a phrase 257 bytes are taken at most: more is refusal 1
+// anyway.
+pub fn write_line(line: &[u8]) {
+    let bar = scan::find(line, 0, line.len(), b'|');
+    let mut phrase = [0u8; 257];
+    let n = unescape(line, bar + 1, &mut phrase);
+    write_answer(&phrase[..n], now_of(&line[..bar]));
+}
