@@ -10,7 +10,7 @@ use Rattle.calendar.specs.declared.moments.Moment.{Moment}
 use Rattle.calendar.proofs.Valid.{test-range, test-moment}
 use Rattle.dates.specs.declared.time.Time.the-variants.{Empty as NoTime}
 use Rattle.phrase.specs.Tree.{DateTime}
-use Rattle.phrase.specs.Flat.{blank, treeOf, sizeTree}
+use Rattle.phrase.specs.Chains.{blank, treeOf, sizeTree}
 use Rattle.phrase.specs.Read.{ReadPhrase, refusal, tree, readOf, phraseAnswer}
 use Rattle.phrase.specs.declared.read.PhraseRead.{PhraseRead}
 use Rattle.phrase.proofs.Decoded.{decoded, tree-count}
@@ -23,11 +23,11 @@ use Rattle.answer.proofs.Formed.{formed}
 use Rattle.answer.proofs.Leads.{Leads, leads, refuses, timeOf, hasSubDaily, SameTime}
 use Rattle.answer.proofs.Leads.{valid-leads, second-leads, time-of-day-leads}
 
--- a phrase that was read: the tree, and a flat reading that is formed and stands for it
+-- a phrase that was read: the tree, and a chain that is formed and stands for it
 pub record TreeRead (s : List ℕ) (r : PhraseRead) : Type 0 where
   pub taken : ℕ
-  pub read : readOf keywords s ≡ tree (treeOf (r .reading)) taken
-  pub formed : Formed (r .reading)
+  pub read : readOf keywords s ≡ tree (treeOf (r .chain)) taken
+  pub formed : Formed (r .chain)
 
 module _ (s : List ℕ) {r : PhraseRead} (answer : r ≡ phraseAnswer (readOf keywords s)) where
   -- number 0 is a phrase that was read

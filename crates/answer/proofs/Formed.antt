@@ -1,4 +1,4 @@
--- Every flat reading of a tree of at most 21 parts is formed: no duration without a part.
+-- Every chain of a tree of at most 21 parts is formed: no duration without a part.
 use Prim.Native.Nat.{ℕ, _+_, _≤_, _<_}
 use native.Mathlib.Omega.{arith}
 use mathlib.Core.Path.{_≡_, refl}
@@ -16,10 +16,10 @@ use Rattle.expressions.specs.Tree.{DateExpr, date, dateRelative, dateExpression
 use Rattle.expressions.specs.Tree.{weekdayRelative, weekdayExpressionBefore, before, after, weekday, empty}
 use Rattle.phrase.specs.Tree.{DateTime, dateTime, timeDate, durationAfter, durationBefore, now}
 use Rattle.expressions.specs.Shapes.{shape, hasDuration, sizeExpr}
-use Rattle.phrase.specs.Flat.{linkedParts, based, flatFrom, flat, blank, blankLink, sizeTree}
-use Rattle.phrase.specs.declared.reading.Base.{Base}
-use Rattle.phrase.specs.declared.reading.Link.{Link}
-use Rattle.phrase.specs.declared.reading.Reading.{Reading}
+use Rattle.phrase.specs.Chains.{linkedParts, based, chainFrom, chainOf, blank, blankLink, sizeTree}
+use Rattle.phrase.specs.declared.chain.Base.{Base}
+use Rattle.phrase.specs.declared.chain.Link.{Link}
+use Rattle.phrase.specs.declared.chain.Chain.{Chain}
 use Rattle.phrase.proofs.Decoded.{some, tree-count}
 use Rattle.evaluation.specs.Formed.{baseDuration, Formed}
 
@@ -43,7 +43,7 @@ abbrev HasParts : Link → Type 0
 HasParts k = (k .from < k .to) × (k .to ≤ 21)
 
 -- room for k parts, and for a link each, behind links that have parts
-record Room (r : Reading) (k : ℕ) : Type 0 where
+record Room (r : Chain) (k : ℕ) : Type 0 where
   parts : r .parts .n + k ≤ 21
   links : r .m + k ≤ 21
   all : length (r .links) ≡ 21
@@ -51,7 +51,7 @@ record Room (r : Reading) (k : ℕ) : Type 0 where
 
 -- one link more
 room-inside :
-    (back : Bool) (dur : Duration) (x : DateTime) (r : Reading) → Room r (size dur + sizeTree x) →
+    (back : Bool) (dur : Duration) (x : DateTime) (r : Chain) → Room r (size dur + sizeTree x) →
     Room (linkedParts back (into dur (r .parts)) r) (sizeTree x)
 room-inside back dur x r h =
     let link : Link = record { back = back; from = r .parts .n; to = into dur (r .parts) .n } in
@@ -81,7 +81,7 @@ own-part empty h = never h
 
 -- a base of k parts behind the links of a reading
 formed-base :
-    (b : Base) (t : Time) (ps : Parts) (k : ℕ) (r : Reading) → Room r k → ps .n ≡ r .parts .n + k → (baseDuration b ≡ true → 0 < k) →
+    (b : Base) (t : Time) (ps : Parts) (k : ℕ) (r : Chain) → Room r k → ps .n ≡ r .parts .n + k → (baseDuration b ≡ true → 0 < k) →
     Formed (based b t ps r)
 formed-base b t ps k r h count part =
     record {
@@ -93,14 +93,14 @@ formed-base b t ps k r h count part =
     }
 
 -- a tree inside the links of a reading
-formed-inside : (x : DateTime) (r : Reading) → Room r (sizeTree x) → Formed (flatFrom r x)
+formed-inside : (x : DateTime) (r : Chain) → Room r (sizeTree x) → Formed (chainFrom r x)
 formed-inside (dateTime e t) r h = formed-base _ t _ (sizeExpr e) r h (tree-count (dateTime e t) r) (own-part e)
 formed-inside (timeDate t e) r h = formed-base _ t _ (sizeExpr e) r h (tree-count (timeDate t e) r) (own-part e)
 formed-inside (durationAfter dur x) r h = formed-inside x _ (room-inside false dur x r h)
 formed-inside (durationBefore dur x) r h = formed-inside x _ (room-inside true dur x r h)
 formed-inside now r h = formed-base _ _ _ 0 r h (tree-count now r) never
 
--- the flat reading of a tree
-pub formed : (x : DateTime) → sizeTree x ≤ 21 → Formed (flat x)
+-- the chain of a tree
+pub formed : (x : DateTime) → sizeTree x ≤ 21 → Formed (chainOf x)
 formed x h =
     formed-inside x blank (record { parts = omega arith; links = omega arith; all = refl; linked = λ j below. absurd (omega arith) })

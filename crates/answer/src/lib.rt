@@ -1,7 +1,7 @@
 // A phrase at a now.
 use calendar::moments::Moment;
 use calendar::moments::Reached;
-use evaluation::reading::evaluate;
+use evaluation::chain::evaluate;
 use phrase::read::read;
 use refusals::NO_NOW;
 ghost use mathlib.Core.Path.{_≡_};
@@ -52,8 +52,8 @@ pub fn answer(
             .with_date(year, month, day)
             .with_time(hour, minute, second);
         if now.valid() {
-            let reading = read.reading;
-            return place(evaluate(reading, now));
+            let chain = read.chain;
+            return place(evaluate(chain, now));
         }
         return place(Reached::Refused(NO_NOW));
     }

@@ -17,20 +17,20 @@ use Rattle.lexer.proofs.Places.{start-below, placed}
 use Rattle.dates.specs.Parsed.{Parsed, is, nothing, overflow}
 use Rattle.phrase.specs.Tree.{DateTime, now}
 use Rattle.phrase.specs.DateTimes.{dateTimeOf}
-use Rattle.phrase.specs.Flat.{flat, blank, treeOf, sizeTree}
+use Rattle.phrase.specs.Chains.{chainOf, blank, treeOf, sizeTree}
 use Rattle.phrase.specs.Outlines.{countOf, treeIn, kept, gathered}
 use Rattle.refusals.specs.Table as table
 use Rattle.phrase.specs.Read.{ReadPhrase, refusal, tree, readCodes, readLexed, readOf, refusedEnd, countEnded, judgedOf, phraseAnswer, placeOf, offendingOf}
 use Rattle.phrase.specs.declared.gather.Gathered.{Gathered}
-use Rattle.phrase.specs.declared.reading.Reading.{Reading}
+use Rattle.phrase.specs.declared.chain.Chain.{Chain}
 use Rattle.phrase.specs.declared.read.PhraseRead.{PhraseRead}
 use Rattle.dates.proofs.Each.{Each}
 use Rattle.phrase.proofs.Stands.{TreeHolds, date-time-holds}
 use Rattle.phrase.proofs.Decoded.{tree-count, decoded}
 
 -- the code's answer, from how reading ended
-abbrev pub answerOf : Ended → Reading → PhraseRead
-answerOf r x = record { reading = x; number = r .number; place = r .place; end = r .end; taken = r .count }
+abbrev pub answerOf : Ended → Chain → PhraseRead
+answerOf r x = record { chain = x; number = r .number; place = r .place; end = r .end; taken = r .count }
 
 -- of no lexemes nothing is kept
 none-kept : (w : Parsed DateTime) → Each (TreeHolds []) w → treeIn (kept 0 w) ≡ now
@@ -40,14 +40,14 @@ none-kept overflow h = refl
 
 -- of lexemes whose places are stored in front of an array, read as w
 codes-answer : (items : List Item) (a : List ℕ) → length items ≤ length a → (n : ℕ) (w : Parsed DateTime) →
-    answerOf (countEnded (countOf w) (length items) (sets a 0 (startsOf items)) n) (flat (treeIn (kept (length items) w)))
+    answerOf (countEnded (countOf w) (length items) (sets a 0 (startsOf items)) n) (chainOf (treeIn (kept (length items) w)))
     ≡ phraseAnswer (readCodes w (length items) (startsOf items) n)
 codes-answer items a h n (is x t) = go (ltb t (length items)) refl
   where
     go : (b : Bool) → ltb t (length items) ≡ b →
         answerOf
         (cond b (refusedEnd table.LeftOver (getD (sets a 0 (startsOf items)) t 0) n) (record { number = 0; place = 0; end = 0; count = t }))
-        (flat (cond b now x))
+        (chainOf (cond b now x))
         ≡ phraseAnswer (cond b (refusal table.LeftOver (getD (startsOf items) t 0) n) (tree x t))
     go true e =
         let below = ltb-true t (length items) e in
@@ -67,7 +67,7 @@ module _ (s : List ℕ) where
   abbrev lineRead : Ended → List Item → PhraseRead
   lineRead line items =
       let w = dateTimeOf (take (line .count) (sets (replicate 64 0) 0 (codesOf items))) in
-      answerOf (judgedOf line (countOf w) (sets (replicate 64 0) 0 (startsOf items)) (length s)) (flat (treeIn (kept (line .count) w)))
+      answerOf (judgedOf line (countOf w) (sets (replicate 64 0) 0 (startsOf items)) (length s)) (chainOf (treeIn (kept (line .count) w)))
 
   line-answered : lineRead (endedOf (lexed keywords s)) (front keywords s) ≡ phraseAnswer (readOf keywords s)
   unfolding readOf
@@ -95,7 +95,7 @@ module _ (s : List ℕ) where
       codes ≡ sets (replicate 64 0) 0 (codesOf (front keywords s)) → starts ≡ sets (replicate 64 0) 0 (startsOf (front keywords s)) →
       x ≡ gathered (kept (line .count) (dateTimeOf (take (line .count) codes))) →
       r ≡ judgedOf line (x .taken) starts (length s) →
-      answerOf r (x .reading) ≡ phraseAnswer (readOf keywords s)
+      answerOf r (x .chain) ≡ phraseAnswer (readOf keywords s)
   read-answered {line} {r} {codes} {starts} {x} e f g gives ends =
       let w = dateTimeOf (take (line .count) codes) in
       let count : x .taken ≡ countOf w = rw gives (kept-count (line .count) w) in
@@ -105,10 +105,10 @@ module _ (s : List ℕ) where
 pub record ReadWhole (s : List ℕ) (r : PhraseRead) : Type 0 where
   pub items : List Item
   pub lexemes : lexed keywords s ≡ whole items
-  pub parsed : dateTimeOf (codesOf items) ≡ is (treeOf (r .reading)) (r .taken)
+  pub parsed : dateTimeOf (codesOf items) ≡ is (treeOf (r .chain)) (r .taken)
   pub all : r .taken ≡ length items
-  pub flattened : r .reading ≡ flat (treeOf (r .reading))
-  pub few : r .reading .parts .n ≤ 21
+  pub flattened : r .chain ≡ chainOf (treeOf (r .chain))
+  pub few : r .chain .parts .n ≤ 21
 
 -- refused by 1 to 7, with a part of the phrase, or read whole
 abbrev Settled : List ℕ → ReadPhrase → Type 0
@@ -136,7 +136,7 @@ module _ (s : List ℕ) (items : List Item) (lexemes : lexed keywords s ≡ whol
             lexemes = lexemes;
             parsed = rw (decoded x parts) e;
             all = omega arith;
-            flattened = sym (ap flat (decoded x parts));
+            flattened = sym (ap chainOf (decoded x parts));
             few = omega arith;
           }
   codes-settled nothing e = omega arith

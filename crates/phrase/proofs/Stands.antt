@@ -25,7 +25,7 @@ use Rattle.expressions.proofs.Few.{expr-few}
 use Rattle.phrase.specs.Tree.{DateTime, dateTime, timeDate, durationAfter, durationBefore, now, around}
 use Rattle.phrase.specs.DateTimes.{Turn, whole, ago, link, commaOr, timeBehindOf, withDurationOf, timedTurnOf, undatedTurnOf, turnOf}
 use Rattle.phrase.specs.DateTimes.{againOf, dateTimeStep, dateTimeOf}
-use Rattle.phrase.specs.Flat.{sizeTree}
+use Rattle.phrase.specs.Chains.{sizeTree}
 use Rattle.phrase.specs.Outlines.{linkTaken, timeTaken, isBack}
 
 -- a link of t lexemes: its duration at the front of l, and its direction behind that

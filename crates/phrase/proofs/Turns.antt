@@ -33,12 +33,12 @@ use Rattle.phrase.specs.Tree.{DateTime, dateTime, timeDate, durationAfte
 use Rattle.phrase.specs.DateTimes.{Turn, whole, ago, link, commaOr, timeBehindOf, timedTurnOf, undatedTurnOf, turnOf}
 use Rattle.phrase.specs.DateTimes.{againOf, dateTimeStep, dateTimeOf}
 use Rattle.phrase.specs.Outlines.{linkTaken, outline, countOf, treeIn, outlineAnswer, turnAnswer, kept}
-use Rattle.phrase.specs.declared.reading.Base.the-variants.{Now, DateTime as Dated, TimeDate as Timed}
+use Rattle.phrase.specs.declared.chain.Base.the-variants.{Now, DateTime as Dated, TimeDate as Timed}
 use Rattle.phrase.specs.declared.date_time.Count.{Count}
 use Rattle.phrase.specs.declared.date_time.Count.the-variants.{Is, Nothing, Overflow}
 use Rattle.phrase.specs.declared.date_time.Outline.{Outline}
-use Rattle.phrase.specs.declared.date_time.Turn.{Turn as TurnTaken}
-use Rattle.phrase.specs.declared.date_time.Turn.the-variants.{Whole, Ago, Link, Nothing as NoTurn, Overflow as TurnOverflow}
+use Rattle.phrase.specs.declared.date_time.TurnTaken.{TurnTaken}
+use Rattle.phrase.specs.declared.date_time.TurnTaken.the-variants.{Whole, Ago, Link, Nothing as NoTurn, Overflow as TurnOverflow}
 use Rattle.phrase.proofs.date_time.Count.{the-type as count-type}
 use Rattle.dates.proofs.Each.{Each}
 use Rattle.phrase.proofs.Stands.{TurnHolds, Bare, turn-holds, link-taken}

@@ -1,6 +1,6 @@
 pub mod Tree
 pub mod DateTimes
-pub mod Flat
+pub mod Chains
 pub mod Outlines
 pub mod Read
 pub mod Cases

@@ -10,7 +10,7 @@ use Rattle.lexer.specs.declared.lex.Ended.{Ended}
 use Rattle.dates.specs.Parsed.{Parsed, is, nothing, overflow}
 use Rattle.phrase.specs.Tree.{DateTime}
 use Rattle.phrase.specs.DateTimes.{dateTimeOf}
-use Rattle.phrase.specs.Flat.{flat, blank}
+use Rattle.phrase.specs.Chains.{chainOf, blank}
 use Rattle.refusals.specs.Table as table
 use Rattle.phrase.specs.declared.date_time.Count.{Count}
 use Rattle.phrase.specs.declared.date_time.Count.the-variants.{Is, Nothing, Overflow}
@@ -51,10 +51,10 @@ countEnded Overflow count starts n = refusedEnd table.LargeSum 0 0
 abbrev pub judgedOf : Ended → Count → List ℕ → ℕ → Ended
 judgedOf line k starts n = cond (eqb (line .number) 0) (countEnded k (line .count) starts n) line
 
--- the code's answer: number 0, and the lexemes taken and the flat reading; or a refusal with the reading of nothing
+-- the code's answer: number 0, and the lexemes taken and the chain; or a refusal with the reading of nothing
 abbrev pub phraseAnswer : ReadPhrase → PhraseRead
-phraseAnswer (refusal k a e) = record { number = k; place = a; end = e; taken = 0; reading = blank }
-phraseAnswer (tree x t) = record { number = 0; place = 0; end = 0; taken = t; reading = flat x }
+phraseAnswer (refusal k a e) = record { number = k; place = a; end = e; taken = 0; chain = blank }
+phraseAnswer (tree x t) = record { number = 0; place = 0; end = 0; taken = t; chain = chainOf x }
 
 -- the place of a refusal, 0 where nothing is refused
 abbrev pub placeOf : ReadPhrase → ℕ

@@ -1,7 +1,7 @@
 // A phrase of bytes read whole, or refused.
+use super::chain::Chain;
 use super::date_time::Count;
 use super::gather::gather;
-use super::reading::Reading;
 use lexer::lex::Ended;
 use lexer::lex::lex;
 use lexer::part::part;
@@ -13,9 +13,9 @@ ghost use Prim.Native.Nat.{_+_, _≤_};
 ghost use Rattle.lexer.specs.Keywords.{keywords};
 ghost use Rattle.phrase.specs.Read.{refusedEnd, judgedOf, readOf, phraseAnswer, placeOf, offendingOf};
 
-// Number 0: the lexemes taken and the reading. Else a refusal of 1 to 7, with its place and the end of its part.
+// Number 0: the lexemes taken and the chain. Else a refusal of 1 to 7, with its place and the end of its part.
 pub struct PhraseRead {
-    pub reading: Reading,
+    pub chain: Chain,
     pub number: u8,
     pub place: usize,
     pub end: usize,
@@ -77,10 +77,10 @@ pub fn read(phrase: &[u8]) -> PhraseRead
     let n = line.count;
     let x = gather(&codes[..n], n);
     let taken = x.taken;
-    let reading = x.reading;
+    let chain = x.chain;
     let end = judged(line, taken, &starts, phrase.len());
     PhraseRead {
-        reading,
+        chain,
         number: end.number,
         place: end.place,
         end: end.end,

@@ -38,8 +38,8 @@ pub record Going (A : Lexed) (F : List Item) (g : Gathered) (r : Lexer) (t : ℕ
   leads : F ≡ done ++ restFront left r
 
 -- it is over, or it goes on
-abbrev pub Reading : Lexed → List Item → Gathered → Lexer → ℕ → Type 0
-Reading A F g r t = (g ≡ gatheredOf A F) ⊎ Going A F g r t
+abbrev pub Underway : Lexed → List Item → Gathered → Lexer → ℕ → Type 0
+Underway A F g r t = (g ≡ gatheredOf A F) ⊎ Going A F g r t
 
 -- one lexeme more
 so-longer : (l : List Item) (k a : ℕ) → longer (soFar l) k a ≡ soFar (l ++ (item k a ∷ []))
@@ -55,7 +55,7 @@ module _ (r : Lexer) (done : List Item) where
   s = now (r .phrase)
 
   step : (left : ℕ) (t : Token) → length done + left ≡ 64 → nextOf r ≡ t
-      → Reading (ahead done (rest left r)) (done ++ restFront left r) (joinedTo (soFar done) t) (behindOf r t) left
+      → Underway (ahead done (rest left r)) (done ++ restFront left r) (joinedTo (soFar done) t) (behindOf r t) left
   step left Finish c e = let h = lex-finish keywords s (r .at) left e in inl (rw (h .0, h .1, append-nil))
   step left (Refused n a b) c e = let h = lex-refused keywords s (r .at) left n a b e in inl (rw (h .0, h .1, append-nil))
   step zero (Taken k a b) c e =
@@ -74,7 +74,7 @@ module _ (r : Lexer) (done : List Item) where
       })
 
 -- a new reader, and nothing gathered
-pub begins : (s : RefT (List ℕ)) → Reading (taken 64 (newOf s)) (frontFrom keywords 64 (now s) 0) nothing (newOf s) 65
+pub begins : (s : RefT (List ℕ)) → Underway (taken 64 (newOf s)) (frontFrom keywords 64 (now s) 0) nothing (newOf s) 65
 begins s =
     inr (record {
       done = [];
@@ -88,8 +88,8 @@ begins s =
 
 module _ {A : Lexed} {F : List Item} {g : Gathered} {r : Lexer} {t : ℕ} where
   -- a turn takes the next token k, and there is one turn less to go
-  pub turned : {k : Token} {g′ : Gathered} {r′ : Lexer} → Reading A F g r t → g .going ≡ true → k ≡ nextOf r → g′ ≡ joinedTo g k
-      → r′ ≡ behindOf r k → (t - 1 < t) × Reading A F g′ r′ (t - 1)
+  pub turned : {k : Token} {g′ : Gathered} {r′ : Lexer} → Underway A F g r t → g .going ≡ true → k ≡ nextOf r → g′ ≡ joinedTo g k
+      → r′ ≡ behindOf r k → (t - 1 < t) × Underway A F g′ r′ (t - 1)
   turned (inl e) on token more moved = absurd (false≢true (sym (ap (λ (x : Gathered). x .going) e) ∙ on))
   turned (inr h) on token more moved =
       let less : t - 1 ≡ h .left = omega (arith, h .turns) in (
@@ -99,6 +99,6 @@ module _ {A : Lexed} {F : List Item} {g : Gathered} {r : Lexer} {t : ℕ} where
       )
 
   -- where it is over, the answer is gathered
-  pub stopped : Reading A F g r t → g .going ≡ false → g ≡ gatheredOf A F
+  pub stopped : Underway A F g r t → g .going ≡ false → g ≡ gatheredOf A F
   stopped (inl e) off = e
   stopped (inr h) off = absurd (false≢true (sym off ∙ ap (λ (x : Gathered). x .going) (h .gathered)))

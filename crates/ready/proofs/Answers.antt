@@ -8,7 +8,7 @@ use borrow.Author.Tests.{le-leb}
 use lib.ListN.{length}
 use Rattle.calendar.specs.declared.moments.Moment.{Moment}
 use Rattle.lexer.specs.Keywords.{keywords}
-use Rattle.phrase.specs.Flat.{blank, sizeTree}
+use Rattle.phrase.specs.Chains.{blank, sizeTree}
 use Rattle.phrase.specs.Read.{ReadPhrase, refusal, tree, readOf, phraseAnswer}
 use Rattle.phrase.specs.Tree.{DateTime}
 use Rattle.phrase.proofs.Small.{SmallRead, read-small}

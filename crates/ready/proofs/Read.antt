@@ -4,7 +4,7 @@ use native.Mathlib.Omega.{arith}
 use mathlib.Core.Path.{_≡_, refl, ap, _∙_}
 use mathlib.Core.List.{List}
 use Rattle.lexer.specs.Keywords.{keywords}
-use Rattle.phrase.specs.Flat.{treeOf, sizeTree}
+use Rattle.phrase.specs.Chains.{treeOf, sizeTree}
 use Rattle.phrase.specs.Read.{ReadPhrase, refusal, tree, readOf, phraseAnswer}
 use Rattle.phrase.specs.declared.read.PhraseRead.{PhraseRead}
 use Rattle.phrase.proofs.Decoded.{decoded}
@@ -17,11 +17,11 @@ use Rattle.ready.specs.Ready.{readyOf, readyAnswer}
 use Rattle.ready.proofs.Made.{planned}
 use Rattle.ready.proofs.Answers.{few-parts}
 
--- a phrase that was read: a flat reading that is formed, of at most 21 parts, and the plan of the tree that it stands for
+-- a phrase that was read: a chain that is formed, of at most 21 parts, and the plan of the tree that it stands for
 pub record PlanRead (s : List ℕ) (r : PhraseRead) : Type 0 where
-  pub formed : Formed (r .reading)
-  pub few : sizeTree (treeOf (r .reading)) ≤ 21
-  pub made : readyAnswer (readyOf keywords s) ≡ record { number = 0; place = 0; end = 0; plan = treeSteps held (treeOf (r .reading)) }
+  pub formed : Formed (r .chain)
+  pub few : sizeTree (treeOf (r .chain)) ≤ 21
+  pub made : readyAnswer (readyOf keywords s) ≡ record { number = 0; place = 0; end = 0; plan = treeSteps held (treeOf (r .chain)) }
 
 module _ (s : List ℕ) {r : PhraseRead} (answer : r ≡ phraseAnswer (readOf keywords s)) where
   -- number 0 is a phrase that was read

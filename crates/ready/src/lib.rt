@@ -25,12 +25,12 @@ pub fn make_ready(phrase: &[u8]) -> Ready
     let x = read(phrase);
     let number = x.number;
     if number == 0 {
-        let reading = x.reading;
+        let chain = x.chain;
         return Ready {
             number: 0,
             place: 0,
             end: 0,
-            plan: plan_of(reading),
+            plan: plan_of(chain),
         };
     }
     Ready {

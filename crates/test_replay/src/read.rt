@@ -18,8 +18,8 @@ fn write_read(codes: &[u64])
     let Count::Is(t) = taken else {
         return;
     };
-    let reading = x.reading;
-    write_reading(reading);
+    let chain = x.chain;
+    write_reading(chain);
     number(b"|", t as u64);
     text(b"|");
 }

@@ -4,7 +4,7 @@ use denote.Ref.{now}
 use Rattle.calendar.specs.Moments.{isMoment}
 use Rattle.calendar.specs.declared.moments.Moment.{Moment}
 use Rattle.calendar.proofs.Valid.{test-moment}
-use Rattle.phrase.specs.Flat.{treeOf}
+use Rattle.phrase.specs.Chains.{treeOf}
 use Rattle.evaluation.specs.Evaluate.{evaluate}
 use Rattle.answer.specs.Answer.{momentOf, placed}
 use Rattle.answer.proofs.Answers.{TreeRead, number-zero, number-other, at-now, at-no-now, refused-reading}
@@ -59,7 +59,7 @@ returns c =
     let start = valid .before .before .before .before .before .before .before in
     let was = was-read (valid .before .before .before .before) .read in
     c .place .ensures ∙ ap placed (c .before .evaluate .ensures .0)
-    ∙ ap (λ (n : Moment). placed (evaluate (treeOf (valid .before .before .before .before .before .read .result .reading)) n)) (made valid)
+    ∙ ap (λ (n : Moment). placed (evaluate (treeOf (valid .before .before .before .before .before .read .result .chain)) n)) (made valid)
     ∙ sym (at-now (now (start .args .phrase)) was (nowOf start) (tested valid (c .before .before .before .if2 .taken)))
 
 place-requires-2 : tie.Need-place-requires-2

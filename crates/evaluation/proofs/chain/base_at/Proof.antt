@@ -2,8 +2,8 @@ use mathlib.Core.Path.{refl}
 use Rattle.evaluation.specs.Evaluate.{evaluate}
 use Rattle.calendar.proofs.Outcomes.{moment-valid}
 use borrow.Author.Needs.{needs}
-use Rattle.evaluation.proofs.reading.base_at.Statement.{statement}
-use Rattle.evaluation.proofs.reading.base_at.Tie as tie
+use Rattle.evaluation.proofs.chain.base_at.Statement.{statement}
+use Rattle.evaluation.proofs.chain.base_at.Tie as tie
 
 enum-told : tie.Need-enum-told
 enum-told c = search needs

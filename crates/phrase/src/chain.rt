@@ -1,4 +1,4 @@
-// The flat reading: a chain of durations, outermost first, over one base.
+// The chain: a chain of durations, outermost first, over one base.
 use dates::duration::Parts;
 use dates::time::Time;
 use expressions::expr::Expr;
@@ -18,7 +18,7 @@ pub struct Link {
 }
 
 // The base has its own parts from `own` on; the m links are in front of it, outermost first.
-pub struct Reading {
+pub struct Chain {
     pub base: Base,
     pub time: Time,
     pub parts: Parts,

@@ -1,7 +1,7 @@
 use Rattle.calendar.proofs.Outcomes.{at-moment}
 use borrow.Author.Needs.{needs}
-use Rattle.evaluation.proofs.reading.timed.Statement.{statement}
-use Rattle.evaluation.proofs.reading.timed.Tie as tie
+use Rattle.evaluation.proofs.chain.timed.Statement.{statement}
+use Rattle.evaluation.proofs.chain.timed.Tie as tie
 
 enum-known-x : tie.Need-enum-known-x
 enum-known-x c = search needs

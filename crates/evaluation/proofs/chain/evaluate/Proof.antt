@@ -3,15 +3,15 @@ use native.Mathlib.Omega.{arith}
 use mathlib.Core.Path.{_≡_, ap, sym, _∙_}
 use lib.ListN.{length, length-map}
 use Rattle.calendar.specs.Moments.{IsMoment, moment, reachedOf}
-use Rattle.phrase.specs.Flat.{treeOf}
+use Rattle.phrase.specs.Chains.{treeOf}
 use Rattle.evaluation.specs.Evaluate.{evaluate}
 use Rattle.evaluation.specs.Formed.{baseOf}
 use Rattle.calendar.specs.declared.moments.Reached.{Reached}
 use Rattle.calendar.proofs.Outcomes.{moment-valid, at-moment, refused-valid}
-use Rattle.evaluation.proofs.Links.{linksAt, stepped, around-step, reading-walked, no-link, from-moment, stays}
+use Rattle.evaluation.proofs.Links.{linksAt, stepped, around-step, chain-walked, no-link, from-moment, stays}
 use borrow.Author.Needs.{needs}
-use Rattle.evaluation.proofs.reading.evaluate.Statement.{statement}
-use Rattle.evaluation.proofs.reading.evaluate.Tie as tie
+use Rattle.evaluation.proofs.chain.evaluate.Statement.{statement}
+use Rattle.evaluation.proofs.chain.evaluate.Tie as tie
 
 abbrev Inv-loop : tie.InvT-loop
 Inv-loop r parts t₀ i₀ t i = (i ≤ r .m) × IsMoment t × (linksAt stepped r i (moment t₀) ≡ moment t)
@@ -31,7 +31,7 @@ whole :
 whole c =
     let start = c .before .before .before .before .before in
     let base = c .before .before .before .before .base-at in
-    reading-walked stepped (λ x. evaluate x (start .args .now)) (around-step (start .args .now)) (start .args .t1)
+    chain-walked stepped (λ x. evaluate x (start .args .now)) (around-step (start .args .now)) (start .args .t1)
     ∙ ap (linksAt stepped (start .args .t1) 0) (sym (base .ensures .0) ∙ ap reachedOf (c .before .before .base .given .1))
 
 -- one turn: the links from i - 1 on lead where the duration of link i - 1 leads
@@ -66,7 +66,7 @@ returns c =
     let given = ap reachedOf (c .enum-told .given .1) in
     let at-base = sym (base .ensures .0) ∙ given in
     let all = stays r o (all-there start) (r .m) (omega arith) (no-link stepped r o ∙ at-base) in
-    (given ∙ sym (reading-walked stepped (λ x. evaluate x (start .args .now)) (around-step (start .args .now)) r ∙ all), base .ensures .1)
+    (given ∙ sym (chain-walked stepped (λ x. evaluate x (start .args .now)) (around-step (start .args .now)) r ∙ all), base .ensures .1)
 
 loop-holds : tie.Need-loop-holds Inv-loop μ-loop
 loop-holds c =

@@ -1,4 +1,4 @@
--- The flat reading that stands for a tree: links, outermost first, and the base; their durations are rows of parts, one behind the other.
+-- The chain that stands for a tree: links, outermost first, and the base; their durations are rows of parts, one behind the other.
 use Prim.Native.Nat.{ℕ, _+_}
 use mathlib.Core.Bool.{Bool, true, false}
 use mathlib.Core.List.{List, [], _∷_}
@@ -13,13 +13,13 @@ use Rattle.dates.specs.declared.time.Time.the-variants.{Empty as NoTime}
 use Rattle.dates.specs.declared.units.Unit.the-variants.{Day}
 use Rattle.expressions.specs.Shapes.{shape, intoExpr, exprFrom, sizeExpr}
 use Rattle.phrase.specs.Tree.{DateTime, dateTime, timeDate, durationAfter, durationBefore, now, around}
-use Rattle.phrase.specs.declared.reading.Base.{Base}
-use Rattle.phrase.specs.declared.reading.Base.the-variants.{Now, DateTime as DatedBase, TimeDate as TimedBase}
-use Rattle.phrase.specs.declared.reading.Link.{Link}
-use Rattle.phrase.specs.declared.reading.Reading.{Reading}
+use Rattle.phrase.specs.declared.chain.Base.{Base}
+use Rattle.phrase.specs.declared.chain.Base.the-variants.{Now, DateTime as DatedBase, TimeDate as TimedBase}
+use Rattle.phrase.specs.declared.chain.Link.{Link}
+use Rattle.phrase.specs.declared.chain.Chain.{Chain}
 
 -- one link more, with its duration's parts behind those that are there
-abbrev pub linkedParts : Bool → Parts → Reading → Reading
+abbrev pub linkedParts : Bool → Parts → Chain → Chain
 linkedParts back ps r =
     record {
       base = r .base;
@@ -31,16 +31,16 @@ linkedParts back ps r =
     }
 
 -- the base, with its own parts behind those that are there
-abbrev pub based : Base → Time → Parts → Reading → Reading
+abbrev pub based : Base → Time → Parts → Chain → Chain
 based b t ps r = record { base = b; time = t; parts = ps; own = r .parts .n; m = r .m; links = r .links }
 
 -- a tree inside the links of a reading
-abbrev pub flatFrom : Reading → DateTime → Reading
-flatFrom r (dateTime e t) = based (DatedBase (shape e)) t (intoExpr e (r .parts)) r
-flatFrom r (timeDate t e) = based (TimedBase (shape e)) t (intoExpr e (r .parts)) r
-flatFrom r (durationAfter dur x) = flatFrom (linkedParts false (into dur (r .parts)) r) x
-flatFrom r (durationBefore dur x) = flatFrom (linkedParts true (into dur (r .parts)) r) x
-flatFrom r now = based Now NoTime (r .parts) r
+abbrev pub chainFrom : Chain → DateTime → Chain
+chainFrom r (dateTime e t) = based (DatedBase (shape e)) t (intoExpr e (r .parts)) r
+chainFrom r (timeDate t e) = based (TimedBase (shape e)) t (intoExpr e (r .parts)) r
+chainFrom r (durationAfter dur x) = chainFrom (linkedParts false (into dur (r .parts)) r) x
+chainFrom r (durationBefore dur x) = chainFrom (linkedParts true (into dur (r .parts)) r) x
+chainFrom r now = based Now NoTime (r .parts) r
 
 -- a part that no reading has read
 abbrev pub blankSlot : Slot
@@ -51,7 +51,7 @@ abbrev pub blankLink : Link
 blankLink = record { back = false; from = 0; to = 0 }
 
 -- no links, no parts, and now for the base
-abbrev pub blank : Reading
+abbrev pub blank : Chain
 blank =
     record {
       base = Now;
@@ -62,9 +62,9 @@ blank =
       links = replicate 21 blankLink;
     }
 
--- the flat reading of a tree
-abbrev pub flat : DateTime → Reading
-flat x = flatFrom blank x
+-- the chain of a tree
+abbrev pub chainOf : DateTime → Chain
+chainOf x = chainFrom blank x
 
 -- back again: the duration of a row of parts with a first one
 abbrev pub durationFrom : Slot → List Slot → Duration
@@ -87,8 +87,8 @@ abbrev pub linksFrom : List Link → List Slot → DateTime → DateTime
 linksFrom [] items x = x
 linksFrom (k ∷ ks) items x = around (k .back) (rowDuration (slice (k .from) (k .to) items)) (linksFrom ks items x)
 
--- the tree that a flat reading stands for: `decoded` says that treeOf (flat x) ≡ x where x has at most 21 parts
-unfoldable pub treeOf : Reading → DateTime
+-- the tree that a chain stands for: `decoded` says that treeOf (chainOf x) ≡ x where x has at most 21 parts
+unfoldable pub treeOf : Chain → DateTime
 treeOf r =
     linksFrom (take (r .m) (r .links)) (r .parts .items)
     (baseFrom (r .base) (r .time) (rowDuration (slice (r .own) (r .parts .n) (r .parts .items))))

@@ -1,15 +1,15 @@
-// A flat reading at a now: date, time of day, then the durations around them, innermost first.
+// A chain at a now: date, time of day, then the durations around them, innermost first.
 use super::expr::expr_at;
 use super::step::duration_step;
 use super::time::time_at;
 use calendar::moments::Moment;
 use calendar::moments::Reached;
 use dates::time::Time;
-use phrase::reading::Base;
-use phrase::reading::Reading;
+use phrase::chain::Base;
+use phrase::chain::Chain;
 ghost use mathlib.Core.Path.{_≡_};
 ghost use Rattle.calendar.specs.Moments.{IsMoment, andThen, reachedOf, Valid};
-ghost use Rattle.phrase.specs.Flat.{treeOf};
+ghost use Rattle.phrase.specs.Chains.{treeOf};
 ghost use Rattle.evaluation.specs.Times.{timeAt};
 ghost use Rattle.evaluation.specs.Evaluate.{evaluate};
 ghost use Rattle.evaluation.specs.Formed.{baseOf, Formed};
@@ -27,7 +27,7 @@ fn timed(x: Reached, time: Time, now: Moment) -> Reached
 }
 
 // What the durations stand around.
-fn base_at(r: Reading, now: Moment) -> Reached
+fn base_at(r: Chain, now: Moment) -> Reached
     requires { ⌜ IsMoment now × Formed r ⌝ }
     ensures { λ x. ⌜ reachedOf x ≡ evaluate (baseOf r) now ⌝ }
     ensures { λ x. ⌜ Valid (reachedOf x) ⌝ }
@@ -44,7 +44,7 @@ fn base_at(r: Reading, now: Moment) -> Reached
 }
 
 // DateTime::to_chrono: each link's duration, from the last link to the first.
-pub fn evaluate(r: Reading, now: Moment) -> Reached
+pub fn evaluate(r: Chain, now: Moment) -> Reached
     requires { ⌜ IsMoment now × Formed r ⌝ }
     ensures { λ x. ⌜ reachedOf x ≡ evaluate (treeOf r) now ⌝ }
     ensures { λ x. ⌜ Valid (reachedOf x) ⌝ }
