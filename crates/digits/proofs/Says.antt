@@ -1,13 +1,31 @@
 -- Digits say their number. Assumes nothing.
-use Prim.Native.Nat.{ℕ, zero, suc, _+_, _*_, _-_, _/_, _%_, _^_, _<_}
-use native.Mathlib.Nat.{pow-succ'}
+use Prim.Native.Nat.{ℕ, zero, suc, _+_, _*_, _-_, _/_, _%_, _^_, _≤_, _<_}
+use native.Mathlib.Nat.{pow-succ', le-refl}
+use native.Mathlib.Numerals.{add-one}
 use native.Mathlib.Omega.{arith}
 use mathlib.Core.Path.{_≡_, refl}
 use mathlib.Core.Bool.{Bool, true, false, cond}
 use mathlib.Core.List.{List, [], _∷_, _++_}
 use lib.Dec.{ltb}
+use lib.ListN.{length, getD, drop, drop-of-length-le}
+use lib.Seq.{drop-cons}
 use borrow.Author.Tests.{ltb-true, le-leb}
 use Rattle.digits.specs.Digits.{isDigit, valueFrom, digitOf, digitsOf, widthIn, widthOf, decimalOf}
+
+-- the number that the digits from i on say behind v
+module _ (s : List ℕ) (i v : ℕ) where
+  pub value-step : i < length s → valueFrom v (drop i s) ≡ valueFrom (v * 10 + (getD s i 0 - 48)) (drop (i + 1) s)
+  value-step h = rw (drop-cons s i 0, add-one)
+
+  pub value-over : length s ≤ i → valueFrom v (drop i s) ≡ v
+  value-over h = rw (drop-of-length-le s h)
+
+-- it is no smaller than v
+pub value-least : (v : ℕ) (l : List ℕ) → v ≤ valueFrom v l
+value-least v [] = le-refl v
+value-least v (b ∷ bs) =
+    let h : v * 10 + (b - 48) ≤ valueFrom (v * 10 + (b - 48)) bs = value-least (v * 10 + (b - 48)) bs in
+    omega arith
 
 -- one digit more behind others
 one-more : (a : List ℕ) (v d : ℕ) → valueFrom v (a ++ (d ∷ [])) ≡ valueFrom v a * 10 + (d - 48)

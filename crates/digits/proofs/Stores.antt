@@ -5,8 +5,8 @@ use native.Mathlib.Numerals.{add-one}
 use native.Mathlib.Omega.{arith}
 use mathlib.Core.Path.{_≡_, refl, ap, _∙_}
 use mathlib.Core.List.{List, [], _∷_, _++_, append-nil}
-use lib.ListN.{length, getD, take, drop, set, length-take, length-drop, take-append-drop, drop-of-length-le}
-use lib.Seq.{sets, sets-eq, take-all, take-length, take-suc, length-take-le, take-set-le, drop-set-add, set-comm, getD-set-other, getD-drop}
+use lib.ListN.{length, getD, take, drop, set, length-take, length-drop, take-append-drop, drop-of-length-le, List·getD-append}
+use lib.Seq.{sets, sets-eq, take-all, take-at, take-length, take-suc, length-take-le, take-set-le, drop-set-add, set-comm, getD-set-other, getD-drop}
 
 -- a store at a place before a run of stores
 set-sets : (l : List ℕ) (i j a : ℕ) (vs : List ℕ) → i < j → set (sets l j vs) i a ≡ sets (set l i a) j vs
@@ -38,6 +38,17 @@ getD-sets l i [] j d h = refl
 getD-sets l i (v ∷ vs) j d h =
     let past : i + suc (length vs) ≤ j = h in
     getD-sets (set l i v) (suc i) vs j d (omega arith) ∙ getD-set-other l i j v d (λ e. omega arith)
+
+-- a list begins with what was stored from its front on
+module _ (vs l : List ℕ) (h : length vs ≤ length l) where
+  stored : sets l 0 vs ≡ vs ++ drop (0 + length vs) l
+  stored = sets-eq vs l 0 (omega arith)
+
+  pub sets-taken : (n : ℕ) → length vs ≡ n → take n (sets l 0 vs) ≡ vs
+  sets-taken n e = rw stored (take-at vs (drop (0 + length vs) l) n e)
+
+  pub sets-at : (k : ℕ) → k < length vs → getD (sets l 0 vs) k 0 ≡ getD vs k 0
+  sets-at k b = rw stored (List·getD-append vs (drop (0 + length vs) l) 0 k b)
 
 -- a run in the part from a on
 sets-part : (vs l : List ℕ) (a j : ℕ) → take a l ++ sets (drop a l) j vs ≡ sets l (a + j) vs
