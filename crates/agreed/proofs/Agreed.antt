@@ -4,8 +4,8 @@ use native.Mathlib.Omega.{arith}
 use mathlib.Core.Path.{_≡_, refl, sym, _∙_}
 use mathlib.Core.List.{List}
 use borrow.Fn.Kinds.{Out}
-use lib.ListN.{length, take, drop}
-use lib.Seq.{sets, sets-eq, take-at}
+use lib.ListN.{length, take}
+use Rattle.digits.proofs.Stores.{sets-taken}
 use Rattle.calendar.specs.Moments.{Outcome, moment as reached, refused}
 use Rattle.calendar.specs.declared.moments.Moment.{Moment}
 use Rattle.lexer.specs.Keywords.{keywords}
@@ -80,10 +80,6 @@ alike (refusal-at low high) c d =
       nothing-written = λ f. (c .array′-is, d .array′-is);
     }
 
--- what stands at the front of an array
-front : (xs l : List ℕ) → length xs ≤ length l → take (length xs) (sets l 0 xs) ≡ xs
-front xs l h = rw (sets-eq xs l 0 (omega arith)) (take-at xs (drop (0 + length xs) l) (length xs) refl)
-
 -- the bytes that an app hands on are those of the steps, whatever the array held
 handed :
     (ss : List Step) {array array′ : List ℕ} {k : ℕ} → length ss ≤ 24 → length array ≡ 384 → Makes (steps ss) array k array′ →
@@ -91,7 +87,7 @@ handed :
 handed ss {array} {k = k} few bytes m =
     let long = length-encoded ss in
     let cut : size k ≡ length (encodeOf ss) = omega (arith, m .number-is) in
-    rw (cut, m .array′-is) (front (encodeOf ss) array (omega arith))
+    rw (cut, m .array′-is) (sets-taken (encodeOf ss) array (omega arith) (length (encodeOf ss)) refl)
 
 -- a phrase that is made ready runs as it is read, at every now
 run-made :

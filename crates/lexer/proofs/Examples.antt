@@ -5,7 +5,7 @@ use Prim.Native.Nat.{ℕ, _+_}
 use Prim.Native.Char.{code}
 use lib.ListN.{replicate}
 use Rattle.lexer.specs.Lexemes.{Fifty, Dash, Five, Day, From, January, Comma, Colon, NUM}
-use Rattle.lexer.specs.Words.{bytesOf}
+use Rattle.digits.specs.Bytes.{bytesOf}
 use Rattle.lexer.specs.Keywords.{keywords}
 use Rattle.lexer.specs.Classes.{classOf, markOf}
 use Rattle.refusals.specs.Table as refusal

@@ -6,7 +6,6 @@ pub mod Rooms
 pub mod Letters
 pub mod Cells
 pub mod Rows
-pub mod Tabled
 pub mod Runs
 pub mod Lines
 pub mod Places

@@ -2,13 +2,12 @@
 use mathlib.Core.Path.{_≡_, refl, sym, ap, _∙_}
 use mathlib.Core.Bool.{Bool, true, false, cond}
 use mathlib.Core.List.{List, [], _∷_, _++_, map, append-assoc, map-append}
-use Prim.Native.Nat.{ℕ, zero, suc, _+_, _≤_, _<_}
-use native.Mathlib.Nat.{add-zero, zero-add}
-use native.Mathlib.Numerals.{add-one}
-use native.Mathlib.Omega.{arith}
+use Prim.Native.Nat.{ℕ, zero, suc}
+use native.Mathlib.Nat.{zero-add}
 use lib.Dec.{leb}
-use lib.ListN.{length, getD, take, drop, set, length-map, List·getD-append}
-use lib.Seq.{take-at, take-suc, length-take-le, sets, sets-eq}
+use lib.ListN.{length, set, length-map}
+use lib.Seq.{sets}
+use Rattle.digits.proofs.Stores.{sets-append}
 use Rattle.lexer.specs.Words.{Word}
 use Rattle.refusals.specs.Table as refusal
 use Rattle.lexer.specs.Lex.{tokenAt, Item, item, Lexed, refused, whole, ahead, ifTaken, lexFrom, lexed, ifLexeme, frontFrom, front}
@@ -80,28 +79,6 @@ leads ws s = go (leb (length s) 256)
 -- where nothing is refused, the lexemes in front are all lexemes
 pub front-whole : (ws : List Word) (s : List ℕ) (l : List Item) → lexed ws s ≡ whole l → front ws s ≡ l
 front-whole ws s l e = rw e at (leads ws s)
-
--- values stored one behind the other
-pub sets-append : (l m a : List ℕ) (i : ℕ) → sets a i (l ++ m) ≡ sets (sets a i l) (i + length l) m
-sets-append [] m a i = ap (λ (k : ℕ). sets a k m) (sym (add-zero i))
-sets-append (x ∷ l) m a i = sets-append l m (set a i x) (suc i) ∙ ap (λ (k : ℕ). sets (sets (set a i x) (suc i) l) k m) (omega arith)
-
--- one more of a list that is copied
-pub sets-take : (l a : List ℕ) (i : ℕ) → i < length l → set (sets a 0 (take i l)) i (getD l i 0) ≡ sets a 0 (take (i + 1) l)
-sets-take l a i h =
-    let n : 0 + length (take i l) ≡ i = omega (arith, length-take-le i l (omega arith)) in
-    rw (add-one, take-suc l i 0, sets-append (take i l) (getD l i 0 ∷ []), n)
-
--- an array begins with what was stored from its front on: the codes that a reader takes, and each lexeme's place
-module _ (l a : List ℕ) (h : length l ≤ length a) where
-  stored : sets a 0 l ≡ l ++ drop (0 + length l) a
-  stored = sets-eq l a 0 (omega arith)
-
-  pub sets-taken : (n : ℕ) → length l ≡ n → take n (sets a 0 l) ≡ l
-  sets-taken n e = rw stored (take-at l (drop (0 + length l) a) n e)
-
-  pub sets-at : (k : ℕ) → k < length l → getD (sets a 0 l) k 0 ≡ getD l k 0
-  sets-at k b = rw stored (List·getD-append l (drop (0 + length l) a) 0 k b)
 
 -- a field of each lexeme is stored, and then that of one lexeme more
 pub array-more : (f : Item → ℕ) (l : List Item) (i : Item) (n : ℕ) (a : List ℕ) {b : List ℕ} → length l ≡ n → b ≡ sets a 0 (map f l)

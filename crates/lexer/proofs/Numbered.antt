@@ -6,10 +6,11 @@ use mathlib.Core.Bool.{Bool, true, false, cond}
 use mathlib.Core.List.{List}
 use lib.Dec.{eqb, leb, ltb}
 use lib.ListN.{length, getD}
+use Rattle.digits.specs.Digits.{valueFrom}
 use Rattle.lexer.specs.Words.{Word, meaning, folded}
 use Rattle.lexer.specs.Classes.{Gap, Letter, Digit, Mark, classOf, markOf}
 use Rattle.refusals.specs.Table as refusal
-use Rattle.lexer.specs.Lex.{runEnd, between, valueFrom, numberOf, ofWord, wordAt, numberAt, tokenOf, tokenAt, ifTaken}
+use Rattle.lexer.specs.Lex.{runEnd, between, numberOf, ofWord, wordAt, numberAt, tokenOf, tokenAt, ifTaken}
 use Rattle.lexer.specs.Lex.{Item, Lexed, refused, whole, ahead, lexFrom, lexed}
 use Rattle.lexer.specs.declared.find.Found.{Found}
 use Rattle.lexer.specs.declared.find.Found.the-variants.{Lexeme, Unknown}

@@ -1,10 +1,10 @@
 -- How a phrase is cut into lexemes. Assumes nothing.
-use Prim.Native.Nat.{ℕ, suc, zero, _+_, _-_, _*_, _≤_, min}
-use Prim.Native.Char.{code}
+use Prim.Native.Nat.{ℕ, suc, zero, _+_, _-_, _≤_, min}
 use mathlib.Core.Bool.{cond}
 use mathlib.Core.List.{List, [], _∷_, _++_, map}
 use lib.Dec.{ltb, leb, eqb}
 use lib.ListN.{length, getD, take, drop}
+use Rattle.digits.specs.Digits.{valueFrom}
 use Rattle.lexer.specs.Lexemes.{NUM}
 use Rattle.lexer.specs.Words.{Word, meaning, folded}
 use Rattle.lexer.specs.Table.{fixed, bytesFrom, headOf, tailOf}
@@ -32,11 +32,6 @@ runEnd k s a = a + run k (drop a s)
 -- the bytes from a up to e
 abbrev pub between : List ℕ → ℕ → ℕ → List ℕ
 between s a e = take (e - a) (drop a s)
-
--- the number that digits say behind v
-abbrev pub valueFrom : ℕ → List ℕ → ℕ
-valueFrom v [] = v
-valueFrom v (b ∷ bs) = valueFrom (v * 10 + (b - code "0")) bs
 
 -- `stack.parse::<u32>()`: a digit run by its value, however long it is
 unfoldable pub numberOf : List ℕ → Digits

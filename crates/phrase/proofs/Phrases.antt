@@ -12,7 +12,8 @@ use Rattle.lexer.specs.Keywords.{keywords}
 use Rattle.lexer.specs.Lex.{between, Item, Lexed, refused, whole, lexed, front, codesOf, startsOf, endedOf, Placed}
 use Rattle.lexer.specs.declared.lex.Ended.{Ended}
 use Rattle.lexer.proofs.Numbered.{Numbered, numbered}
-use Rattle.lexer.proofs.Lines.{front-whole, sets-taken, sets-at}
+use Rattle.digits.proofs.Stores.{sets-taken, sets-at}
+use Rattle.lexer.proofs.Lines.{front-whole}
 use Rattle.lexer.proofs.Places.{start-below, placed}
 use Rattle.dates.specs.Parsed.{Parsed, is, nothing, overflow}
 use Rattle.phrase.specs.Tree.{DateTime, now}

@@ -6,15 +6,15 @@ use mathlib.Core.List.{List, [], _++_}
 use lib.ListN.{length, length-append}
 use lib.Seq.{sets}
 use borrow.Author.Tests.{le-leb, lt-leb}
-use Rattle.lexer.specs.Words.{bytesOf}
+use Rattle.digits.specs.Bytes.{bytesOf}
+use Rattle.digits.specs.Digits.{widthOf, decimalOf}
+use Rattle.digits.proofs.Stores.{sets-append}
+use Rattle.digits.proofs.Widths.{digits-length, width-most}
 use Rattle.lexer.specs.Keywords.{keywords}
 use Rattle.calendar.specs.declared.moments.Moment.{Moment}
 use Rattle.text.specs.Answers.{Answer, at, refusedAt, answerOf}
-use Rattle.text.specs.Digits.{widthOf, decimalOf}
 use Rattle.text.specs.Texts.{refusalText, textOf, fitting}
 use Rattle.text.specs.Output.{answerLine}
-use Rattle.text.proofs.Stores.{sets-append}
-use Rattle.text.proofs.Widths.{digits-length, width-most}
 
 -- "refused ", " at " and two numbers
 pub refusal-length : (k a : ℕ) → length (refusalText k a) ≡ 12 + widthOf k + widthOf a

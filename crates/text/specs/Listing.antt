@@ -3,14 +3,14 @@ use mathlib.Core.Path.{_≡_, refl, ap, _∙_}
 use mathlib.Core.List.{List, [], _∷_, _++_, map}
 use Prim.Native.Nat.{ℕ}
 use lib.ListN.{getD}
-use Rattle.lexer.specs.Words.{bytesOf}
+use Rattle.digits.specs.Bytes.{bytesOf}
+use Rattle.digits.specs.Digits.{widthOf}
 use Rattle.lexer.specs.Keywords.{keywords}
 use Rattle.lexer.specs.Classes.{classOf, markOf}
 use Rattle.lexer.specs.Lex.{wordAt, tokenAt, lexed}
 use Rattle.phrase.specs.Read.{readOf}
 use Rattle.calendar.specs.declared.moments.Moment.{Moment}
 use Rattle.text.specs.Answers.{Answer, at, refusedAt, momentOf, answerOf, starred, starred-as-listed}
-use Rattle.text.specs.Digits.{widthOf}
 use Rattle.text.specs.Nows.{nowOf}
 use Rattle.text.specs.Lines.{feed}
 use Rattle.text.specs.Texts.{textOf}

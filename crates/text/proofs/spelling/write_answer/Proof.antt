@@ -7,9 +7,10 @@ use denote.Ref.{now}
 use lib.ListN.{length}
 use lib.Seq.{sets}
 use borrow.Author.Needs.{needs}
+use Rattle.digits.specs.Digits.{widthOf}
+use Rattle.digits.specs.Stores.{Written}
 use Rattle.text.specs.Answers.{answerFrom}
-use Rattle.text.specs.Digits.{widthOf}
-use Rattle.text.specs.Texts.{textOf, fitting, Written}
+use Rattle.text.specs.Texts.{textOf, fitting}
 use Rattle.text.proofs.Spelled.{refusal-length, fits, passes}
 use Rattle.text.proofs.spelling.write_answer.Statement.{statement}
 use Rattle.text.proofs.spelling.write_answer.Tie as tie
@@ -51,12 +52,8 @@ returns c =
 enum-known-a : tie.Need-enum-known-a
 enum-known-a c = search needs
 
-put-date-requires : tie.Need-put-date-requires
-put-date-requires c κs = omega (arith, moment-room (c .before .before))
-
-put-time-requires : tie.Need-put-time-requires
-put-time-requires c κs =
-    omega (arith, moment-room (c .before .before .before .before .before .before), c .before .before .before .put-date .kept .0)
+put-moment-requires : tie.Need-put-moment-requires
+put-moment-requires c κs = moment-room (c .before .before)
 
 enum-known-a-2 : tie.Need-enum-known-a-2
 enum-known-a-2 c = search needs
@@ -73,9 +70,8 @@ same-length c = search needs
 returns-2 : tie.Need-returns-2
 unfolding textOf
 returns-2 c =
-    let date = c .before .before .before .before .before .before in
-    let told = date .before .before .before in
-    whole (told .before .before) (rw (c .before .before .put-time .ensures, date .put-date .ensures, told .a .given .1))
+    let told = c .before .before .before .before .before in
+    whole (told .before .before) (rw (c .before .before .put-moment .ensures, told .a .given .1))
 
 same-length-2 : tie.Need-same-length-2
 same-length-2 c = search needs
@@ -93,8 +89,7 @@ write-answer-spec =
     size-requires
     returns
     enum-known-a
-    put-date-requires
-    put-time-requires
+    put-moment-requires
     enum-known-a-2
     cast-put-refusal
     put-refusal-requires
