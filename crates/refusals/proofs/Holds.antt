@@ -1,5 +1,5 @@
 -- What holds of an answer: of what is given, and of a refusal, its number and its part. Assumes nothing.
-use Prim.Native.Nat.{ℕ, _≤_, _<_}
+use Prim.Native.Nat.{ℕ, _≤_, _<_, zero-le}
 use native.Mathlib.Omega.{arith}
 use mathlib.Core.Path.{_≡_, refl}
 use Rattle.refusals.specs.Answers.{Answer, given, refused, andThen, refusalOf}
@@ -45,6 +45,11 @@ pub record Given {A : Type 0} (P : A → Type 0) (w : Answer A) : Type 0 where
   pub holds : P value
 
 module _ {A : Type 0} {P : A → Type 0} {low high n : ℕ} where
+  -- the offending part lies within those bytes, also where nothing is refused
+  pub part-within : {w : Answer A} → Holds P (Bounded low high n) w → (refusalOf w .place ≤ refusalOf w .end) × (refusalOf w .end ≤ n)
+  part-within (of-given p) = (zero-le, zero-le)
+  part-within (of-refusal q) = (q .start, q .within)
+
   -- number 0 is an answer
   pub number-zero : {w : Answer A} → Holds P (Bounded low high n) w → 0 < low → refusalOf w .number ≡ 0 → Given P w
   number-zero (of-given {x} p) h z = record { value = x; is = refl; holds = p }
