@@ -11,12 +11,11 @@ use Rattle.calendar.specs.declared.moments.Moment.{Moment}
 use Rattle.dates.specs.Durations.{Duration}
 use Rattle.dates.specs.declared.duration.Slot.{Slot}
 use Rattle.phrase.specs.Tree.{DateTime, around}
-use Rattle.phrase.specs.Chains.{rowDuration, linksFrom, treeOf, blankLink}
+use Rattle.phrase.specs.Chains.{rowDuration, baseOf, linksFrom, treeOf, blankLink}
 use Rattle.phrase.specs.declared.chain.Link.{Link}
 use Rattle.phrase.specs.declared.chain.Chain.{Chain}
 use Rattle.evaluation.specs.Steps.{durationStep}
 use Rattle.evaluation.specs.Evaluate.{evaluate}
-use Rattle.evaluation.specs.Formed.{baseOf}
 
 -- link i, and its duration
 abbrev pub linkAt : Chain → ℕ → Link

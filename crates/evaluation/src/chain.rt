@@ -9,10 +9,10 @@ use phrase::chain::Base;
 use phrase::chain::Chain;
 ghost use mathlib.Core.Path.{_≡_};
 ghost use Rattle.calendar.specs.Moments.{IsMoment, andThen, reachedOf, Valid};
-ghost use Rattle.phrase.specs.Chains.{treeOf};
+ghost use Rattle.phrase.specs.Chains.{baseOf, treeOf};
+ghost use Rattle.phrase.specs.Formed.{Formed};
 ghost use Rattle.evaluation.specs.Times.{timeAt};
 ghost use Rattle.evaluation.specs.Evaluate.{evaluate};
-ghost use Rattle.evaluation.specs.Formed.{baseOf, Formed};
 
 // The time of day on a date that was reached.
 fn timed(x: Reached, time: Time, now: Moment) -> Reached

@@ -10,4 +10,3 @@ pub mod Runs
 pub mod Lines
 pub mod Places
 pub mod Examples
-pub mod Numbered

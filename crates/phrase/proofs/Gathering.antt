@@ -28,7 +28,7 @@ use Rattle.phrase.specs.declared.date_time.Count.{Count}
 use Rattle.phrase.specs.declared.date_time.Outline.{Outline}
 use Rattle.dates.proofs.Each.{Each}
 use Rattle.phrase.proofs.Stands.{LinkStands, TreeStands, TreeHolds, date-time-holds}
-use Rattle.phrase.proofs.Turns.{around-outline}
+use Rattle.phrase.proofs.Outlining.{around-outline}
 use Rattle.phrase.proofs.Decoded.{some}
 
 -- a reading of i links so far

@@ -82,6 +82,10 @@ baseFrom Now t dur = now
 baseFrom (DatedBase e) t dur = dateTime (exprFrom e dur) t
 baseFrom (TimedBase e) t dur = timeDate t (exprFrom e dur)
 
+-- what the links of a chain stand around
+abbrev pub baseOf : Chain → DateTime
+baseOf r = baseFrom (r .base) (r .time) (rowDuration (slice (r .own) (r .parts .n) (r .parts .items)))
+
 -- links, outermost first, around a base
 abbrev pub linksFrom : List Link → List Slot → DateTime → DateTime
 linksFrom [] items x = x
@@ -89,9 +93,7 @@ linksFrom (k ∷ ks) items x = around (k .back) (rowDuration (slice (k .from) (k
 
 -- the tree that a chain stands for: `decoded` says that treeOf (chainOf x) ≡ x where x has at most 21 parts
 unfoldable pub treeOf : Chain → DateTime
-treeOf r =
-    linksFrom (take (r .m) (r .links)) (r .parts .items)
-    (baseFrom (r .base) (r .time) (rowDuration (slice (r .own) (r .parts .n) (r .parts .items))))
+treeOf r = linksFrom (take (r .m) (r .links)) (r .parts .items) (baseOf r)
 
 -- the parts of a tree: `few` says that three lexemes are taken for each
 abbrev pub sizeTree : DateTime → ℕ

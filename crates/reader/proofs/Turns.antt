@@ -57,7 +57,7 @@ module _ (r : Lexer) (done : List Item) where
   step : (left : ℕ) (t : Token) → length done + left ≡ 64 → nextOf r ≡ t
       → Underway (ahead done (rest left r)) (done ++ restFront left r) (joinedTo (soFar done) t) (behindOf r t) left
   step left Finish c e = let h = lex-finish keywords s (r .at) left e in inl (rw (h .0, h .1, append-nil))
-  step left (Refused n a b) c e = let h = lex-refused keywords s (r .at) left n a b e in inl (rw (h .0, h .1, append-nil))
+  step left (Refused x) c e = let h = lex-refused keywords s (r .at) left x e in inl (rw (h .0, h .1, append-nil))
   step zero (Taken k a b) c e =
       let h = lex-full keywords s (r .at) 0 k a b refl e in
       inl (rw (le-leb 64 (length done) (omega arith), h .0, append-nil))

@@ -3,9 +3,8 @@ use native.Mathlib.Omega.{arith}
 use mathlib.Core.Path.{_≡_, ap, sym, _∙_}
 use lib.ListN.{length, length-map}
 use Rattle.calendar.specs.Moments.{IsMoment, moment, reachedOf}
-use Rattle.phrase.specs.Chains.{treeOf}
+use Rattle.phrase.specs.Chains.{baseOf, treeOf}
 use Rattle.evaluation.specs.Evaluate.{evaluate}
-use Rattle.evaluation.specs.Formed.{baseOf}
 use Rattle.calendar.specs.declared.moments.Reached.{Reached}
 use Rattle.calendar.proofs.Outcomes.{moment-valid, at-moment, refused-valid}
 use Rattle.evaluation.proofs.Links.{linksAt, stepped, around-step, chain-walked, no-link, from-moment, stays}

@@ -1,5 +1,6 @@
 -- Every chain of a tree of at most 21 parts is formed: no duration without a part.
 use Prim.Native.Nat.{ℕ, _+_, _≤_, _<_}
+use native.Mathlib.Nat.{eq-or-lt-of-le}
 use native.Mathlib.Omega.{arith}
 use mathlib.Core.Path.{_≡_, refl}
 use mathlib.Core.Logic.{⊎-elim}
@@ -7,21 +8,21 @@ use mathlib.Core.Bool.{Bool, true, false}
 use mathlib.Core.List.{List}
 use lib.ListN.{length, getD, set, length-set}
 use lib.Seq.{getD-set-same, getD-set-other}
-use Rattle.digits.proofs.Order.{le-or-lt}
 use Rattle.dates.specs.Durations.{Duration, into, size}
 use Rattle.dates.proofs.Durations.{into-n}
 use Rattle.dates.specs.declared.duration.Parts.{Parts}
 use Rattle.dates.specs.declared.time.Time.{Time}
 use Rattle.expressions.specs.Tree.{DateExpr, date, dateRelative, dateExpressionAfter, dateExpressionBefore, unitRelative, relativeWeekday}
 use Rattle.expressions.specs.Tree.{weekdayRelative, weekdayExpressionBefore, before, after, weekday, empty}
-use Rattle.phrase.specs.Tree.{DateTime, dateTime, timeDate, durationAfter, durationBefore, now}
 use Rattle.expressions.specs.Shapes.{shape, hasDuration, sizeExpr}
+use Rattle.phrase.specs.Tree.{DateTime, dateTime, timeDate, durationAfter, durationBefore, now}
 use Rattle.phrase.specs.Chains.{linkedParts, based, chainFrom, chainOf, blank, blankLink, sizeTree}
+use Rattle.phrase.specs.Outlines.{hasOwn}
+use Rattle.phrase.specs.Formed.{Formed}
 use Rattle.phrase.specs.declared.chain.Base.{Base}
 use Rattle.phrase.specs.declared.chain.Link.{Link}
 use Rattle.phrase.specs.declared.chain.Chain.{Chain}
 use Rattle.phrase.proofs.Decoded.{some, tree-count}
-use Rattle.evaluation.specs.Formed.{baseDuration, Formed}
 
 -- a test is not both
 pub never : {A : Type 0} → false ≡ true → A
@@ -30,10 +31,10 @@ never e = let z : _≡_ {A = ℕ} 0 1 = cc in absurd (omega arith)
 -- what holds of the first m elements and of one that is put behind them holds of the first m + 1
 module _ {A : Type 0} (P : A → Type 0) (l : List A) (m : ℕ) (a d : A) where
   one-more : m < length l → P a → ((k : ℕ) → k < m → P (getD l k d)) → (k : ℕ) → k < m + 1 → P (getD (set l m a) k d)
-  one-more h p q k below = ⊎-elim at-last ahead (le-or-lt m k)
+  one-more h p q k below = let most : k ≤ m = omega arith in ⊎-elim at-last ahead (eq-or-lt-of-le most)
     where
-      at-last : m ≤ k → P (getD (set l m a) k d)
-      at-last i = let same : k ≡ m = omega arith in rw (same, getD-set-same l m a d h) p
+      at-last : k ≡ m → P (getD (set l m a) k d)
+      at-last same = rw (same, getD-set-same l m a d h) p
 
       ahead : k < m → P (getD (set l m a) k d)
       ahead i = rw (getD-set-other l m k a d (λ e. omega arith)) (q k i)
@@ -81,7 +82,7 @@ own-part empty h = never h
 
 -- a base of k parts behind the links of a reading
 formed-base :
-    (b : Base) (t : Time) (ps : Parts) (k : ℕ) (r : Chain) → Room r k → ps .n ≡ r .parts .n + k → (baseDuration b ≡ true → 0 < k) →
+    (b : Base) (t : Time) (ps : Parts) (k : ℕ) (r : Chain) → Room r k → ps .n ≡ r .parts .n + k → (hasOwn b ≡ true → 0 < k) →
     Formed (based b t ps r)
 formed-base b t ps k r h count part =
     record {
