@@ -30,7 +30,8 @@ ReadPhrase = Answer Reading
 abbrev pub reads : DateTime → ℕ → ReadPhrase
 reads x t = given (record { tree = x; taken = t })
 
--- 5 and 6 have place 0 and no part; 7 has the place of the first of the count lexemes that is left, and its part goes on to the end at n
+-- nothing is 5 and an overflow 6, with place 0 and no part; 7 has the place of the first of the count lexemes that is left, and its part
+-- goes on to the end at n
 abbrev pub readCodes : Parsed DateTime → ℕ → List ℕ → ℕ → ReadPhrase
 readCodes (is x t) count starts n = cond (ltb t count) (refuse table.LeftOver (getD starts t 0) n) (reads x t)
 readCodes nothing count starts n = refuse table.Nothing 0 0
