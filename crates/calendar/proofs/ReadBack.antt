@@ -1,27 +1,17 @@
 -- A moment that is written in the fixed form fits it and reads back. Assumes nothing.
 use Prim.Native.Nat.{ℕ}
-use Prim.Native.Char.{code}
 use native.Mathlib.Omega.{arith}
-use mathlib.Core.Path.{_≡_, refl}
-use mathlib.Core.Bool.{Bool, true, false}
+use mathlib.Core.Path.{_≡_}
+use mathlib.Core.Bool.{true}
 use mathlib.Core.List.{List, _++_}
-use lib.Dec.{eqb}
-use borrow.Author.Tests.{eq-eqb, eqb-true}
-use Rattle.digits.specs.Forms.{inPlace, ofForm}
-use Rattle.digits.proofs.Says.{digit-is, two, four}
+use Rattle.digits.specs.Forms.{ofForm}
+use Rattle.digits.proofs.Forms.{own-place}
+use Rattle.digits.proofs.Says.{digit-is, two-say, four-say}
 use Rattle.calendar.specs.Gregorian.{leapYear}
 use Rattle.calendar.specs.Moments.{IsMoment}
 use Rattle.calendar.specs.Fixed.{momentForm, momentText, momentIn}
 use Rattle.calendar.specs.declared.moments.Moment.{Moment}
 use Rattle.calendar.proofs.Months.{month}
-
--- a byte of a form fits its own place
-own-place : (m : ℕ) → inPlace m m ≡ true
-own-place m = go (eqb m (code "0")) refl
-  where
-    go : (b : Bool) → eqb m (code "0") ≡ b → inPlace m m ≡ true
-    go true e = rw (eqb-true m (code "0") e)
-    go false e = rw (e, eq-eqb m m refl)
 
 -- what is written fits the form
 pub moment-fits : (m : ℕ) (t : Moment) → ofForm (momentForm m) (momentText m t) ≡ true
@@ -34,10 +24,10 @@ moment-back m t rest h =
     let time = h .time in
     let days = month (leapYear (t .year)) (t .month) (date .month-low) (date .month-high) .most in
     rw (
-      four (t .year) (omega arith),
-      two (t .month) (omega arith),
-      two (t .day) (omega arith),
-      two (t .hour) (omega arith),
-      two (t .minute) (omega arith),
-      two (t .second) (omega arith),
+      four-say (t .year) (omega arith),
+      two-say (t .month) (omega arith),
+      two-say (t .day) (omega arith),
+      two-say (t .hour) (omega arith),
+      two-say (t .minute) (omega arith),
+      two-say (t .second) (omega arith),
     )

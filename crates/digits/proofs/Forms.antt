@@ -1,12 +1,15 @@
 -- Texts of a form, a byte at a time. Assumes nothing.
 use Prim.Native.Nat.{ℕ, suc, _+_, _≤_, _<_}
+use Prim.Native.Char.{code}
 use native.Mathlib.Numerals.{add-one}
 use native.Mathlib.Omega.{arith}
 use mathlib.Core.Path.{_≡_, refl, ap}
 use mathlib.Core.Bool.{Bool, true, false, _&&_}
 use mathlib.Core.List.{List, [], _∷_}
+use lib.Dec.{eqb}
 use lib.ListN.{length, getD, drop, drop-of-length-le}
 use lib.Seq.{drop-cons}
+use borrow.Author.Tests.{eq-eqb, eqb-true}
 use Rattle.digits.specs.Forms.{inPlace, ofForm}
 
 module _ (f s : List ℕ) (i : ℕ) where
@@ -34,3 +37,11 @@ form-length (x ∷ f) (b ∷ s) h = go (inPlace x b) (form-length f s) h
     go : (t : Bool) → (ofForm f s ≡ true → length s ≡ length f) → (t && ofForm f s) ≡ true → suc (length s) ≡ suc (length f)
     go true shorter e = ap suc (shorter e)
     go false shorter e = let z : _≡_ {A = ℕ} 0 1 = cc in absurd (omega arith)
+
+-- a byte of a form fits its own place
+pub own-place : (f : ℕ) → inPlace f f ≡ true
+own-place f = go (eqb f (code "0")) refl
+  where
+    go : (b : Bool) → eqb f (code "0") ≡ b → inPlace f f ≡ true
+    go true e = rw (eqb-true f (code "0") e)
+    go false e = rw (e, eq-eqb f f refl)

@@ -63,13 +63,13 @@ pub digit-is : (n : ℕ) → isDigit (digitOf n) ≡ true
 digit-is n = rw (le-leb 48 (48 + n % 10) (omega arith), le-leb (48 + n % 10) 57 (omega arith))
 
 -- two digits of a number say it
-pub two : (n : ℕ) → n < 100 → 10 * (digitOf (n / 10) - 48) + (digitOf n - 48) ≡ n
-two n h = omega arith
+pub two-say : (n : ℕ) → n < 100 → 10 * (digitOf (n / 10) - 48) + (digitOf n - 48) ≡ n
+two-say n h = omega arith
 
 -- and four
-pub four :
+pub four-say :
     (n : ℕ) → n < 10000 →
     100 * (10 * (digitOf (n / 10 / 10 / 10) - 48) + (digitOf (n / 10 / 10) - 48)) + (10 * (digitOf (n / 10) - 48) + (digitOf n - 48)) ≡ n
-four n h =
-    let high : 10 * (digitOf (n / 10 / 10 / 10) - 48) + (digitOf (n / 10 / 10) - 48) ≡ n / 10 / 10 = two (n / 10 / 10) (omega arith) in
+four-say n h =
+    let high : 10 * (digitOf (n / 10 / 10 / 10) - 48) + (digitOf (n / 10 / 10) - 48) ≡ n / 10 / 10 = two-say (n / 10 / 10) (omega arith) in
     rw high (omega arith)

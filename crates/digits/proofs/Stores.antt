@@ -33,7 +33,7 @@ sets-take l i vs j h =
     rw (add-one, take-suc vs j 0, sets-append (take j vs) (getD vs j 0 ∷ []), len)
 
 -- what stands behind a run
-pub getD-sets : (l : List ℕ) (i : ℕ) (vs : List ℕ) (j d : ℕ) → i + length vs ≤ j → getD (sets l i vs) j d ≡ getD l j d
+getD-sets : (l : List ℕ) (i : ℕ) (vs : List ℕ) (j d : ℕ) → i + length vs ≤ j → getD (sets l i vs) j d ≡ getD l j d
 getD-sets l i [] j d h = refl
 getD-sets l i (v ∷ vs) j d h =
     let past : i + suc (length vs) ≤ j = h in

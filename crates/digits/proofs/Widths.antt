@@ -9,7 +9,7 @@ use lib.Dec.{ltb}
 use lib.ListN.{length, length-append}
 use lib.Seq.{append-snoc}
 use borrow.Author.Tests.{lt-ltb, le-ltb}
-use Rattle.digits.specs.Digits.{digitOf, digitsOf, widthIn}
+use Rattle.digits.specs.Digits.{digitOf, digitsOf, widthIn, widthOf}
 
 -- as many digits as are asked for
 pub digits-length : (k n : ℕ) → length (digitsOf k n) ≡ k
@@ -38,10 +38,16 @@ width-more (suc k) n z h =
     let less : suc k - 1 ≡ k = omega arith in
     rw (less, le-ltb n 10 h)
 
-pub width-most : (k n : ℕ) → widthIn k n ≤ suc k
+-- no more digits than are counted
+width-most : (k n : ℕ) → widthIn k n ≤ suc k
 width-most zero n = omega arith
 width-most (suc k) n = go (ltb n 10) (width-most k (n / 10))
   where
     go : (b : Bool) → widthIn k (n / 10) ≤ suc k → cond b 1 (suc (widthIn k (n / 10))) ≤ suc (suc k)
     go true h = omega arith
     go false h = omega arith
+
+-- a number of 64 bits has at most 20 digits
+pub width-limit : (n : ℕ) → widthOf n ≤ 20
+unfolding widthOf
+width-limit n = width-most 19 n

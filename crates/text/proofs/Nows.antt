@@ -2,7 +2,7 @@
 use Prim.Native.Nat.{ℕ}
 use Prim.Native.Char.{code}
 use mathlib.Core.Path.{_≡_}
-use mathlib.Core.Bool.{true, false}
+use mathlib.Core.Bool.{false}
 use mathlib.Core.List.{List, []}
 use Rattle.digits.specs.Forms.{ofForm}
 use Rattle.calendar.specs.Moments.{IsMoment, isDate, isMoment}

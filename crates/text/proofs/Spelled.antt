@@ -9,7 +9,7 @@ use borrow.Author.Tests.{le-leb, lt-leb}
 use Rattle.digits.specs.Bytes.{bytesOf}
 use Rattle.digits.specs.Digits.{widthOf, decimalOf}
 use Rattle.digits.proofs.Stores.{sets-append}
-use Rattle.digits.proofs.Widths.{digits-length, width-most}
+use Rattle.digits.proofs.Widths.{digits-length, width-limit}
 use Rattle.lexer.specs.Keywords.{keywords}
 use Rattle.calendar.specs.declared.moments.Moment.{Moment}
 use Rattle.text.specs.Answers.{Answer, at, refusedAt, answerOf}
@@ -22,10 +22,6 @@ refusal-length k a =
     let first : length (decimalOf k) ≡ widthOf k = digits-length (widthOf k) k in
     let second : length (decimalOf a) ≡ widthOf a = digits-length (widthOf a) a in
     simp length-append (omega arith)
-
-width-limit : (n : ℕ) → widthOf n ≤ 20
-unfolding widthOf
-width-limit n = width-most 19 n
 
 -- no answer is longer
 pub text-limit : (x : Answer) → length (textOf x) ≤ 52

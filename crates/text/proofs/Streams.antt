@@ -9,7 +9,7 @@ use lib.Seq.{sets, length-sets, length-take-le}
 use Rattle.digits.specs.Stores.{Written, Added}
 use Rattle.digits.proofs.Stores.{sets-append}
 use Rattle.digits.proofs.Takes.{drop-take}
-use Rattle.text.specs.Lines.{feed, wholeOf, restOf, lineAt}
+use Rattle.text.specs.Lines.{wholeOf, restOf, lineAt}
 use Rattle.text.specs.Output.{lineText, afterLine, linesText, afterLines, passedText, passed, Placed, kept, pieceOf, Held, lastText}
 use Rattle.text.specs.declared.line.Line.{Line}
 use Rattle.text.specs.declared.stream.Known.{Known}

@@ -1,11 +1,9 @@
 -- `text::now::now_of` meets its contract. A line of the form has 19 bytes. Assumes nothing.
 use mathlib.Core.Path.{_≡_, sym, _∙_}
 use mathlib.Core.Bool.{Bool}
-use Prim.Native.Nat.{_≤_}
 use native.Mathlib.Omega.{arith}
 use denote.Ref.{now}
 use borrow.Author.Needs.{needs}
-use lib.ListN.{length}
 use Rattle.digits.specs.Forms.{ofForm}
 use Rattle.digits.proofs.Forms.{form-length}
 use Rattle.text.specs.Nows.{nowForm, nowOf}
