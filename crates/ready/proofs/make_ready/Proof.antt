@@ -1,4 +1,3 @@
-use mathlib.Core.Path.{sym}
 use denote.Ref.{now}
 use Rattle.phrase.proofs.Phrases.{WasRead, was-read, was-refused}
 use Rattle.ready.specs.Ready.{readyOf}
