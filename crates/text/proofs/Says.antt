@@ -13,7 +13,7 @@ use Rattle.calendar.specs.Gregorian.{leapYear}
 use Rattle.calendar.specs.Moments.{IsMoment}
 use Rattle.calendar.specs.declared.moments.Moment.{Moment}
 use Rattle.calendar.proofs.Months.{month}
-use Rattle.text.specs.Answers.{at}
+use Rattle.text.specs.Answers.{given}
 use Rattle.text.specs.Digits.{digitOf, digitsOf, widthIn, widthOf, decimalOf}
 use Rattle.text.specs.Nows.{nowOf}
 use Rattle.text.specs.Texts.{textOf}
@@ -62,7 +62,7 @@ four n h =
     rw high (omega arith)
 
 -- the text of a moment is a now's line, and says that moment
-pub moment-says : (t : Moment) → IsMoment t → nowOf (textOf (at t)) ≡ t
+pub moment-says : (t : Moment) → IsMoment t → nowOf (textOf (given t)) ≡ t
 unfolding nowOf textOf
 moment-says t m =
     let date = m .date in

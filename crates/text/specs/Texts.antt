@@ -9,7 +9,7 @@ use lib.ListN.{length}
 use lib.Seq.{sets}
 use Rattle.lexer.specs.Words.{bytesOf}
 use Rattle.calendar.specs.declared.moments.Moment.{Moment}
-use Rattle.text.specs.Answers.{Answer, at, refusedAt}
+use Rattle.text.specs.Answers.{Answer, given, refused}
 use Rattle.text.specs.Digits.{digitsOf, decimalOf}
 
 -- a mark and two digits
@@ -29,9 +29,9 @@ abbrev pub refusalText : ℕ → ℕ → List ℕ
 refusalText k a = bytesOf "refused " ++ decimalOf k ++ bytesOf " at " ++ decimalOf a
 
 -- an answer; the end of a refusal's part is not written
-unfoldable pub textOf : Answer → List ℕ
-textOf (at t) = dateText t ++ timeText t
-textOf (refusedAt k a e) = refusalText k a
+unfoldable pub textOf : Answer Moment → List ℕ
+textOf (given t) = dateText t ++ timeText t
+textOf (refused r) = refusalText (r .number) (r .place)
 
 -- `text` stands at the front of a lent buffer, all else is as before, and r is its length
 pub record Written (text : List ℕ) (r : ℕ) (before after : List ℕ) : Type 0 where
