@@ -4,7 +4,7 @@ use native.Mathlib.Nat.{eq-or-lt-of-le}
 use native.Mathlib.Omega.{arith}
 use mathlib.Core.Path.{_≡_, refl}
 use mathlib.Core.Logic.{⊎-elim}
-use mathlib.Core.Bool.{Bool, true, false}
+use mathlib.Core.Bool.{Bool, true, false, false≢true}
 use mathlib.Core.List.{List}
 use lib.ListN.{length, getD, set, length-set}
 use lib.Seq.{getD-set-same, getD-set-other}
@@ -23,10 +23,6 @@ use Rattle.phrase.specs.declared.chain.Base.{Base}
 use Rattle.phrase.specs.declared.chain.Link.{Link}
 use Rattle.phrase.specs.declared.chain.Chain.{Chain}
 use Rattle.phrase.proofs.Decoded.{some, tree-count}
-
--- a test is not both
-pub never : {A : Type 0} → false ≡ true → A
-never e = let z : _≡_ {A = ℕ} 0 1 = cc in absurd (omega arith)
 
 -- what holds of the first m elements and of one that is put behind them holds of the first m + 1
 module _ {A : Type 0} (P : A → Type 0) (l : List A) (m : ℕ) (a d : A) where
@@ -67,18 +63,18 @@ room-inside back dur x r h =
 
 -- a date expression that has a duration has a part
 own-part : (e : DateExpr) → hasDuration (shape e) ≡ true → 0 < sizeExpr e
-own-part (date d) h = never h
-own-part (dateRelative d s u) h = never h
+own-part (date d) h = absurd (false≢true h)
+own-part (dateRelative d s u) h = absurd (false≢true h)
 own-part (dateExpressionAfter d dur) h = some dur
 own-part (dateExpressionBefore d dur) h = some dur
-own-part (unitRelative s u) h = never h
-own-part (relativeWeekday s w) h = never h
-own-part (weekdayRelative w s u) h = never h
+own-part (unitRelative s u) h = absurd (false≢true h)
+own-part (relativeWeekday s w) h = absurd (false≢true h)
+own-part (weekdayRelative w s u) h = absurd (false≢true h)
 own-part (weekdayExpressionBefore w dur) h = some dur
 own-part (before dur d) h = some dur
 own-part (after dur d) h = some dur
-own-part (weekday w) h = never h
-own-part empty h = never h
+own-part (weekday w) h = absurd (false≢true h)
+own-part empty h = absurd (false≢true h)
 
 -- a base of k parts behind the links of a reading
 formed-base :
@@ -99,7 +95,7 @@ formed-inside (dateTime e t) r h = formed-base _ t _ (sizeExpr e) r h (tree-coun
 formed-inside (timeDate t e) r h = formed-base _ t _ (sizeExpr e) r h (tree-count (timeDate t e) r) (own-part e)
 formed-inside (durationAfter dur x) r h = formed-inside x _ (room-inside false dur x r h)
 formed-inside (durationBefore dur x) r h = formed-inside x _ (room-inside true dur x r h)
-formed-inside now r h = formed-base _ _ _ 0 r h (tree-count now r) never
+formed-inside now r h = formed-base _ _ _ 0 r h (tree-count now r) (λ h. absurd (false≢true h))
 
 -- the chain of a tree
 pub formed : (x : DateTime) → sizeTree x ≤ 21 → Formed (chainOf x)

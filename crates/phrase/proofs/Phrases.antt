@@ -1,7 +1,7 @@
 -- A phrase read whole: what reading takes of lexing, where the offending part stands, and what a reading stands for.
 use Prim.Native.Nat.{ℕ, _≤_, min}
 use native.Mathlib.Omega.{arith}
-use mathlib.Core.Path.{_≡_, refl, ap, _∙_}
+use mathlib.Core.Path.{_≡_, refl, ap, sym, _∙_}
 use mathlib.Core.Bool.{Bool, true, false, cond}
 use mathlib.Core.List.{List, []}
 use lib.Dec.{ltb}
@@ -10,7 +10,7 @@ use lib.Seq.{sets, length-sets, length-take-le}
 use borrow.Author.Tests.{ltb-true, ltb-false, ne-eqb}
 use Rattle.refusals.specs.Table as table
 use Rattle.refusals.specs.Answers.{given, refused, refusalAt, refuse, andThen}
-use Rattle.refusals.proofs.Holds.{Holds, of-given, of-refusal, Bounded, number-zero}
+use Rattle.refusals.proofs.Holds.{Holds, of-given, of-refusal, Bounded, number-zero, number-other}
 use Rattle.lexer.specs.Keywords.{keywords}
 use Rattle.lexer.specs.Lex.{Item, Lexed, lexed, front, codesOf, startsOf, endedOf}
 use Rattle.lexer.specs.declared.lex.Ended.{Ended}
@@ -167,3 +167,10 @@ was-read s {r} answer z =
       stands = ap (λ (q : PhraseRead). treeOf (q .chain)) same ∙ decoded x few;
       formed = rw same (formed x few);
     }
+
+-- one that it answers with any other number is refused so
+pub was-refused :
+    (s : List ℕ) {r : PhraseRead} → r ≡ phraseAnswer (readOf keywords s) → (r .refusal .number ≡ 0 → ⊥) →
+    readOf keywords s ≡ refused (r .refusal)
+was-refused s answer other =
+    number-other (readOf keywords s) (λ z. other (rw answer z)) ∙ ap (λ (q : PhraseRead). refused (q .refusal)) (sym answer)

@@ -6,9 +6,8 @@ use mathlib.Core.Bool.{Bool, true, false}
 use lib.ListN.{length}
 use Rattle.dates.specs.Durations.{Duration, size}
 use Rattle.phrase.specs.Tree.{DateTime, around}
-use Rattle.phrase.specs.Chains.{treeOf, sizeTree}
+use Rattle.phrase.specs.Chains.{baseOf, treeOf, sizeTree}
 use Rattle.phrase.specs.declared.chain.Chain.{Chain}
-use Rattle.evaluation.specs.Formed.{baseOf}
 use Rattle.evaluation.proofs.Links.{linkAt, lasting, linksAt, next-link, turn, chain-walked}
 use Rattle.steps.specs.declared.plan.Plan.{Plan}
 use Rattle.ready.specs.Made.{addDuration, treeSteps, held}

@@ -12,7 +12,7 @@ use Rattle.digits.proofs.Stores.{sets-append}
 use Rattle.digits.proofs.Widths.{digits-length, width-limit}
 use Rattle.lexer.specs.Keywords.{keywords}
 use Rattle.calendar.specs.declared.moments.Moment.{Moment}
-use Rattle.text.specs.Answers.{Answer, at, refusedAt, answerOf}
+use Rattle.text.specs.Answers.{Answer, given, refused, answerOf}
 use Rattle.text.specs.Texts.{refusalText, textOf, fitting}
 use Rattle.text.specs.Output.{answerLine}
 
@@ -24,10 +24,10 @@ refusal-length k a =
     simp length-append (omega arith)
 
 -- no answer is longer
-pub text-limit : (x : Answer) → length (textOf x) ≤ 52
+pub text-limit : (x : Answer Moment) → length (textOf x) ≤ 52
 unfolding textOf
-text-limit (at t) = omega arith
-text-limit (refusedAt k a e) = omega (arith, refusal-length k a, width-limit k, width-limit a)
+text-limit (given t) = omega arith
+text-limit (refused r) = omega (arith, refusal-length (r .number) (r .place), width-limit (r .number), width-limit (r .place))
 
 -- nor its line
 pub answer-limit : (n : Moment) (p : List ℕ) → length (answerLine n p) ≤ 53

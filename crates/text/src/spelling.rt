@@ -33,11 +33,7 @@ fn size(a: Answered) -> usize
 {
     match a {
         Answered::At(_) => 19,
-        Answered::Refused {
-            number,
-            place,
-            end: _,
-        } => 12 + width(number as u64) + width(place as u64),
+        Answered::Refused(r) => 12 + width(r.number as u64) + width(r.place as u64),
     }
 }
 
@@ -54,12 +50,8 @@ fn write_answer(a: Answered, out: &mut [u8]) -> usize
             put_moment(out, b' ', t);
             n
         }
-        Answered::Refused {
-            number,
-            place,
-            end: _,
-        } => {
-            put_refusal(out, number as u64, place as u64);
+        Answered::Refused(r) => {
+            put_refusal(out, r.number as u64, r.place as u64);
             n
         }
     }
@@ -70,7 +62,7 @@ pub(crate) fn write_line(phrase: &[u8], t: Moment, out: &mut [u8]) -> usize
     requires { ⌜ 53 ≤ length (now out) ⌝ }
     ensures { λ r. ⌜ Written (answerLine t (now (phrase .entry))) r (now (out .entry)) (now (out .exit)) ⌝ }
 {
-    let a = answer(phrase, t.year, t.month, t.day, t.hour, t.minute, t.second);
+    let a = answer(phrase, t);
     let n = write_answer(a, out);
     out[n] = b'\n';
     n + 1

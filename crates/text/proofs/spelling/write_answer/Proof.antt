@@ -28,7 +28,7 @@ moment-room c = rw (c .a .given .1) at (has-room (c .before .before))
 -- for a refusal
 refusal-room :
     (c : tie.After-a2) →
-    12 + widthOf (c .a2 .given .0 .0) + widthOf (c .a2 .given .0 .1 .0) ≤ length (now (c .before .before .before .before .before .args .out))
+    12 + widthOf (c .a2 .given .0 .0 .number) + widthOf (c .a2 .given .0 .0 .place) ≤ length (now (c .before .before .before .before .before .args .out))
 unfolding textOf
 refusal-room c = rw (c .a2 .given .1, refusal-length) at (has-room (c .before .before))
 
@@ -62,7 +62,7 @@ cast-put-refusal : tie.Need-cast-put-refusal
 cast-put-refusal c = search needs
 
 put-refusal-requires : tie.Need-put-refusal-requires
-put-refusal-requires c κs = refusal-room (c .before .before)
+put-refusal-requires c κs = refusal-room (c .before .before .before)
 
 same-length : tie.Need-same-length
 same-length c = search needs
@@ -79,7 +79,7 @@ same-length-2 c = search needs
 returns-3 : tie.Need-returns-3
 unfolding textOf
 returns-3 c =
-    let told = c .before .before .before .before .before in
+    let told = c .before .before .before .before .before .before in
     whole (told .before .before) (rw (c .before .before .put-refusal .ensures, told .a2 .given .1))
 
 pub write-answer-spec : {M : Type 1} → statement M
