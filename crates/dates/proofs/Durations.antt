@@ -13,7 +13,7 @@ use denote.Enum.Declared.{tagOf}
 use Rattle.lexer.specs.Lexemes as lexeme
 use Rattle.numbers.specs.Slices.{isAt}
 use Rattle.numbers.proofs.Again.{again-is, again-keeps}
-use Rattle.numbers.proofs.Places.{at-most, there}
+use Rattle.numbers.proofs.LexemeAt.{at-most, there}
 use Rattle.dates.specs.Parsed.{Parsed, is, nothing, overflow, pick, ifLet, andThen, Took}
 use Rattle.dates.specs.Units.{isArticle}
 use Rattle.dates.specs.declared.duration.Part.{Part}
@@ -28,8 +28,8 @@ use Rattle.dates.specs.Durations.{specificOf, articleOf, concreteOf, par
 use Rattle.dates.specs.Durations.{durationStep, durationOf, pushed, into, size, rowed}
 use Rattle.dates.proofs.duration.PartFound.{the-type as part-type}
 use Rattle.dates.proofs.Each.{Each, pick-each, then-each, if-let-each}
-use Rattle.dates.proofs.Laws.{Arm, found, nothing-took, pick-took, or-took, then-took}
-use Rattle.dates.proofs.Bounds.{num-took, unit-took, tested-article}
+use Rattle.dates.proofs.Parsed.{Arm, found, nothing-took, pick-took, or-took, then-took}
+use Rattle.dates.proofs.LexemesTaken.{num-took, unit-took, tested-article}
 
 -- the arm of a part's answer
 pub part-arm : {ks : List ℕ} (w : PartFound) → OneOf ks (tagOf part-type w) → Arm ks (parsedPart w)

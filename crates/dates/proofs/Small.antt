@@ -13,8 +13,8 @@ use Rattle.numbers.specs.Answers.{Read}
 use Rattle.numbers.specs.declared.Found.{Found}
 use Rattle.numbers.specs.declared.Found.the-variants as number
 use Rattle.numbers.proofs.Again.{again-keeps}
-use Rattle.numbers.proofs.Bounds.{num-read}
-use Rattle.numbers.proofs.Places.{within-bounds}
+use Rattle.numbers.proofs.NumberBounds.{num-read}
+use Rattle.numbers.proofs.LexemeAt.{within-bounds}
 use Rattle.dates.specs.Parsed.{Parsed, is, nothing, overflow, pick, orElse, ifLet, andThen, parsedNumber}
 use Rattle.dates.specs.Units.{isArticle, unitOf, monthOf, weekdayOf}
 use Rattle.dates.specs.Dates.{namedDayOf, dayMonthYearOf, monthDayOf, isDelim, pickDate, threeNumbersOf, twoNumbersOf, behindSecondOf}

@@ -14,8 +14,8 @@ use Rattle.numbers.specs.declared.Found.the-variants.{Is, Nothing, Overf
 use Rattle.numbers.specs.Slices.{get, within}
 use Rattle.numbers.specs.Answers.{MAX, pick, orElse, andThen}
 use Rattle.numbers.specs.Numbers.{isEnding, wordOf, literalOf, onesOf, teensOf, tensOf, tensOnesOf, numDoubleOf, hundredsOf, numTripleOf, unitsOf, numStep, numOf}
-use Rattle.numbers.proofs.Places.{within-bounds}
-use Rattle.numbers.proofs.Turns.{num-is}
+use Rattle.numbers.proofs.LexemeAt.{within-bounds}
+use Rattle.numbers.proofs.NumStep.{num-is}
 use Rattle.numbers.proofs.Begins.{outside, never, not-at, no-unit}
 
 -- an alternative that finds nothing or r, so that it changes nothing before r

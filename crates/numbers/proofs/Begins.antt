@@ -13,8 +13,8 @@ use Rattle.numbers.specs.declared.Found.the-variants.{Nothing}
 use Rattle.numbers.specs.Slices.{get, isAt, within}
 use Rattle.numbers.specs.Answers.{MAX, pick}
 use Rattle.numbers.specs.Numbers.{beginsNumber, wordOf, literalOf, onesOf, teensOf, tensOf, tensOnesOf, numDoubleOf, hundredsOf, numTripleOf, numTripleUnitOf, unitsOf, numStep, numOf}
-use Rattle.numbers.proofs.Places.{within-bounds}
-use Rattle.numbers.proofs.Turns.{num-is}
+use Rattle.numbers.proofs.LexemeAt.{within-bounds}
+use Rattle.numbers.proofs.NumStep.{num-is}
 
 -- none of three tests held
 failed : (p q r : Bool) → p || (q || r) ≡ false → (p ≡ false) × (q ≡ false) × (r ≡ false)

@@ -20,7 +20,7 @@ use Rattle.expressions.specs.Shapes.{shape, ownOf, ofOwn, intoExpr, exprFrom, s
 use Rattle.phrase.specs.Chains.{linkedParts, chainFrom, chainOf, blank, rowDuration, linksFrom, treeOf, sizeTree}
 use Rattle.phrase.specs.declared.chain.Link.{Link}
 use Rattle.phrase.specs.declared.chain.Chain.{Chain}
-use Rattle.expressions.proofs.Few.{into-expr-n}
+use Rattle.expressions.proofs.OwnDuration.{into-expr-n}
 
 -- the parts of a duration as a row of their own
 abbrev slots : Duration → List Slot

@@ -20,7 +20,7 @@ use Rattle.dates.specs.declared.time.TimeFound.{TimeFound}
 use Rattle.dates.specs.declared.time.TimeFound.the-variants.{Is as IsTime, Nothing as NoTime, Overflow as TimeOverflow}
 use Rattle.dates.proofs.time.TimeFound.{the-type as time-type}
 use borrow.Author.Tests.{eqb-false, lt-ltb, le-ltb}
-use Rattle.dates.proofs.Laws.{Arm, neither, unread, dropped}
+use Rattle.dates.proofs.Parsed.{Arm, neither, unread, dropped}
 use Rattle.expressions.specs.Tree.{DateExpr, empty}
 use Rattle.expressions.specs.DateExprs.{dateExprOf}
 use Rattle.expressions.specs.Shapes.{shape}

@@ -8,9 +8,9 @@ use borrow.Author.Needs.{needs}
 use borrow.Fn.Kinds.{In}
 use borrow.Fn.PlainCycle.{Measures, is, falls, and}
 use Rattle.numbers.specs.Numbers.{tailOf, unitsOf, numStep, numOf}
-use Rattle.numbers.proofs.Laws.{kept, none, found, most, wider, promised}
-use Rattle.numbers.proofs.Bounds.{product, units-read, num-read}
-use Rattle.numbers.proofs.Turns.{num-is}
+use Rattle.numbers.proofs.NumberAnswers.{kept, none, found, most, wider, promised}
+use Rattle.numbers.proofs.NumberBounds.{product, units-read, num-read}
+use Rattle.numbers.proofs.NumStep.{num-is}
 use Rattle.numbers.proofs.whole.Reads as whole
 use Rattle.numbers.proofs.whole.Kinds as whole-kinds
 use Rattle.numbers.proofs.+units+whole.Lts-whole as whole-lts

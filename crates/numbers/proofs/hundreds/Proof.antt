@@ -2,9 +2,9 @@ use Prim.Native.Nat.{_≤_, _<_}
 use native.Mathlib.Omega.{arith}
 use lib.ListN.{length}
 use Rattle.numbers.specs.Numbers.{tailOf, hundredsOf}
-use Rattle.numbers.proofs.Laws.{none, found, most, promised}
-use Rattle.numbers.proofs.Places.{there}
-use Rattle.numbers.proofs.Bounds.{hundreds-taken}
+use Rattle.numbers.proofs.NumberAnswers.{none, found, most, promised}
+use Rattle.numbers.proofs.LexemeAt.{there}
+use Rattle.numbers.proofs.NumberBounds.{hundreds-taken}
 use borrow.Author.Needs.{needs}
 use Rattle.numbers.proofs.hundreds.Statement.{statement}
 use Rattle.numbers.proofs.hundreds.Tie as tie

@@ -1,8 +1,8 @@
 use mathlib.Core.Path.{sym}
 use native.Mathlib.Omega.{arith}
 use Rattle.numbers.specs.Numbers.{numTripleOf}
-use Rattle.numbers.proofs.Laws.{kept, wider, promised}
-use Rattle.numbers.proofs.Bounds.{num-triple-taken}
+use Rattle.numbers.proofs.NumberAnswers.{kept, wider, promised}
+use Rattle.numbers.proofs.NumberBounds.{num-triple-taken}
 use borrow.Author.Needs.{needs}
 use Rattle.numbers.proofs.num_triple.Statement.{statement}
 use Rattle.numbers.proofs.num_triple.Tie as tie

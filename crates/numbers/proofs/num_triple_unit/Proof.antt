@@ -1,6 +1,6 @@
 use Rattle.numbers.specs.Numbers.{numTripleUnitOf}
-use Rattle.numbers.proofs.Laws.{promised}
-use Rattle.numbers.proofs.Bounds.{num-triple-unit-taken}
+use Rattle.numbers.proofs.NumberAnswers.{promised}
+use Rattle.numbers.proofs.NumberBounds.{num-triple-unit-taken}
 use borrow.Author.Needs.{needs}
 use Rattle.numbers.proofs.num_triple_unit.Statement.{statement}
 use Rattle.numbers.proofs.num_triple_unit.Tie as tie

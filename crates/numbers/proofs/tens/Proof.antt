@@ -1,8 +1,8 @@
 use mathlib.Core.Path.{sym}
 use borrow.Author.Tests.{eq-eqb, ne-eqb}
 use Rattle.numbers.specs.Numbers.{tensOf}
-use Rattle.numbers.proofs.Laws.{passed, promised}
-use Rattle.numbers.proofs.Bounds.{tens-taken}
+use Rattle.numbers.proofs.NumberAnswers.{passed, promised}
+use Rattle.numbers.proofs.NumberBounds.{tens-taken}
 use borrow.Author.Needs.{needs}
 use Rattle.numbers.proofs.tens.Statement.{statement}
 use Rattle.numbers.proofs.tens.Tie as tie

@@ -3,8 +3,8 @@ use lib.ListN.{length}
 use native.Mathlib.Nat.{add-zero}
 use native.Mathlib.Omega.{arith}
 use Rattle.numbers.specs.Numbers.{tensOnesOf}
-use Rattle.numbers.proofs.Laws.{none, found, promised}
-use Rattle.numbers.proofs.Bounds.{tens-ones-taken}
+use Rattle.numbers.proofs.NumberAnswers.{none, found, promised}
+use Rattle.numbers.proofs.NumberBounds.{tens-ones-taken}
 use borrow.Author.Needs.{needs}
 use Rattle.numbers.proofs.tens_ones.Statement.{statement}
 use Rattle.numbers.proofs.tens_ones.Tie as tie

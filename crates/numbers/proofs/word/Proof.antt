@@ -1,6 +1,6 @@
 use native.Mathlib.Omega.{arith}
 use Rattle.numbers.specs.Numbers.{wordOf}
-use Rattle.numbers.proofs.Places.{within-bounds}
+use Rattle.numbers.proofs.LexemeAt.{within-bounds}
 use borrow.Author.Needs.{needs}
 use Rattle.numbers.proofs.word.Statement.{statement}
 use Rattle.numbers.proofs.word.Tie as tie

@@ -1,10 +1,10 @@
 use native.Mathlib.Omega.{arith}
 use lib.ListN.{length}
 use borrow.Author.Tests.{le-leb, lt-leb}
-use Rattle.numbers.proofs.Laws.{found as number-found}
-use Rattle.numbers.proofs.Places.{there}
+use Rattle.numbers.proofs.NumberAnswers.{found as number-found}
+use Rattle.numbers.proofs.LexemeAt.{there}
 use Rattle.dates.specs.Dates.{behindSecondOf}
-use Rattle.dates.proofs.Laws.{number-arm, unread}
+use Rattle.dates.proofs.Parsed.{number-arm, unread}
 use borrow.Author.Needs.{needs}
 use Rattle.dates.proofs.date.behind_second.Statement.{statement}
 use Rattle.dates.proofs.date.behind_second.Tie as tie

@@ -2,8 +2,8 @@ use mathlib.Core.Path.{ap}
 use native.Mathlib.Omega.{arith}
 use Rattle.dates.specs.Parsed.{parsedNumber}
 use Rattle.dates.specs.Dates.{dateOf}
-use Rattle.dates.proofs.Laws.{number-arm, date-arm, kept, found, promised}
-use Rattle.dates.proofs.Bounds.{month-none, date-took}
+use Rattle.dates.proofs.Parsed.{number-arm, date-arm, kept, found, promised}
+use Rattle.dates.proofs.LexemesTaken.{month-none, date-took}
 use borrow.Author.Needs.{needs}
 use Rattle.dates.proofs.date.read_date.Statement.{statement}
 use Rattle.dates.proofs.date.read_date.Tie as tie

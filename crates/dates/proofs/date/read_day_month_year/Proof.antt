@@ -1,10 +1,10 @@
 use mathlib.Core.Path.{ap}
 use native.Mathlib.Omega.{arith}
-use Rattle.numbers.proofs.Laws.{found as number-found}
+use Rattle.numbers.proofs.NumberAnswers.{found as number-found}
 use Rattle.dates.specs.Parsed.{parsedNumber}
 use Rattle.dates.specs.Dates.{dayMonthYearOf}
-use Rattle.dates.proofs.Laws.{number-arm, unread, found}
-use Rattle.dates.proofs.Bounds.{month-none}
+use Rattle.dates.proofs.Parsed.{number-arm, unread, found}
+use Rattle.dates.proofs.LexemesTaken.{month-none}
 use borrow.Author.Needs.{needs}
 use Rattle.dates.proofs.date.read_day_month_year.Statement.{statement}
 use Rattle.dates.proofs.date.read_day_month_year.Tie as tie

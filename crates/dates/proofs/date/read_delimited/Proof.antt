@@ -1,8 +1,8 @@
 use native.Mathlib.Omega.{arith}
-use Rattle.numbers.proofs.Laws.{found as number-found}
+use Rattle.numbers.proofs.NumberAnswers.{found as number-found}
 use Rattle.dates.specs.Dates.{delimitedOf}
-use Rattle.dates.proofs.Laws.{number-arm, unread}
-use Rattle.dates.proofs.Bounds.{delim-there}
+use Rattle.dates.proofs.Parsed.{number-arm, unread}
+use Rattle.dates.proofs.LexemesTaken.{delim-there}
 use borrow.Author.Needs.{needs}
 use Rattle.dates.proofs.date.read_delimited.Statement.{statement}
 use Rattle.dates.proofs.date.read_delimited.Tie as tie

@@ -1,7 +1,7 @@
 use native.Mathlib.Omega.{arith}
-use Rattle.numbers.proofs.Laws.{found as number-found}
+use Rattle.numbers.proofs.NumberAnswers.{found as number-found}
 use Rattle.dates.specs.Dates.{monthDayOf}
-use Rattle.dates.proofs.Laws.{number-arm, unread}
+use Rattle.dates.proofs.Parsed.{number-arm, unread}
 use borrow.Author.Needs.{needs}
 use Rattle.dates.proofs.date.read_month_day.Statement.{statement}
 use Rattle.dates.proofs.date.read_month_day.Tie as tie

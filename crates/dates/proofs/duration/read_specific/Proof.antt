@@ -1,7 +1,7 @@
 use native.Mathlib.Omega.{arith}
 use Rattle.dates.specs.Durations.{specificOf}
-use Rattle.numbers.proofs.Laws.{found}
-use Rattle.dates.proofs.Laws.{number-arm, unread, promised}
+use Rattle.numbers.proofs.NumberAnswers.{found}
+use Rattle.dates.proofs.Parsed.{number-arm, unread, promised}
 use Rattle.dates.proofs.Durations.{specific-took}
 use borrow.Author.Needs.{needs}
 use Rattle.dates.proofs.duration.read_specific.Statement.{statement}

@@ -1,9 +1,9 @@
 use mathlib.Core.Path.{ap}
 use native.Mathlib.Omega.{arith}
-use Rattle.numbers.proofs.Laws.{found as number-found}
+use Rattle.numbers.proofs.NumberAnswers.{found as number-found}
 use Rattle.dates.specs.Parsed.{parsedNumber}
 use Rattle.dates.specs.Times.{clockOf}
-use Rattle.dates.proofs.Laws.{number-arm, unread, found}
+use Rattle.dates.proofs.Parsed.{number-arm, unread, found}
 use borrow.Author.Needs.{needs}
 use Rattle.dates.proofs.time.read_clock.Statement.{statement}
 use Rattle.dates.proofs.time.read_clock.Tie as tie

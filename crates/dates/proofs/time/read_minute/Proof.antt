@@ -1,9 +1,9 @@
 use native.Mathlib.Omega.{arith}
-use Rattle.numbers.proofs.Laws.{found as number-found}
-use Rattle.numbers.proofs.Places.{there}
+use Rattle.numbers.proofs.NumberAnswers.{found as number-found}
+use Rattle.numbers.proofs.LexemeAt.{there}
 use Rattle.dates.specs.Times.{minuteOf}
-use Rattle.dates.proofs.Laws.{promised}
-use Rattle.dates.proofs.Bounds.{minute-took}
+use Rattle.dates.proofs.Parsed.{promised}
+use Rattle.dates.proofs.LexemesTaken.{minute-took}
 use borrow.Author.Needs.{needs}
 use Rattle.dates.proofs.time.read_minute.Statement.{statement}
 use Rattle.dates.proofs.time.read_minute.Tie as tie

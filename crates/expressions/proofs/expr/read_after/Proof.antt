@@ -1,7 +1,7 @@
 use mathlib.Core.Path.{ap}
 use native.Mathlib.Omega.{arith}
 use Rattle.dates.specs.Dates.{parsedDate}
-use Rattle.dates.proofs.Laws.{found}
+use Rattle.dates.proofs.Parsed.{found}
 use borrow.Author.Needs.{needs}
 use Rattle.expressions.proofs.expr.read_after.Statement.{statement}
 use Rattle.expressions.proofs.expr.read_after.Tie as tie

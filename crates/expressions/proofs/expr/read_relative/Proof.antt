@@ -2,9 +2,9 @@ use mathlib.Core.Path.{ap}
 use native.Mathlib.Omega.{arith}
 use Rattle.dates.specs.Units.{parsedSpecifier}
 use Rattle.dates.specs.Parsed.{parsedNumber}
-use Rattle.dates.proofs.Laws.{found, number-arm}
+use Rattle.dates.proofs.Parsed.{found, number-arm}
 use Rattle.expressions.specs.DateExprs.{relativeExprOf}
-use Rattle.expressions.proofs.Own.{weekday-none}
+use Rattle.expressions.proofs.ExprAnswers.{weekday-none}
 use borrow.Author.Needs.{needs}
 use Rattle.expressions.proofs.expr.read_relative.Statement.{statement}
 use Rattle.expressions.proofs.expr.read_relative.Tie as tie

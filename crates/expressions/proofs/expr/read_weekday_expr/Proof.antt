@@ -2,9 +2,9 @@ use native.Mathlib.Nat.{add-zero}
 use mathlib.Core.Path.{ap}
 use native.Mathlib.Omega.{arith}
 use Rattle.dates.specs.Parsed.{parsedNumber}
-use Rattle.dates.proofs.Laws.{found, number-arm}
+use Rattle.dates.proofs.Parsed.{found, number-arm}
 use Rattle.expressions.specs.DateExprs.{weekdayExprOf}
-use Rattle.expressions.proofs.Own.{weekday-none}
+use Rattle.expressions.proofs.ExprAnswers.{weekday-none}
 use borrow.Author.Needs.{needs}
 use Rattle.expressions.proofs.expr.read_weekday_expr.Statement.{statement}
 use Rattle.expressions.proofs.expr.read_weekday_expr.Tie as tie

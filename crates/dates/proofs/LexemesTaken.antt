@@ -10,14 +10,14 @@ use borrow.Author.Tests.{eqb-true}
 use Rattle.lexer.specs.Lexemes as lexeme
 use Rattle.numbers.specs.Slices.{get, isAt, within, oneIf}
 use Rattle.numbers.specs.Numbers.{beginsNumber, numOf}
-use Rattle.numbers.proofs.Places.{one-most, within-bounds, at-most, there}
-use Rattle.numbers.proofs.Bounds.{num-read}
+use Rattle.numbers.proofs.LexemeAt.{one-most, within-bounds, at-most, there}
+use Rattle.numbers.proofs.NumberBounds.{num-read}
 use Rattle.numbers.proofs.Begins.{no-num}
 use Rattle.dates.specs.Parsed.{Parsed, nothing, parsedNumber, Took}
 use Rattle.dates.specs.Units.{isArticle, unitOf, monthOf, weekdayOf, relativeSpecifierOf}
 use Rattle.dates.specs.Dates.{namedDayOf, dayMonthYearOf, monthDayOf, isDelim, behindSecondOf, delimitedOf, dateOf}
 use Rattle.dates.specs.Times.{minuteOf, halfOf, clockOf, timeOf}
-use Rattle.dates.proofs.Laws.{Arm, none, number-took, nothing-took, pick-took, one-took, or-took, then-took, if-let-took}
+use Rattle.dates.proofs.Parsed.{Arm, none, number-took, nothing-took, pick-took, one-took, or-took, then-took, if-let-took}
 
 pub num-took : (l : List ℕ) → Took (parsedNumber (numOf l)) 1 (length l)
 num-took l = number-took (numOf l) (num-read l)

@@ -11,8 +11,8 @@ use Rattle.numbers.specs.Slices.{isAt, oneIf}
 use Rattle.numbers.specs.Answers.{Taken}
 use Rattle.numbers.specs.Numbers.{numTripleOf, numTripleUnitOf, tailOf, unitsOf, numStep, numOf}
 use Rattle.numbers.proofs.Again.{again-is}
-use Rattle.numbers.proofs.Laws.{wider, then-same}
-use Rattle.numbers.proofs.Bounds.{num-triple-taken, num-triple-unit-taken}
+use Rattle.numbers.proofs.NumberAnswers.{wider, then-same}
+use Rattle.numbers.proofs.NumberBounds.{num-triple-taken, num-triple-unit-taken}
 
 module _ (N M : List ℕ → Found) (l : List ℕ) (agree : (m : List ℕ) → length m < length l → N m ≡ M m) where
   tail-agree : (head t : ℕ) → 0 < t → t ≤ length l → tailOf N l head t ≡ tailOf M l head t

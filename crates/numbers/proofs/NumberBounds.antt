@@ -14,9 +14,9 @@ use Rattle.numbers.specs.declared.Found.the-variants.{Is, Nothing, Overf
 use Rattle.numbers.specs.Slices.{get, isAt, oneIf, within}
 use Rattle.numbers.specs.Answers.{MAX, Bounded, Taken, Read, orZero, fitsOf}
 use Rattle.numbers.specs.Numbers.{isEnding, wordOf, literalOf, onesOf, teensOf, tensOf, tensOnesOf, numDoubleOf, sumOf, tailOf, hundredsOf, numTripleOf, numTripleUnitOf, unitsOf, numStep, numOf}
-use Rattle.numbers.proofs.Places.{one-most, within-bounds, at-most, there}
+use Rattle.numbers.proofs.LexemeAt.{one-most, within-bounds, at-most, there}
 use Rattle.numbers.proofs.Again.{again-keeps}
-use Rattle.numbers.proofs.Laws.{nothing, wider, read, pick-bounded, or-bounded, then-bounded}
+use Rattle.numbers.proofs.NumberAnswers.{nothing, wider, read, pick-bounded, or-bounded, then-bounded}
 
 -- 0, which stands for what is past the end, is no ending
 ending-pos : (x : ℕ) → oneIf (isEnding x) ≤ x

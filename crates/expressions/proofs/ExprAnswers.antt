@@ -12,12 +12,12 @@ use Rattle.dates.specs.Parsed.{Parsed, is, nothing, overflow}
 use Rattle.dates.specs.Units.{isArticle, weekdayOf, relativeSpecifierOf}
 use Rattle.dates.specs.Durations.{specificOf, articleOf, concreteOf, durationStep, durationOf}
 use Rattle.dates.proofs.Each.{Each}
-use Rattle.dates.proofs.Laws.{Arm, none}
+use Rattle.dates.proofs.Parsed.{Arm, none}
 use Rattle.expressions.specs.Tree.{DateExpr}
 use Rattle.expressions.specs.DateExprs.{inTailOf, durationTailOf, tailOf, dateExprOf}
 use Rattle.expressions.specs.ExprAnswers.{exprPlace, answerAt, exprAnswer, ExprCounted}
 use Rattle.expressions.specs.declared.expr.ExprTaken.{ExprTaken}
-use Rattle.expressions.proofs.Few.{ExprRead, expr-few}
+use Rattle.expressions.proofs.OwnDuration.{ExprRead, expr-few}
 
 counted : (l : List ℕ) (p : ℕ) (w : Parsed DateExpr) → Each (ExprRead l p) w → ExprCounted (answerAt p w) (length l)
 counted l p (is x t) h = let b = h .bounds in record { bounds = (b .least, b .most, b .within) }

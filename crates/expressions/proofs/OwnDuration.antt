@@ -9,7 +9,7 @@ use lib.ListN.{length, drop, length-drop}
 use lib.Seq.{drop-drop}
 use Rattle.lexer.specs.Lexemes as lexeme
 use Rattle.numbers.specs.Slices.{isAt}
-use Rattle.numbers.proofs.Places.{at-most, there}
+use Rattle.numbers.proofs.LexemeAt.{at-most, there}
 use Rattle.dates.specs.Parsed.{Parsed, is, ifLet, andThen}
 use Rattle.dates.specs.Units.{unitOf, weekdayOf, relativeSpecifierOf}
 use Rattle.dates.specs.Durations.{Duration, into, size, isSubDaily, durationOf}
@@ -17,8 +17,8 @@ use Rattle.dates.specs.Dates.{dateOf}
 use Rattle.dates.specs.declared.date.Date.{Date}
 use Rattle.dates.specs.declared.duration.Parts.{Parts}
 use Rattle.dates.proofs.Each.{Each, let-each, pick-each, if-let-each, then-each}
-use Rattle.dates.proofs.Laws.{found}
-use Rattle.dates.proofs.Bounds.{unit-took, weekday-took, specifier-took, date-took}
+use Rattle.dates.proofs.Parsed.{found}
+use Rattle.dates.proofs.LexemesTaken.{unit-took, weekday-took, specifier-took, date-took}
 use Rattle.dates.proofs.Durations.{duration-bounds, into-n}
 use Rattle.expressions.specs.Tree.{DateExpr, after}
 use Rattle.expressions.specs.DateExprs.{Tail, relative, ago, inside, stray, inTailOf, durationTailOf, tailOf, withDate, withWeekday}
