@@ -12,8 +12,8 @@ use Rattle.numbers.specs.Slices.{isAt}
 use Rattle.numbers.proofs.Again.{again-keeps}
 use Rattle.dates.specs.Parsed.{Parsed, is, nothing, overflow}
 use Rattle.dates.specs.Durations.{Duration}
-use Rattle.dates.proofs.Small.{SmallTime, SmallDuration, Gives, nothing-gives, is-gives, pick-gives, then-gives, if-let-gives}
-use Rattle.dates.proofs.Small.{time-small, duration-small}
+use Rattle.dates.proofs.Each.{Gives, nothing-gives, is-gives, pick-gives, then-gives, if-let-gives}
+use Rattle.dates.proofs.Small.{SmallTime, SmallDuration, time-small, duration-small}
 use Rattle.expressions.proofs.Small.{SmallExpr, expr-small}
 use Rattle.phrase.specs.Tree.{DateTime, dateTime, timeDate, durationAfter, durationBefore, now, around}
 use Rattle.phrase.specs.DateTimes.{Turn, whole, ago, link, timeBehindOf, withDurationOf, timedTurnOf, undatedTurnOf, turnOf}
@@ -83,7 +83,7 @@ codes-small (is x t) count starts n h = go (ltb t count)
   where
     go : (b : Bool) → SmallRead (cond b (refusal table.LeftOver (getD starts t 0) n) (tree x t))
     go true = tt
-    go false = h .holds
+    go false = h .bounds
 codes-small nothing count starts n h = tt
 codes-small overflow count starts n h = tt
 
