@@ -11,7 +11,7 @@ use Rattle.lexer.specs.Lexemes as lexeme
 use Rattle.numbers.specs.Slices.{get, isAt, within, oneIf}
 use Rattle.numbers.specs.Numbers.{beginsNumber, numOf}
 use Rattle.numbers.proofs.LexemeAt.{one-most, within-bounds, at-most, there}
-use Rattle.numbers.proofs.NumberBounds.{num-read}
+use Rattle.numbers.proofs.NumberBounds.{first, num-read}
 use Rattle.numbers.proofs.Begins.{no-num}
 use Rattle.dates.specs.Parsed.{Parsed, nothing, parsedNumber, Took}
 use Rattle.dates.specs.Units.{isArticle, unitOf, monthOf, weekdayOf, relativeSpecifierOf}
@@ -21,12 +21,6 @@ use Rattle.dates.proofs.Parsed.{Arm, none, number-took, nothing-took, p
 
 pub num-took : (l : List ℕ) → Took (parsedNumber (numOf l)) 1 (length l)
 num-took l = number-took (numOf l) (num-read l)
-
--- a lexeme, which is not 0, is there
-first : (l : List ℕ) → 0 < get l 0 → 0 < length l
-unfolding get
-first [] h = h
-first (x ∷ xs) h = omega arith
 
 -- a test for a lexeme that held
 seen : (l : List ℕ) (x : ℕ) → 0 < x → eqb (get l 0) x ≡ true → 0 < length l

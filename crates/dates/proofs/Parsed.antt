@@ -2,13 +2,13 @@
 use mathlib.Core.Path.{_≡_, refl}
 use mathlib.Core.Bool.{Bool, true, false}
 use mathlib.Core.List.{List, [], _∷_}
-use mathlib.Core.Logic.{⊎-elim}
 use Prim.Native.Nat.{ℕ, _≤_, _<_}
 use native.Mathlib.Omega.{arith}
 use types.Run.{OneOf}
 use denote.Enum.Declared.{tagOf}
 use borrow.Author.Tests.{eqb-false}
 use Rattle.numbers.proofs.Found.{the-type as number-type}
+use Rattle.numbers.proofs.NumberAnswers.{neither}
 use Rattle.numbers.specs.declared.Found.{Found}
 use Rattle.numbers.specs.declared.Found.the-variants.{Is, Nothing, Overflow}
 use Rattle.numbers.specs.Answers.{Read}
@@ -40,10 +40,6 @@ module _ {ks : List ℕ} where
   date-arm (IsDate d t) k = record { tags = k }
   date-arm NoDate k = record { tags = k }
   date-arm DateOverflow k = record { tags = k }
-
--- a number is none of two others
-pub neither : (a b c : ℕ) {A : Type 0} → (a ≡ b → ⊥) → (a ≡ c → ⊥) → OneOf (b ∷ c ∷ []) a → A
-neither a b c p q k = ⊎-elim (λ e. absurd (p e)) (λ e. absurd (q e)) k
 
 module _ {A : Type 0} where
   -- not nothing: the first alternative stays

@@ -1,6 +1,5 @@
 -- `enum Duration` and its parsers. The code keeps a duration as the row of its parts.
 use Prim.Native.Nat.{ℕ, suc, _+_, _≤_}
-use mathlib.Core.Path.{_≡_}
 use mathlib.Core.Bool.{Bool, true, false, _||_}
 use mathlib.Core.List.{List}
 use lib.ListN.{drop, set}

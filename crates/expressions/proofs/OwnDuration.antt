@@ -3,13 +3,13 @@ use Prim.Native.Nat.{ℕ, _+_, _*_, _≤_, _<_}
 use native.Mathlib.Omega.{arith}
 use native.Mathlib.Nat.{add-zero}
 use mathlib.Core.Path.{_≡_, refl}
-use mathlib.Core.Bool.{Bool, true, false, _&&_, not}
+use mathlib.Core.Bool.{true, _&&_, not}
 use mathlib.Core.List.{List, [], _∷_}
 use lib.ListN.{length, drop, length-drop}
 use lib.Seq.{drop-drop}
 use Rattle.lexer.specs.Lexemes as lexeme
 use Rattle.numbers.specs.Slices.{isAt}
-use Rattle.numbers.proofs.LexemeAt.{at-most, there}
+use Rattle.numbers.proofs.LexemeAt.{both, at-most, there}
 use Rattle.dates.specs.Parsed.{Parsed, is, ifLet, andThen}
 use Rattle.dates.specs.Units.{unitOf, weekdayOf, relativeSpecifierOf}
 use Rattle.dates.specs.Durations.{Duration, into, size, isSubDaily, durationOf}
@@ -82,17 +82,13 @@ in-tail-read l =
     (record { bounds = bare (omega arith) (omega arith) }))
     (λ e. record { bounds = tt })
 
-both : (p q : Bool) → p && q ≡ true → p ≡ true
-both true q e = refl
-both false q e = e
-
 duration-tail-read : (l : List ℕ) → Each (TailRead l) (durationTailOf l)
 unfolding durationTailOf
 duration-tail-read l =
     if-let-each (durationOf l) _ _
     (λ dur t e. let s = duration-bounds l e in
     pick-each (isAt l t lexeme.Ago && not (isSubDaily dur))
-    (λ f. let some = there (at-most l t lexeme.Ago) (both (isAt l t lexeme.Ago) _ f) in
+    (λ f. let some = there (at-most l t lexeme.Ago) (both (isAt l t lexeme.Ago) _ f .0) in
     record { bounds = held l 0 (t + 1) e (omega arith) (omega arith) (omega arith) })
     (λ f. record { bounds = bare (omega arith) (omega arith) }))
     (in-tail-read l)

@@ -10,7 +10,7 @@ use borrow.Author.Tests.{leb-true, ltb-true}
 use Rattle.numbers.specs.Slices.{isAt, oneIf, within}
 
 -- both parts of an `and`
-both : (p q : Bool) → p && q ≡ true → (p ≡ true) × (q ≡ true)
+pub both : (p q : Bool) → p && q ≡ true → (p ≡ true) × (q ≡ true)
 both true q e = (refl, e)
 both false true e = (e, refl)
 both false false e = (e, e)

@@ -19,7 +19,7 @@ abbrev pub Tag : List ℕ → Found → Type 0
 Tag ks w = OneOf ks (tagOf the-type w)
 
 -- a number is none of two others
-neither : (a b c : ℕ) {A : Type 0} → (a ≡ b → ⊥) → (a ≡ c → ⊥) → OneOf (b ∷ c ∷ []) a → A
+pub neither : (a b c : ℕ) {A : Type 0} → (a ≡ b → ⊥) → (a ≡ c → ⊥) → OneOf (b ∷ c ∷ []) a → A
 neither a b c p q k = ⊎-elim (λ e. absurd (p e)) (λ e. absurd (q e)) k
 
 -- not `Nothing`: the first alternative stays
@@ -58,15 +58,6 @@ read′ Overflow k hi n e h = record { bounds = tt }
 -- what never overflows is a number
 pub read : {w : Found} {k hi n : ℕ} → hi ≤ MAX → Taken w k hi n → Read w k n
 read {w} {k} {hi} {n} e h = read′ w k hi n e h
-
-stopped′ : (w : Found) (k hi n : ℕ) → Tag (1 ∷ 2 ∷ []) w → Bounded Unit w k hi n
-stopped′ (Is v t) k hi n g = neither 0 1 2 (eqb-false 0 1 refl) (eqb-false 0 2 refl) g
-stopped′ Nothing k hi n g = record { bounds = tt }
-stopped′ Overflow k hi n g = record { bounds = tt }
-
--- not `Is`: it has all bounds, where it may overflow
-pub stopped : {w : Found} {k hi n : ℕ} → Tag (1 ∷ 2 ∷ []) w → Bounded Unit w k hi n
-stopped {w} {k} {hi} {n} g = stopped′ w k hi n g
 
 module _ {overflow : Type 0} where
   -- what is known of the value and the count, once the answer is known

@@ -36,7 +36,7 @@ ending-most (x ∷ []) = omega arith
 ending-most (x ∷ y ∷ ys) = let h = one-most (isEnding (get (x ∷ y ∷ ys) 1)) in omega arith
 
 -- a lexeme, which is no 0, is there
-first : (l : List ℕ) → 0 < get l 0 → 0 < length l
+pub first : (l : List ℕ) → 0 < get l 0 → 0 < length l
 unfolding get
 first [] h = h
 first (x ∷ xs) h = omega arith

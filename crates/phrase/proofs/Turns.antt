@@ -11,6 +11,7 @@ use denote.Enum.Declared.{tagOf}
 use Rattle.lexer.specs.Lexemes as lexeme
 use Rattle.numbers.specs.Slices.{isAt, oneIf}
 use Rattle.numbers.proofs.Again.{again-is}
+use Rattle.numbers.proofs.NumberAnswers.{neither}
 use Rattle.dates.specs.Parsed.{Parsed, is, nothing, overflow, ifLet, andThen, stopped}
 use Rattle.dates.specs.Durations.{Duration}
 use Rattle.dates.specs.Times.{timeOf, parsedTime}
@@ -20,7 +21,7 @@ use Rattle.dates.specs.declared.time.TimeFound.{TimeFound}
 use Rattle.dates.specs.declared.time.TimeFound.the-variants.{Is as IsTime, Nothing as NoTime, Overflow as TimeOverflow}
 use Rattle.dates.proofs.time.TimeFound.{the-type as time-type}
 use borrow.Author.Tests.{eqb-false, lt-ltb, le-ltb}
-use Rattle.dates.proofs.Parsed.{Arm, neither, unread, dropped}
+use Rattle.dates.proofs.Parsed.{Arm, unread, dropped}
 use Rattle.expressions.specs.Tree.{DateExpr, empty}
 use Rattle.expressions.specs.DateExprs.{dateExprOf}
 use Rattle.expressions.specs.Shapes.{shape}
