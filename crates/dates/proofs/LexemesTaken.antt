@@ -1,5 +1,5 @@
 -- The bounds of each reader: how many lexemes it takes.
-use mathlib.Core.Path.{_≡_, refl, _∙_}
+use mathlib.Core.Path.{_≡_, refl}
 use mathlib.Core.Bool.{Bool, true}
 use mathlib.Core.List.{List, [], _∷_}
 use Prim.Native.Nat.{ℕ, zero, suc, _+_, _≤_, _<_}
@@ -13,11 +13,11 @@ use Rattle.numbers.specs.Numbers.{beginsNumber, numOf}
 use Rattle.numbers.proofs.LexemeAt.{one-most, within-bounds, at-most, there}
 use Rattle.numbers.proofs.NumberBounds.{first, num-read}
 use Rattle.numbers.proofs.Begins.{no-num}
-use Rattle.dates.specs.Parsed.{Parsed, nothing, parsedNumber, Took}
+use Rattle.dates.specs.Parsed.{nothing, parsedNumber, Took}
 use Rattle.dates.specs.Units.{isArticle, unitOf, monthOf, weekdayOf, relativeSpecifierOf}
 use Rattle.dates.specs.Dates.{namedDayOf, dayMonthYearOf, monthDayOf, isDelim, behindSecondOf, delimitedOf, dateOf}
 use Rattle.dates.specs.Times.{minuteOf, halfOf, clockOf, timeOf}
-use Rattle.dates.proofs.Parsed.{Arm, none, number-took, nothing-took, pick-took, one-took, or-took, then-took, if-let-took}
+use Rattle.dates.proofs.Parsed.{number-took, nothing-took, pick-took, one-took, or-took, then-took, if-let-took}
 
 pub num-took : (l : List ℕ) → Took (parsedNumber (numOf l)) 1 (length l)
 num-took l = number-took (numOf l) (num-read l)
@@ -113,11 +113,6 @@ pub time-none : (l : List ℕ) → length l ≡ 0 → timeOf l ≡ nothing
 unfolding get isAt within beginsNumber clockOf timeOf
 time-none [] h = rw (no-num [] refl)
 time-none (x ∷ xs) h = absurd (omega arith)
-
--- a month is never an overflow
-pub month-none : (l : List ℕ) {p : Parsed ℕ} → p ≡ monthOf l → Arm (1 ∷ 2 ∷ []) p → p ≡ nothing
-unfolding monthOf
-month-none l e k = e ∙ none (within lexeme.January (get l 0) lexeme.December) _ _ (rw e at k)
 
 named-day-took : (l : List ℕ) → Took (namedDayOf l) 1 (length l)
 unfolding namedDayOf

@@ -7,10 +7,10 @@ use native.Mathlib.Omega.{arith}
 use types.Run.{OneOf}
 use denote.Enum.Declared.{tagOf}
 use borrow.Author.Tests.{eqb-false}
-use Rattle.numbers.proofs.Found.{the-type as number-type}
+use Rattle.numbers.proofs.NumberFound.{the-type as number-type}
 use Rattle.numbers.proofs.NumberAnswers.{neither}
-use Rattle.numbers.specs.declared.Found.{Found}
-use Rattle.numbers.specs.declared.Found.the-variants.{Is, Nothing, Overflow}
+use Rattle.numbers.specs.declared.NumberFound.{NumberFound}
+use Rattle.numbers.specs.declared.NumberFound.the-variants.{Is, Nothing, Overflow}
 use Rattle.numbers.specs.Answers.{Read}
 use Rattle.dates.specs.Parsed.{Parsed, is, nothing, overflow, pick, orElse, ifLet, andThen, stopped, parsedNumber, Took}
 use Rattle.dates.proofs.date.DateFound.{the-type as date-type}
@@ -30,8 +30,8 @@ pub record Arm {A : Type 0} (ks : List ℕ) (p : Parsed A) : Type 0 where
 
 module _ {ks : List ℕ} where
   -- the arm of a number reader's answer
-  pub number-arm : (w : Found) → OneOf ks (tagOf number-type w) → Arm ks (parsedNumber w)
-  number-arm (Is v t) k = record { tags = k }
+  pub number-arm : (w : NumberFound) → OneOf ks (tagOf number-type w) → Arm ks (parsedNumber w)
+  number-arm (Is a) k = record { tags = k }
   number-arm Nothing k = record { tags = k }
   number-arm Overflow k = record { tags = k }
 
@@ -62,11 +62,6 @@ module _ {A : Type 0} where
   -- no overflow: where it stops, nothing is left to say
   pub dropped : {B : Type 0} {p : Parsed A} → Arm (0 ∷ 1 ∷ []) p → stopped {B = B} p ≡ nothing
   dropped {B} {p} k = dropped′ p k
-
-  -- not found, of a test that never overflows
-  pub none : (b : Bool) (v : A) (t : ℕ) → Arm (1 ∷ 2 ∷ []) (pick b (is v t) nothing) → pick b (is v t) nothing ≡ nothing
-  none true v t k = neither 0 1 2 (eqb-false 0 1 refl) (eqb-false 0 2 refl) (k .tags)
-  none false v t k = refl
 
   -- the lexemes taken, once the answer is known
   pub found : {p : Parsed A} {v : A} {t k n : ℕ} → p ≡ is v t → Took p k n → (k ≤ t) × (t ≤ n)
@@ -110,7 +105,7 @@ module _ {A : Type 0} where
   if-let-took overflow f b g h z = record { bounds = tt }
 
 -- the bounds of a number reader
-pub number-took : (w : Found) {k n : ℕ} → Read w k n → Took (parsedNumber w) k n
-number-took (Is v t) h = record { bounds = let b = h .bounds in omega arith }
+pub number-took : (w : NumberFound) {k n : ℕ} → Read w k n → Took (parsedNumber w) k n
+number-took (Is a) h = record { bounds = let b = h .bounds in omega arith }
 number-took Nothing h = nothing-took
 number-took Overflow h = record { bounds = tt }

@@ -10,8 +10,8 @@ use Rattle.lexer.specs.Lexemes as lexeme
 use Rattle.numbers.specs.Slices.{get, isAt, within}
 use Rattle.numbers.specs.Numbers.{numOf}
 use Rattle.numbers.specs.Answers.{Read}
-use Rattle.numbers.specs.declared.Found.{Found}
-use Rattle.numbers.specs.declared.Found.the-variants as number
+use Rattle.numbers.specs.declared.NumberFound.{NumberFound}
+use Rattle.numbers.specs.declared.NumberFound.the-variants as number
 use Rattle.numbers.proofs.Again.{again-keeps}
 use Rattle.numbers.proofs.NumberBounds.{num-read}
 use Rattle.numbers.proofs.LexemeAt.{within-bounds}
@@ -64,8 +64,8 @@ abbrev pub SmallDuration : Duration → Type 0
 SmallDuration (part p) = SmallPart p
 SmallDuration (concat p d) = SmallPart p × SmallDuration d
 
-small-number : (w : Found) (k n : ℕ) → Read w k n → Gives Small (parsedNumber w)
-small-number (number.Is v t) k n h = is-gives (let b = h .bounds in omega arith)
+small-number : (w : NumberFound) (k n : ℕ) → Read w k n → Gives Small (parsedNumber w)
+small-number (number.Is a) k n h = is-gives (let b = h .bounds in omega arith)
 small-number number.Nothing k n h = nothing-gives
 small-number number.Overflow k n h = record { bounds = tt }
 

@@ -1,18 +1,16 @@
--- The code's answers are those of the definitions, and the duration of a date expression stands at the place that they say.
+-- The code's answer for a date expression has the bounds that it promises, and behind the last lexeme no tail is read.
 use Prim.Native.Nat.{ℕ, _≤_}
-use mathlib.Core.Path.{_≡_, refl, _∙_}
-use mathlib.Core.List.{List, [], _∷_}
+use mathlib.Core.Path.{_≡_, refl}
+use mathlib.Core.List.{List, []}
 use lib.ListN.{length, drop, drop-of-length-le}
-use Rattle.lexer.specs.Lexemes as lexeme
 use Rattle.numbers.specs.Slices.{get, within, isAt}
 use Rattle.numbers.specs.Again.{turns, again}
 use Rattle.numbers.specs.Numbers.{beginsNumber}
 use Rattle.numbers.proofs.Begins.{no-num}
 use Rattle.dates.specs.Parsed.{Parsed, is, nothing, overflow}
-use Rattle.dates.specs.Units.{isArticle, weekdayOf, relativeSpecifierOf}
+use Rattle.dates.specs.Units.{isArticle, relativeSpecifierOf}
 use Rattle.dates.specs.Durations.{specificOf, articleOf, concreteOf, durationStep, durationOf}
 use Rattle.dates.proofs.Each.{Each}
-use Rattle.dates.proofs.Parsed.{Arm, none}
 use Rattle.expressions.specs.Tree.{DateExpr}
 use Rattle.expressions.specs.DateExprs.{inTailOf, durationTailOf, tailOf, dateExprOf}
 use Rattle.expressions.specs.ExprAnswers.{exprPlace, answerAt, exprAnswer, ExprCounted}
@@ -34,8 +32,3 @@ pub tail-none : (l : List ℕ) (t : ℕ) → length l ≤ t → tailOf (drop t l
 unfolding get isAt within beginsNumber isArticle relativeSpecifierOf specificOf articleOf concreteOf turns again durationStep durationOf
     inTailOf durationTailOf tailOf
 tail-none l t h = rw (drop-of-length-le l h, no-num [] refl)
-
--- a weekday is never an overflow
-pub weekday-none : (l : List ℕ) {p : Parsed ℕ} → p ≡ weekdayOf l → Arm (1 ∷ 2 ∷ []) p → p ≡ nothing
-unfolding weekdayOf
-weekday-none l e k = e ∙ none (within lexeme.Monday (get l 0) lexeme.Sunday) _ _ (rw e at k)

@@ -8,6 +8,7 @@ use dates::units::RelativeSpecifier;
 use dates::units::SpecifierFound;
 use dates::units::Unit;
 use dates::units::UnitFound;
+use dates::units::WeekdayFound;
 use dates::units::read_specifier;
 use dates::units::read_unit;
 use dates::units::read_weekday;
@@ -15,7 +16,6 @@ use lexer::lexeme::AFTER;
 use lexer::lexeme::AGO;
 use lexer::lexeme::FROM;
 use lexer::lexeme::IN;
-use numbers::Found;
 use numbers::slices::is_at;
 use numbers::slices::rest;
 ghost use mathlib.Core.Path.{_≡_};
@@ -52,7 +52,7 @@ enum Head {
     Weekday(u32),
 }
 
-// A date expression, the lexemes taken, and the place of the first lexeme of its duration, 0 where it has none.
+// A date expression, the lexemes taken, and the place of the first lexeme of its duration, 0 where it has none; `Overflow` is refusal 6.
 pub enum ExprTaken {
     Is(Expr, usize, usize),
     Nothing,
@@ -224,23 +224,23 @@ fn read_relative(l: &[u64]) -> ExprTaken
         return ExprTaken::Nothing;
     };
     let after = rest(l, 1);
-    let Found::Is(w, u) = read_weekday(after) else {
+    let WeekdayFound::Is(w) = read_weekday(after) else {
         let UnitFound::Is(unit) = read_unit(after) else {
             return ExprTaken::Nothing;
         };
         return ExprTaken::Is(Expr::UnitRelative(spec, unit), 2, 0);
     };
-    ExprTaken::Is(Expr::RelativeWeekday(spec, w), 1 + u, 0)
+    ExprTaken::Is(Expr::RelativeWeekday(spec, w), 2, 0)
 }
 
 // A weekday and its tail, or a relative specifier.
 fn read_weekday_expr(l: &[u64]) -> ExprTaken
     ensures { λ r. ⌜ r ≡ answerAt (weekdayPlace (now (l .entry))) (weekdayExprOf (now (l .entry))) ⌝ }
 {
-    let Found::Is(w, t) = read_weekday(l) else {
+    let WeekdayFound::Is(w) = read_weekday(l) else {
         return read_relative(l);
     };
-    read_tail(l, Head::Weekday(w), t)
+    read_tail(l, Head::Weekday(w), 1)
 }
 
 // A duration and what stands behind it, or what begins with a weekday or a relative specifier.

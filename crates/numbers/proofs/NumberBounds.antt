@@ -9,10 +9,10 @@ use lib.Dec.{leb, eqb}
 use lib.ListN.{length, drop, length-drop}
 use borrow.Author.Tests.{leb-true, le-leb}
 use Rattle.lexer.specs.Lexemes.{TH, Dash, And, Hundred, Thousand, Million, Billion, NUM}
-use Rattle.numbers.specs.declared.Found.{Found}
-use Rattle.numbers.specs.declared.Found.the-variants.{Is, Nothing, Overflow}
+use Rattle.numbers.specs.declared.NumberFound.{NumberFound}
+use Rattle.numbers.specs.declared.NumberFound.the-variants.{Is, Nothing, Overflow}
 use Rattle.numbers.specs.Slices.{get, isAt, oneIf, within}
-use Rattle.numbers.specs.Answers.{MAX, Bounded, Taken, Read, orZero, fitsOf}
+use Rattle.numbers.specs.Answers.{MAX, Bounded, Taken, Read, number, orZero, fitsOf}
 use Rattle.numbers.specs.Numbers.{isEnding, wordOf, literalOf, onesOf, teensOf, tensOf, tensOnesOf, numDoubleOf, sumOf, tailOf, hundredsOf, numTripleOf, numTripleUnitOf, unitsOf, numStep, numOf}
 use Rattle.numbers.proofs.LexemeAt.{one-most, within-bounds, at-most, there}
 use Rattle.numbers.proofs.Again.{again-keeps}
@@ -82,21 +82,22 @@ pub tens-taken : (l : List ℕ) → Taken (tensOf l) 1 90 (length l)
 unfolding tensOf
 tens-taken l =
     then-bounded _ _ (word-taken l 20 90 _ (omega arith) (at-most l 1 TH) (omega arith))
-    (λ n t a b d. pick-bounded (eqb (n % 10) 0) _ _ (λ e. record { bounds = omega arith }) (λ e. nothing))
+    (λ a b d e. pick-bounded (eqb (a .value % 10) 0) _ _ (λ f. record { bounds = omega arith }) (λ f. nothing))
 
 -- ones that may be missing
-zero-taken : (w : Found) {k hi n : ℕ} → Taken w k hi n → Taken (orZero w) 0 hi n
-zero-taken (Is v t) h = record { bounds = let b = h .bounds in omega arith }
+zero-taken : (w : NumberFound) {k hi n : ℕ} → Taken w k hi n → Taken (orZero w) 0 hi n
+zero-taken (Is a) h = record { bounds = let b = h .bounds in omega arith }
 zero-taken Nothing h = record { bounds = omega arith }
 zero-taken Overflow h = record { bounds = h .bounds }
 
 pub tens-ones-taken : (l : List ℕ) → Taken (tensOnesOf l) 1 99 (length l)
 unfolding tensOnesOf
 tens-ones-taken l =
-    then-bounded _ _ (tens-taken l) (λ n t a b d.
-    let room = at-most l t Dash in
-    then-bounded _ _ (zero-taken _ (ones-taken (drop (t + oneIf (isAt l t Dash)) l))) (λ m u e f g.
-    record { bounds = let h = length-drop (t + oneIf (isAt l t Dash)) l in omega arith }))
+    then-bounded _ _ (tens-taken l) (λ tens a b d.
+    let room = at-most l (tens .taken) Dash in
+    let tokens = tens .taken + oneIf (isAt l (tens .taken) Dash) in
+    then-bounded _ _ (zero-taken _ (ones-taken (drop tokens l))) (λ ones e f g.
+    record { bounds = let h = length-drop tokens l in omega arith }))
 
 pub num-double-taken : (l : List ℕ) → Taken (numDoubleOf l) 1 99 (length l)
 unfolding numDoubleOf
@@ -122,18 +123,18 @@ fits-read v t n h =
 module _ {overflow : Type 0} {hi hi′ : ℕ} (head n : ℕ)
     (tested : (v t : ℕ) → v ≤ head + hi → 0 < t → t ≤ n → Bounded overflow (fitsOf v t) 1 hi′ n) where
   -- a head and the number behind it
-  sum-bounded : (required : Bool) (tokens m : ℕ) (w : Found) → 0 < tokens → tokens + m ≤ n
+  sum-bounded : (required : Bool) (tokens m : ℕ) (w : NumberFound) → 0 < tokens → tokens + m ≤ n
       → Bounded overflow w 1 hi m → Bounded overflow (sumOf required head tokens w) 1 hi′ n
   unfolding sumOf
-  sum-bounded required tokens m (Is v t) p q h =
+  sum-bounded required tokens m (Is a) p q h =
       let b = h .bounds in
-      tested (head + v) (tokens + t) (omega arith) (omega arith) (omega arith)
+      tested (head + a .value) (tokens + a .taken) (omega arith) (omega arith) (omega arith)
   sum-bounded required tokens m Nothing p q h =
       pick-bounded required _ _ (λ e. nothing) (λ e. tested head tokens (omega arith) (omega arith) (omega arith))
   sum-bounded required tokens m Overflow p q h = record { bounds = h .bounds }
 
 -- a tail takes no more than there is, and its sum is what the test says
-tail-bounded : {overflow : Type 0} {hi hi′ : ℕ} (N : List ℕ → Found) (l : List ℕ) (head t : ℕ)
+tail-bounded : {overflow : Type 0} {hi hi′ : ℕ} (N : List ℕ → NumberFound) (l : List ℕ) (head t : ℕ)
     → ((v s : ℕ) → v ≤ head + hi → 0 < s → s ≤ length l → Bounded overflow (fitsOf v s) 1 hi′ (length l))
     → ((m : List ℕ) → Bounded overflow (N m) 1 hi (length m)) → 0 < t → t ≤ length l
     → Bounded overflow (tailOf N l head t) 1 hi′ (length l)
@@ -145,13 +146,13 @@ tail-bounded N l head t tested bounded p q =
     sum-bounded head (length l) tested (isAt l t And) tokens (length (drop tokens l)) _
     (omega arith) (omega arith) (bounded (drop tokens l))
 
-pub hundreds-taken : (l : List ℕ) (ones : Found) → Taken ones 0 9 (length l) → Taken (hundredsOf l ones) 1 999 (length l)
+pub hundreds-taken : (l : List ℕ) (ones : NumberFound) → Taken ones 0 9 (length l) → Taken (hundredsOf l ones) 1 999 (length l)
 unfolding hundredsOf
 hundreds-taken l ones h =
-    then-bounded _ _ h (λ v t a b d.
-    pick-bounded (isAt l t Hundred) _ _
-    (λ e. let room = there (at-most l t Hundred) e in
-    tail-bounded numDoubleOf l (v * 100) (t + 1)
+    then-bounded _ _ h (λ ones a b d.
+    pick-bounded (isAt l (ones .taken) Hundred) _ _
+    (λ e. let room = there (at-most l (ones .taken) Hundred) e in
+    tail-bounded numDoubleOf l (ones .value * 100) (ones .taken + 1)
     (λ s u f g i. fits-taken s u 999 (length l) (omega arith))
     num-double-taken (omega arith) (omega arith))
     (λ e. nothing))
@@ -160,7 +161,7 @@ pub num-triple-taken : (l : List ℕ) → Taken (numTripleOf l) 1 999 (length l)
 unfolding numTripleOf
 num-triple-taken l =
     or-bounded _ _ (hundreds-taken l (onesOf l) (wider (omega arith) (ones-taken l)))
-    (or-bounded _ _ (hundreds-taken l (Is 1 0) (record { bounds = omega arith }))
+    (or-bounded _ _ (hundreds-taken l (number 1 0) (record { bounds = omega arith }))
     (or-bounded _ _ (wider (omega arith) (num-double-taken l))
     (literal-taken l 100 999 _ (omega arith) (ending-most l))))
 
@@ -175,14 +176,14 @@ num-triple-unit-taken l =
 pub product : {v m : ℕ} → v ≤ 999 → m ≤ 1000000000 → v * m ≤ 999000000000
 product a b = mul-le-mul a b
 
-module _ (N : List ℕ → Found) (reads : (l : List ℕ) → Read (N l) 1 (length l)) (l : List ℕ) where
-  pub units-read : (triple : Found) → Taken triple 0 999 (length l) → Read (unitsOf N l triple) 1 (length l)
+module _ (N : List ℕ → NumberFound) (reads : (l : List ℕ) → Read (N l) 1 (length l)) (l : List ℕ) where
+  pub units-read : (triple : NumberFound) → Taken triple 0 999 (length l) → Read (unitsOf N l triple) 1 (length l)
   unfolding unitsOf
   units-read triple h =
-      then-bounded _ _ h (λ v t a b d.
-      then-bounded _ _ (num-triple-unit-taken (drop t l)) (λ unit u e f g.
-      let left = length-drop t l in
-      tail-bounded N l (v * unit) (t + u)
+      then-bounded _ _ h (λ triple a b d.
+      then-bounded _ _ (num-triple-unit-taken (drop (triple .taken) l)) (λ unit e f g.
+      let left = length-drop (triple .taken) l in
+      tail-bounded N l (triple .value * unit .value) (triple .taken + unit .taken)
       (λ s i x y z. fits-read s i (length l) (omega arith))
       reads (omega arith) (omega arith)))
 
@@ -190,7 +191,7 @@ module _ (N : List ℕ → Found) (reads : (l : List ℕ) → Read (N l) 1 (leng
   unfolding numStep
   step-read =
       or-bounded _ _ (units-read (numTripleOf l) (wider (omega arith) (num-triple-taken l)))
-      (or-bounded _ _ (units-read (Is 1 0) (record { bounds = omega arith }))
+      (or-bounded _ _ (units-read (number 1 0) (record { bounds = omega arith }))
       (or-bounded _ _ (read (omega arith) (num-triple-taken l))
       (read (omega arith) (literal-taken l 1000 MAX 1 (omega arith) (omega arith)))))
 

@@ -21,7 +21,8 @@ pub data ReadPhrase : Type 0 where
   refusal : ℕ → ℕ → ℕ → ReadPhrase
   tree : DateTime → ℕ → ReadPhrase
 
--- 5 and 6 have place 0 and no part; 7 has the place of the first of the count lexemes that is left, and its part goes on to the end at n
+-- nothing is 5 and an overflow 6, with place 0 and no part; 7 has the place of the first of the count lexemes that is left, and its part
+-- goes on to the end at n
 abbrev pub readCodes : Parsed DateTime → ℕ → List ℕ → ℕ → ReadPhrase
 readCodes (is x t) count starts n = cond (ltb t count) (refusal table.LeftOver (getD starts t 0) n) (tree x t)
 readCodes nothing count starts n = refusal table.Nothing 0 0

@@ -35,6 +35,7 @@ ghost use Rattle.phrase.specs.Outlines.{turnAnswer, outline, outlineAnsw
 
 // One turn, with the lexemes taken: a whole reading, with its base, its time and the place of the base's own duration;
 // a duration before now; or a link, behind which a datetime is read again. The duration of `Ago` and `Link` stands in front.
+// `Overflow` is refusal 6.
 pub enum TurnTaken {
     Whole(Base, Time, usize, usize),
     Ago(usize),
@@ -43,7 +44,7 @@ pub enum TurnTaken {
     Overflow,
 }
 
-// The lexemes that a reading takes.
+// The lexemes that a reading takes; `Overflow` is refusal 6.
 pub enum Count {
     Is(usize),
     Nothing,
