@@ -21,9 +21,9 @@ use numbers::slices::rest;
 ghost use mathlib.Core.Path.{_≡_};
 ghost use Prim.Native.Nat.{ℕ, _+_, _≤_};
 ghost use lib.ListN.{length, drop};
-ghost use Rattle.dates.specs.Parsed.{is, andThen};
+ghost use Rattle.dates.specs.Parsed.{is, andThen, stopped};
 ghost use Rattle.dates.specs.Durations.{Duration, isSubDaily};
-ghost use Rattle.dates.specs.Dates.{dateOf};
+ghost use Rattle.dates.specs.Dates.{dateOf, parsedDate};
 ghost use Rattle.expressions.specs.Tree.{after};
 ghost use Rattle.expressions.specs.DateExprs.{relative, ago, inside, stray, inTailOf, durationTailOf, tailOf, withDurationOf};
 ghost use Rattle.expressions.specs.DateExprs.{relativeExprOf, weekdayExprOf, undatedOf, dateExprOf};
@@ -184,16 +184,26 @@ fn read_tail(l: &[u64], h: Head, t: usize) -> ExprTaken
     relative(h, spec, unit, t + 2)
 }
 
+// Where no date is found: nothing, or the overflow.
+fn expr_stopped(a: DateFound) -> ExprTaken
+    ensures { λ r. ⌜ r ≡ answerAt 0 (stopped (parsedDate a)) ⌝ }
+{
+    let DateFound::Overflow = a else {
+        return ExprTaken::Nothing;
+    };
+    ExprTaken::Overflow
+}
+
 // after <date> | from <date>: the date behind a duration and its connection, which end at t
 fn read_after(l: &[u64], t: usize) -> ExprTaken
     requires { ⌜ t ≤ length (now l) ⌝ }
     ensures { λ r. ⌜ ((dur : Duration) → r ≡ answerAt 0 (andThen (dateOf (drop t (now (l .entry)))) (λ d u. is (after dur d) (t + u)))) ⌝ }
 {
-    match read_date(rest(l, t)) {
-        DateFound::Is(d, u) => ExprTaken::Is(Expr::After(d), t + u, 0),
-        DateFound::Nothing => ExprTaken::Nothing,
-        DateFound::Overflow => ExprTaken::Overflow,
-    }
+    let a = read_date(rest(l, t));
+    let DateFound::Is(d, u) = a else {
+        return expr_stopped(a);
+    };
+    ExprTaken::Is(Expr::After(d), t + u, 0)
 }
 
 // What stands behind a duration of t lexemes; a sub-daily one is given up.
