@@ -8,7 +8,7 @@ use Rattle.digits.specs.Forms.{ofForm}
 use Rattle.calendar.specs.Moments.{IsMoment, isDate, isMoment}
 use Rattle.calendar.specs.declared.moments.Moment.{Moment}
 use Rattle.calendar.proofs.ReadBack.{moment-fits, moment-back}
-use Rattle.text.specs.Answers.{at}
+use Rattle.text.specs.Answers.{given}
 use Rattle.text.specs.Nows.{nowForm, nowOf}
 use Rattle.text.specs.Texts.{textOf}
 
@@ -18,6 +18,6 @@ unfolding nowOf isMoment isDate
 other-form s h = rw h
 
 -- the text of a moment is a now's line, and says that moment
-pub moment-says : (t : Moment) → IsMoment t → nowOf (textOf (at t)) ≡ t
+pub moment-says : (t : Moment) → IsMoment t → nowOf (textOf (given t)) ≡ t
 unfolding nowOf textOf
 moment-says t m = rw (moment-fits (code " ") t) (moment-back (code " ") t [] m)
