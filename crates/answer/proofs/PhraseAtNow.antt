@@ -14,14 +14,14 @@ use Rattle.calendar.specs.Moments.{IsMoment, Outcome, refused as unreached, isM
 use Rattle.calendar.specs.declared.moments.Moment.{Moment}
 use Rattle.calendar.proofs.Valid.{test-range, test-moment}
 use Rattle.dates.specs.declared.time.Time.the-variants.{Empty as NoTime}
-use Rattle.phrase.specs.Read.{Reading, ReadPhrase, readOf}
+use Rattle.phrase.specs.Read.{TreeRead, ReadPhrase, readOf}
 use Rattle.phrase.proofs.Phrases.{ReadWhole, read-holds}
 use Rattle.evaluation.specs.Evaluate.{evaluate}
 use Rattle.answer.specs.Answer.{placed, readingAt, answerOf}
 use Rattle.answer.proofs.Leads.{Leads, leads, refuses, timeOf, hasSubDaily, SameTime}
 use Rattle.answer.proofs.Leads.{valid-leads, second-leads, time-of-day-leads}
 
-module _ (s : List ℕ) {x : Reading} (read : readOf keywords s ≡ given x) where
+module _ (s : List ℕ) {x : TreeRead} (read : readOf keywords s ≡ given x) where
   -- a phrase that is read is answered by its reading
   by-reading : (n : Moment) → answerOf keywords s n ≡ readingAt n x
   unfolding answerOf
@@ -53,7 +53,7 @@ lowered h (of-refusal {r} b) = of-refusal {r = r} (omega arith)
 
 -- where a reading leads from a now of the calendar, and 8 from any other
 reading-holds :
-    {M : Moment → Type 0} {m : ℕ} (x : Reading) (n : Moment) → (IsMoment n → Leads M (evaluate (x .tree) n)) →
+    {M : Moment → Type 0} {m : ℕ} (x : TreeRead) (n : Moment) → (IsMoment n → Leads M (evaluate (x .tree) n)) →
     Holds M (Bounded 8 13 m) (readingAt n x)
 reading-holds {M} {m} x n leading = go (isMoment n) refl
   where
@@ -62,7 +62,7 @@ reading-holds {M} {m} x n leading = go (isMoment n) refl
     go false e = of-refusal {r = refusalAt NoNow 0 0} (omega arith)
 
 -- a reading leads to a moment of the calendar or to a refusal of 8 to 13
-reading-settled : {m : ℕ} (x : Reading) (n : Moment) → Holds IsMoment (Bounded 8 13 m) (readingAt n x)
+reading-settled : {m : ℕ} (x : TreeRead) (n : Moment) → Holds IsMoment (Bounded 8 13 m) (readingAt n x)
 reading-settled x n = reading-holds x n (valid-leads (x .tree) n)
 
 -- every answer is a moment of the calendar, or a refusal of 1 to 13 with a part within the phrase and the 256 bytes that it may have
@@ -89,7 +89,7 @@ whatever-now s n m {r} answer few = go (readOf keywords s) refl
 -- what refusal 8 says: now is none of the calendar, and the phrase is read
 pub record ReadAtNoNow (s : List ℕ) (n : Moment) : Type 0 where
   pub no-now : isMoment n ≡ false
-  pub reading : Reading
+  pub reading : TreeRead
   pub read : readOf keywords s ≡ given reading
 
 -- refusal 8 is given only there; `at-no-now` says that it is given wherever that holds
@@ -108,7 +108,7 @@ eight-only s n {r} answer eight = go (readOf keywords s) (isMoment n) refl refl
         let same : q .number ≡ r .number = cc in
         absurd (omega arith)
 
-module _ (s : List ℕ) {x : Reading} (read : readOf keywords s ≡ given x) (untimed : timeOf (x .tree) ≡ NoTime) where
+module _ (s : List ℕ) {x : TreeRead} (read : readOf keywords s ≡ given x) (untimed : timeOf (x .tree) ≡ NoTime) where
   answered :
       {M : Moment → Type 0} (n : Moment) {t : Moment} → (IsMoment n → Leads M (evaluate (x .tree) n)) → answerOf keywords s n ≡ given t → M t
   answered n leading answer = given-holds (reading-holds {m = 0} x n leading) (sym (by-reading s read n) ∙ answer)

@@ -12,7 +12,7 @@ use Rattle.dates.specs.declared.units.RelativeSpecifier.the-variants.{This}
 use Rattle.dates.specs.declared.time.Time.the-variants.{Empty}
 use Rattle.expressions.specs.Tree.{unitRelative}
 use Rattle.phrase.specs.Tree.{dateTime, now}
-use Rattle.phrase.specs.Read.{Reading, ReadPhrase, reads, readOf}
+use Rattle.phrase.specs.Read.{TreeRead, ReadPhrase, reads, readOf}
 use Rattle.refusals.specs.Table.{NoNow}
 use Rattle.refusals.specs.Answers.{Answer, given, refused, refuse, andThen}
 use Rattle.evaluation.specs.Evaluate.{evaluate}
@@ -26,7 +26,7 @@ placed (moment t) = given t
 placed (unreached k) = refuse k 0 0
 
 -- a reading at a now; 8: "now is no date and time in years 1 to 9999"
-abbrev pub readingAt : Moment → Reading → Answer Moment
+abbrev pub readingAt : Moment → TreeRead → Answer Moment
 readingAt n x = placed (cond (isMoment n) (evaluate (x .tree) n) (unreached NoNow))
 
 -- the code's answer

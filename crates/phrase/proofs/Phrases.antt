@@ -24,7 +24,7 @@ use Rattle.phrase.specs.DateTimes.{dateTimeOf}
 use Rattle.phrase.specs.Chains.{chainOf, treeOf, sizeTree}
 use Rattle.phrase.specs.Formed.{Formed}
 use Rattle.phrase.specs.Outlines.{countOf, treeIn, kept, gathered}
-use Rattle.phrase.specs.Read.{Reading, ReadPhrase, reads, readCodes, readItems, readOf, countEnded, judgedOf, phraseAnswer}
+use Rattle.phrase.specs.Read.{TreeRead, ReadPhrase, reads, readCodes, readItems, readOf, countEnded, judgedOf, phraseAnswer}
 use Rattle.phrase.specs.declared.gather.Gathered.{Gathered}
 use Rattle.phrase.specs.declared.chain.Chain.{Chain}
 use Rattle.phrase.specs.declared.read.PhraseRead.{PhraseRead}
@@ -105,7 +105,7 @@ module _ (s : List ℕ) where
       rw (ends, count, gives, e, f, g) line-answered
 
 -- a phrase that is read: its lexemes, all of them taken, and the tree that `DateTime::parse` gives, of at most 21 parts
-pub record ReadWhole (s : List ℕ) (x : Reading) : Type 0 where
+pub record ReadWhole (s : List ℕ) (x : TreeRead) : Type 0 where
   pub items : List Item
   pub lexemes : lexed keywords s ≡ given items
   pub parsed : dateTimeOf (codesOf items) ≡ is (x .tree) (x .taken)
@@ -145,7 +145,7 @@ read-holds s = go refl (lexed-holds keywords s)
 
 -- what `read` answers with number 0: the reading, and a formed chain that stands for its tree
 pub record WasRead (s : List ℕ) (r : PhraseRead) : Type 0 where
-  pub reading : Reading
+  pub reading : TreeRead
   pub is : readOf keywords s ≡ given reading
   pub whole : ReadWhole s reading
   pub taken : r .taken ≡ reading .taken

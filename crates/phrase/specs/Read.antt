@@ -18,13 +18,13 @@ use Rattle.phrase.specs.declared.date_time.Count.the-variants.{Is, Nothi
 use Rattle.phrase.specs.declared.read.PhraseRead.{PhraseRead}
 
 -- what is read of a phrase: the tree, and the lexemes taken
-pub record Reading : Type 0 where
+pub record TreeRead : Type 0 where
   pub tree : DateTime
   pub taken : ℕ
 
 -- a reading, or a refusal of 1 to 7
 abbrev pub ReadPhrase : Type 0
-ReadPhrase = Answer Reading
+ReadPhrase = Answer TreeRead
 
 -- a tree that takes t lexemes
 abbrev pub reads : DateTime → ℕ → ReadPhrase
@@ -57,7 +57,7 @@ abbrev pub judgedOf : Ended → Count → List ℕ → ℕ → Ended
 judgedOf line k starts n = cond (eqb (line .refusal .number) 0) (countEnded k (line .count) starts n) line
 
 -- what is read, and now of no lexemes where the phrase is refused
-abbrev pub readingIn : ReadPhrase → Reading
+abbrev pub readingIn : ReadPhrase → TreeRead
 readingIn (given x) = x
 readingIn (refused r) = record { tree = now; taken = 0 }
 
