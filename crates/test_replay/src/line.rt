@@ -6,22 +6,27 @@ use super::read::write_phrase;
 use answer::Answered;
 use answer::answer;
 use bytes::scan;
+use calendar::moments::Moment;
 use test_print::out::number;
 use test_print::out::text;
 
 // What a phrase is read as, and its moment at now's six numbers or its refusal.
 fn write_answer(phrase: &[u8], now: [u32; 6]) {
     write_phrase(phrase);
-    match answer(phrase, now[0], now[1], now[2], now[3], now[4], now[5]) {
+    let at = Moment {
+        year: now[0],
+        month: now[1],
+        day: now[2],
+        hour: now[3],
+        minute: now[4],
+        second: now[5],
+    };
+    match answer(phrase, at) {
         Answered::At(t) => write_moment(t),
-        Answered::Refused {
-            number: n,
-            place,
-            end,
-        } => {
-            number(b"refused ", n as u64);
-            number(b" at ", place as u64);
-            number(b" to ", end as u64);
+        Answered::Refused(r) => {
+            number(b"refused ", r.number as u64);
+            number(b" at ", r.place as u64);
+            number(b" to ", r.end as u64);
         }
     }
     text(b"\n");
