@@ -3,19 +3,13 @@
 
 #[allow(dead_code)]
 mod ast;
+mod error;
 #[allow(dead_code)]
 mod lexer;
 mod lines;
 
+pub use error::Error;
 use std::io::{self, BufRead, BufWriter, Write};
-
-/// What lexer.rs and ast.rs answer on failure, as in the Rust's lib.rs
-#[derive(Debug, Clone, PartialEq, Eq)]
-pub enum Error {
-    InvalidDate(String),
-    UnrecognizedToken(String),
-    ParseError,
-}
 
 fn main() -> io::Result<()> {
     // a panic is an answer here, and is not printed besides

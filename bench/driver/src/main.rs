@@ -4,18 +4,13 @@
 
 #[allow(dead_code)]
 mod ast;
+mod error;
 #[allow(dead_code)]
 mod lexer;
 
 use chrono::{DateTime, Datelike, NaiveDate, TimeZone, Timelike, Utc};
 
-/// What lexer.rs and ast.rs answer on failure, as in the Rust's lib.rs
-#[derive(Debug, Clone, PartialEq, Eq)]
-pub enum Error {
-    InvalidDate(String),
-    UnrecognizedToken(String),
-    ParseError,
-}
+pub use error::Error;
 
 extern "C" {
     fn fuzzy_read(phrase: *const u8, length: usize, y: u32, mo: u32, d: u32, h: u32, mi: u32, s: u32, moment: *mut u32) -> u64;

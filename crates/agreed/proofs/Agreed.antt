@@ -1,38 +1,39 @@
 -- Hub and phone agree, from bytes to bytes; and what every answer of the functions that apps call is. Assumes nothing.
-use Prim.Native.Nat.{ℕ, _+_, _≤_}
+use Prim.Native.Nat.{ℕ, _≤_, min}
 use native.Mathlib.Omega.{arith}
 use mathlib.Core.Path.{_≡_, refl, sym, _∙_}
 use mathlib.Core.List.{List}
 use borrow.Fn.Kinds.{Out}
-use lib.ListN.{length, take, drop}
-use lib.Seq.{sets, sets-eq, take-at}
-use Rattle.calendar.specs.Moments.{Outcome, moment as reached, refused}
+use lib.ListN.{length, take}
+use Rattle.refusals.specs.Answers.{Answer, given, refused}
+use Rattle.refusals.specs.declared.Refusal.{Refusal}
+use Rattle.refusals.proofs.Holds.{Holds, of-given, of-refusal, Bounded, given-holds, refusal-holds}
+use Rattle.digits.proofs.Stores.{sets-taken}
+use Rattle.calendar.specs.Moments.{IsMoment}
 use Rattle.calendar.specs.declared.moments.Moment.{Moment}
 use Rattle.lexer.specs.Keywords.{keywords}
-use Rattle.phrase.proofs.Phrases.{refusal-numbers}
-use Rattle.answer.specs.Answer.{Answer, at, refusedAt, placed, answerOf}
-use Rattle.answer.proofs.Answers.{Settled, moment-at, refusal-at, settled}
+use Rattle.answer.specs.Answer.{placed, answerOf}
+use Rattle.answer.proofs.PhraseAtNow.{settled}
 use Rattle.steps.specs.Running.{runOf}
 use Rattle.steps.specs.declared.plan.Step.{Step}
-use Rattle.ready.specs.Ready.{ReadyPhrase, refusedReady, steps, readyOf}
-use Rattle.ready.proofs.Answers.{ready-answers, refuses-as-reading, made-ready}
+use Rattle.ready.specs.Ready.{ReadyPhrase, readyOf}
+use Rattle.ready.proofs.ReadyPhrases.{ready-answers, made-ready}
 use Rattle.ready.proofs.Settles.{run-settled}
 use Rattle.records.specs.Records.{encodeOf, decodeOf}
 use Rattle.records.proofs.Lists.{length-encoded}
 use Rattle.fuzzydate.proofs.Back.{read-back}
 use Rattle.fuzzydate.specs.Called.{codeOf, momentAfter, readyCode, readyAfter}
-use Rattle.fuzzydate.proofs.Short.{short-answer}
 use Rattle.fuzzydate.proofs.fuzzy_read.Kinds as kinds
 use Rattle.agreed.specs.Calls.{Call, MakeReady, bytesOf, nowOf, arrayOf, arrayAfter, AtNow, Read, Run, number, size}
 use Rattle.agreed.specs.Calls.{Alike, Answered, moment, refusal}
 
 -- what an answer of the definitions becomes in a call
-record Says (w : Answer) (array : List ℕ) (k : ℕ) (array′ : List ℕ) : Type 0 where
+record Says (w : Answer Moment) (array : List ℕ) (k : ℕ) (array′ : List ℕ) : Type 0 where
   number-is : k ≡ codeOf w
   array′-is : array′ ≡ momentAfter w array
 
 -- a promise that gives the answer of a definition
-module _ {Post : Out 2 kinds.ps kinds.r} (defined : List ℕ → Moment → Answer)
+module _ {Post : Out 2 kinds.ps kinds.r} (defined : List ℕ → Moment → Answer Moment)
     (number-of : (c : Call Post) → c .result ≡ codeOf (defined (bytesOf c) (nowOf c)))
     (left-of : (c : Call Post) → arrayAfter c ≡ momentAfter (defined (bytesOf c) (nowOf c)) (arrayOf c)) where
   says : {bytes : List ℕ} {n : Moment} {array : List ℕ} {k : ℕ} {array′ : List ℕ} →
@@ -65,52 +66,47 @@ make-says c =
 
 -- one answer, given in two calls
 alike :
-    {w : Answer} {phone phone′ hub hub′ : List ℕ} {q r : ℕ} →
-    Settled 1 w → Says w phone q phone′ → Says w hub r hub′ → Alike q phone phone′ r hub hub′
-alike (moment-at v) c d =
+    {m : ℕ} {w : Answer Moment} {phone phone′ hub hub′ : List ℕ} {q r : ℕ} →
+    Holds IsMoment (Bounded 1 13 m) w → Says w phone q phone′ → Says w hub r hub′ → Alike q phone phone′ r hub hub′
+alike (of-given v) c d =
     record {
       number-same = c .number-is ∙ sym (d .number-is);
       moment-same = λ z. c .array′-is ∙ sym (d .array′-is);
       nothing-written = λ f. absurd (f (d .number-is));
     }
-alike (refusal-at low high) c d =
+alike (of-refusal b) c d =
     record {
       number-same = c .number-is ∙ sym (d .number-is);
       moment-same = λ z. absurd (omega (arith, d .number-is));
       nothing-written = λ f. (c .array′-is, d .array′-is);
     }
 
--- what stands at the front of an array
-front : (xs l : List ℕ) → length xs ≤ length l → take (length xs) (sets l 0 xs) ≡ xs
-front xs l h = rw (sets-eq xs l 0 (omega arith)) (take-at xs (drop (0 + length xs) l) (length xs) refl)
-
 -- the bytes that an app hands on are those of the steps, whatever the array held
 handed :
-    (ss : List Step) {array array′ : List ℕ} {k : ℕ} → length ss ≤ 24 → length array ≡ 384 → Makes (steps ss) array k array′ →
+    (ss : List Step) {array array′ : List ℕ} {k : ℕ} → length ss ≤ 24 → length array ≡ 384 → Makes (given ss) array k array′ →
     take (size k) array′ ≡ encodeOf ss
 handed ss {array} {k = k} few bytes m =
     let long = length-encoded ss in
     let cut : size k ≡ length (encodeOf ss) = omega (arith, m .number-is) in
-    rw (cut, m .array′-is) (front (encodeOf ss) array (omega arith))
+    rw (cut, m .array′-is) (sets-taken (encodeOf ss) array (omega arith) (length (encodeOf ss)) refl)
 
 -- a phrase that is made ready runs as it is read, at every now
 run-made :
-    (phrase : List ℕ) {ss : List Step} → readyOf keywords phrase ≡ steps ss → (n : Moment) →
+    (phrase : List ℕ) {ss : List Step} → readyOf keywords phrase ≡ given ss → (n : Moment) →
     placed (runOf (decodeOf (encodeOf ss)) n) ≡ answerOf keywords phrase n
 run-made phrase h n = rw (read-back phrase h) (rw h at (ready-answers phrase n))
 
 -- what making ready refuses reading refuses so, at every now
 read-refused :
-    (phrase : List ℕ) {k a e : ℕ} → readyOf keywords phrase ≡ refusedReady k a e → (n : Moment) →
-    answerOf keywords phrase n ≡ refusedAt k a e
+    (phrase : List ℕ) {r : Refusal} → readyOf keywords phrase ≡ refused r → (n : Moment) → answerOf keywords phrase n ≡ refused r
 read-refused phrase h n = sym (rw h at (ready-answers phrase n))
 
 -- a refusal's number is not 0
 not-zero :
-    (phrase : List ℕ) {j a e k : ℕ} {array array′ : List ℕ} {A : Type 0} → readyOf keywords phrase ≡ refusedReady j a e →
-    Makes (refusedReady j a e) array k array′ → number k ≡ 0 → A
+    (phrase : List ℕ) {q : Refusal} {k : ℕ} {array array′ : List ℕ} {A : Type 0} → readyOf keywords phrase ≡ refused q →
+    Makes (refused q) array k array′ → number k ≡ 0 → A
 not-zero phrase h m zero =
-    let numbers = refusal-numbers phrase (refuses-as-reading phrase h) in
+    let bounds = refusal-holds (made-ready phrase) h in
     absurd (omega (arith, m .number-is))
 
 module _ (phrase : List ℕ) {array array′ : List ℕ} {k : ℕ} {n : Moment} {hub hub′ : List ℕ} {r : ℕ} (read : Read phrase n hub r hub′) where
@@ -118,18 +114,18 @@ module _ (phrase : List ℕ) {array array′ : List ℕ} {k : ℕ} {n : Moment} 
   refused-alike :
       (w : ReadyPhrase) → readyOf keywords phrase ≡ w → Makes w array k array′ → (number k ≡ 0 → ⊥) →
       (r ≡ k) × (array′ ≡ array) × (hub′ ≡ hub)
-  refused-alike (refusedReady j a e) h m other =
+  refused-alike (refused q) h m other =
       let d = rw (read-refused phrase h n) at (read-says read) in
       (d .number-is ∙ sym (m .number-is), m .array′-is, d .array′-is)
-  refused-alike (steps ss) h m other = absurd (other (omega (arith, m .number-is)))
+  refused-alike (given ss) h m other = absurd (other (omega (arith, m .number-is)))
 
   -- it does not, and what was made is run
   run-alike :
       (w : ReadyPhrase) → readyOf keywords phrase ≡ w → length array ≡ 384 → Makes w array k array′ → number k ≡ 0 →
       (phone phone′ : List ℕ) (q : ℕ) → Run (take (size k) array′) n phone q phone′ → Alike q phone phone′ r hub hub′
-  run-alike (refusedReady j a e) h bytes m zero phone phone′ q run = not-zero phrase h m zero
-  run-alike (steps ss) h bytes m zero phone phone′ q run =
-      let c = rw (handed ss (made-ready phrase h .most) bytes m, run-made phrase h n) at (run-says run) in
+  run-alike (refused j) h bytes m zero phone phone′ q run = not-zero phrase h m zero
+  run-alike (given ss) h bytes m zero phone phone′ q run =
+      let c = rw (handed ss (given-holds (made-ready phrase) h .most) bytes m, run-made phrase h n) at (run-says run) in
       alike (settled phrase n) c (read-says read)
 
 -- "hub and phones must each arrive at the same moment": what making a phrase ready left, run at any now, gives what reading the phrase at
@@ -158,44 +154,27 @@ ready-alike phrase {phone} {phone′} {hub} {hub′} {q} {r} c d = go (readyOf k
     go :
         (w : ReadyPhrase) → readyOf keywords phrase ≡ w → Makes w phone q phone′ → Makes w hub r hub′ →
         (q ≡ r) × (number r ≡ 0 → take (size q) phone′ ≡ take (size r) hub′)
-    go (refusedReady j a e) h m o = (m .number-is ∙ sym (o .number-is), not-zero phrase h o)
-    go (steps ss) h m o =
-        let few = made-ready phrase h .most in
+    go (refused j) h m o = (m .number-is ∙ sym (o .number-is), not-zero phrase h o)
+    go (given ss) h m o =
+        let few = given-holds (made-ready phrase) h .most in
         (m .number-is ∙ sym (o .number-is), λ z. handed ss few (c .bytes) m ∙ sym (handed ss few (d .bytes) o))
 
--- the part of a refusal lies within so many bytes, and within the 256 that a phrase may have
-abbrev Within : ℕ → Answer → Type 0
-Within room (at t) = Unit
-Within room (refusedAt k a e) = (a ≤ e) × (e ≤ room) × (e ≤ 256)
-
+-- what an answer whose part lies within m bytes becomes in a call
 answered :
-    {low room : ℕ} (w : Answer) {array array′ : List ℕ} {k : ℕ} →
-    Settled low w → Within room w → Says w array k array′ → Answered low room array k array′
-answered (at t) (moment-at v) part c = rw (c .number-is, c .array′-is) (moment v)
-answered (refusedAt j a e) {k = k} (refusal-at low high) part c =
+    {low room m : ℕ} {w : Answer Moment} {array array′ : List ℕ} {k : ℕ} → m ≤ room → m ≤ 256 →
+    Holds IsMoment (Bounded low 13 m) w → Says w array k array′ → Answered low room array k array′
+answered h few (of-given v) c = rw (c .number-is, c .array′-is) (moment v)
+answered {k = k} h few (of-refusal b) c =
     rw (c .array′-is) (refusal {k = k} (omega (arith, c .number-is)) (omega (arith, c .number-is)) (omega (arith, c .number-is)))
-
-read-within : (phrase : List ℕ) (n : Moment) → Within (length phrase) (answerOf keywords phrase n)
-read-within phrase n = go (answerOf keywords phrase n) refl
-  where
-    go : (w : Answer) → answerOf keywords phrase n ≡ w → Within (length phrase) w
-    go (at t) h = tt
-    go (refusedAt k a e) h = let part = short-answer phrase n h in (part .start, part .within, part .most)
-
-run-within : (o : Outcome) → Within 0 (placed o)
-run-within (reached t) = tt
-run-within (refused k) = (omega arith, omega arith, omega arith)
 
 -- what every answer to a phrase is: 0 and a moment of the calendar; or a refusal of 1 to 13 whose part lies within the phrase, and nothing
 -- written
 pub read-answers :
     (phrase : List ℕ) (n : Moment) {array array′ : List ℕ} {k : ℕ} →
     Read phrase n array k array′ → Answered 1 (length phrase) array k array′
-read-answers phrase n c = answered (answerOf keywords phrase n) (settled phrase n) (read-within phrase n) (read-says c)
+read-answers phrase n c = answered {m = min (length phrase) 256} (omega arith) (omega arith) (settled phrase n) (read-says c)
 
 -- what running any bytes gives: 0 and a moment of the calendar; or a number of 8 to 13, and nothing written
 pub run-answers :
     (ready : List ℕ) (n : Moment) {array array′ : List ℕ} {k : ℕ} → Run ready n array k array′ → Answered 8 0 array k array′
-run-answers ready n c =
-    let o = runOf (decodeOf ready) n in
-    answered (placed o) (run-settled (decodeOf ready) n) (run-within o) (run-says c)
+run-answers ready n c = answered {m = 0} (omega arith) (omega arith) (run-settled (decodeOf ready) n) (run-says c)

@@ -4,9 +4,8 @@ use mathlib.Core.Path.{_≡_}
 use mathlib.Core.List.{List}
 use borrow.Fn.Kinds.{Out}
 use lib.ListN.{length}
-use Rattle.calendar.specs.Moments.{IsMoment}
+use Rattle.calendar.specs.Moments.{IsMoment, momentOf}
 use Rattle.calendar.specs.declared.moments.Moment.{Moment}
-use Rattle.answer.specs.Answer.{momentOf}
 use Rattle.fuzzydate.specs.Called.{six}
 use Rattle.fuzzydate.proofs.fuzzy_read.Kinds as kinds
 use Rattle.fuzzydate.proofs.fuzzy_read.Reads as read'

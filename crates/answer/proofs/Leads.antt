@@ -3,7 +3,7 @@ use Prim.Native.Nat.{ℕ, _+_, _-_, _*_, _/_, _%_, _<_}
 use native.Mathlib.Omega.{arith}
 use mathlib.Core.Path.{_≡_, refl, sym, _∙_}
 use mathlib.Core.Logic.{_⊎_, inl, inr, ⊎-elim}
-use mathlib.Core.Bool.{Bool, true, false, cond, _&&_, _||_, and-eq-true-iff}
+use mathlib.Core.Bool.{Bool, true, false, false≢true, cond, _&&_, _||_, and-eq-true-iff}
 use lib.Dec.{leb, ltb}
 use borrow.Author.Tests.{leb-true, ltb-true}
 use Rattle.calendar.specs.Gregorian.{leapYear, monthLength, IsDate, days}
@@ -34,7 +34,6 @@ use Rattle.evaluation.specs.Weekdays.{daysBack, inWeek, backTo}
 use Rattle.evaluation.specs.Dates.{statedDate, dateAt}
 use Rattle.evaluation.specs.Times.{statedTime, timeAt}
 use Rattle.evaluation.specs.Evaluate.{byYear, isYear, isWeek, isMonthAndDay, byUnit, dateExprAt, evaluate}
-use Rattle.answer.proofs.Formed.{never}
 
 -- a moment with a property, or a refusal of 9 to 13
 pub data Leads (M : Moment → Type 0) : Outcome → Type 0 where
@@ -276,7 +275,7 @@ kept-time n = record {
   minute =
       λ t k h below s.
       let time = h .valid .time in
-      let day = ⊎-elim never (of-day _ (t .hour) (t .minute) k (time .hour) (time .minute)) s in
+      let day = ⊎-elim (λ e. absurd (false≢true e)) (of-day _ (t .hour) (t .minute) k (time .hour) (time .minute)) s in
       record {
         valid = at-minute-moment k t below (h .valid);
         hour = day .0 ∙ h .hour;

@@ -1,3 +1,2 @@
-pub mod Formed
 pub mod Leads
-pub mod Answers
+pub mod PhraseAtNow

@@ -3,7 +3,7 @@ use mathlib.Core.Path.{_≡_, refl}
 use mathlib.Core.List.{List, [], _∷_, map}
 use Prim.Native.Nat.{ℕ}
 use Prim.Native.String.{String}
-use Rattle.lexer.specs.Words.{bytesOf}
+use Rattle.digits.specs.Bytes.{bytesOf}
 use Rattle.lexer.specs.Keywords.{keywords}
 use Rattle.lexer.specs.Classes.{classOf, markOf}
 use Rattle.lexer.specs.Lex.{numberOf, wordAt, numberAt, tokenAt, lexed}
@@ -13,7 +13,7 @@ use Rattle.numbers.specs.Answers.{fitsOf}
 use Rattle.numbers.specs.Numbers.{isEnding, wordOf, literalOf, onesOf, teensOf, tensOf, tensOnesOf, numDoubleOf, sumOf, hundredsOf}
 use Rattle.numbers.specs.Numbers.{tailOf as numTailOf, numTripleOf, numTripleUnitOf, unitsOf, numStep, numOf}
 use Rattle.dates.specs.Units.{isArticle, unitOf, monthOf as namedMonthOf, weekdayOf, relativeSpecifierOf}
-use Rattle.dates.specs.Durations.{specificOf, articleOf, concreteOf, durationStep, durationOf}
+use Rattle.dates.specs.Durations.{specificOf, articleOf, concreteOf, durationTurn, durationOf}
 use Rattle.dates.specs.Dates.{namedDayOf, dayMonthYearOf, monthDayOf, isDelim, threeNumbersOf, twoNumbersOf, behindSecondOf, delimitedOf}
 use Rattle.dates.specs.Dates.{dateOf}
 use Rattle.dates.specs.Times.{minuteOf, halfOf, clockOf, timeOf}
@@ -29,25 +29,26 @@ use Rattle.calendar.specs.Moments.{onDay, minutesStep, monthsStep, yearsStep}
 use Rattle.calendar.specs.declared.moments.Moment.{Moment}
 use Rattle.evaluation.specs.Weekdays.{daysBack}
 use Rattle.evaluation.specs.Evaluate.{evaluate}
-use Rattle.answer.specs.Answer.{Answer, at, refusedAt, answerOf}
+use Rattle.refusals.specs.Answers.{Answer, given, refuse}
+use Rattle.answer.specs.Answer.{answerOf}
 use Rattle.evaluation.specs.Cases.{A, B}
 
 -- a row: now, the phrase's bytes, and the answer
 pub record Starred : Type 0 where
   pub from : Moment
   pub phrase : List ℕ
-  pub answer : Answer
+  pub answer : Answer Moment
 
-abbrev row : Moment → String → Answer → Starred
+abbrev row : Moment → String → Answer Moment → Starred
 row n s a = record { from = n; phrase = bytesOf s; answer = a }
 
 -- "Unless stated, the now is A and the time is now's."
-abbrev day : ℕ → ℕ → ℕ → Answer
-day y m d = at (withDate y m d A)
+abbrev day : ℕ → ℕ → ℕ → Answer Moment
+day y m d = given (withDate y m d A)
 
 -- a date at A with a stated time
-abbrev clock : ℕ → ℕ → ℕ → ℕ → Answer
-clock y m d h = at (withTime h 0 0 (withDate y m d A))
+abbrev clock : ℕ → ℕ → ℕ → ℕ → Answer Moment
+clock y m d h = given (withTime h 0 0 (withDate y m d A))
 
 -- the table; a refusal has its number, its place and the end of its part
 unfoldable pub starred : List Starred
@@ -58,22 +59,22 @@ starred =
     ∷ row A "friday next 5:00" (clock 2026 2 13 5)
     ∷ row A "5/2/2022" (day 2022 5 2)
     ∷ row A "5.2.2022" (day 2022 2 5)
-    ∷ row A "5/2" (refusedAt 7 1 3)
+    ∷ row A "5/2" (refuse 7 1 3)
     ∷ row A "5/2 at noon" (clock 2026 5 2 12)
     ∷ row A "march 4th" (day 2026 3 4)
-    ∷ row A "march 24th" (refusedAt 7 8 10)
-    ∷ row A "january 1, 2010" (refusedAt 11 0 0)
-    ∷ row A "four billion days ago" (refusedAt 12 0 0)
-    ∷ row A "five billion days ago" (refusedAt 6 0 0)
-    ∷ row B "a year from now" (refusedAt 13 0 0)
-    ∷ row B "12 months from now" (at (withDate 2025 2 28 B))
+    ∷ row A "march 24th" (refuse 7 8 10)
+    ∷ row A "january 1, 2010" (refuse 11 0 0)
+    ∷ row A "four billion days ago" (refuse 12 0 0)
+    ∷ row A "five billion days ago" (refuse 6 0 0)
+    ∷ row B "a year from now" (refuse 13 0 0)
+    ∷ row B "12 months from now" (given (withDate 2025 2 28 B))
     ∷ []
 
 -- each phrase answers as the paper's table has it
 pub starred-as-listed : map (λ c. answerOf keywords (c .phrase) (c .from)) starred ≡ map (λ c. c .answer) starred
 unfolding starred keywords classOf markOf numberOf wordAt numberAt tokenAt lexed turns again get isAt within fitsOf isEnding wordOf
     literalOf onesOf teensOf tensOf tensOnesOf numDoubleOf sumOf hundredsOf numTailOf numTripleOf numTripleUnitOf unitsOf numStep numOf
-    isArticle unitOf namedMonthOf weekdayOf relativeSpecifierOf specificOf articleOf concreteOf durationStep durationOf namedDayOf
+    isArticle unitOf namedMonthOf weekdayOf relativeSpecifierOf specificOf articleOf concreteOf durationTurn durationOf namedDayOf
     dayMonthYearOf monthDayOf isDelim threeNumbersOf twoNumbersOf behindSecondOf delimitedOf dateOf minuteOf halfOf clockOf timeOf
     inTailOf durationTailOf tailOf withDurationOf relativeExprOf weekdayExprOf undatedOf dateExprOf timeBehindOf durationTurnOf
     timedTurnOf undatedTurnOf turnOf dateTimeStep dateTimeOf readOf leapYear monthLength daysBeforeMonth daysOfYears dayNumber yearsBefore

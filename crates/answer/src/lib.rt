@@ -1,22 +1,19 @@
 // A phrase at a now.
 use calendar::moments::Moment;
 use calendar::moments::Reached;
-use evaluation::reading::evaluate;
+use evaluation::chain::evaluate;
 use phrase::read::read;
 use refusals::NO_NOW;
+use refusals::Refusal;
 ghost use mathlib.Core.Path.{_≡_};
 ghost use Rattle.lexer.specs.Keywords.{keywords};
 ghost use Rattle.calendar.specs.Moments.{reachedOf};
-ghost use Rattle.answer.specs.Answer.{momentOf, answerFrom, placed, answerOf};
+ghost use Rattle.answer.specs.Answer.{answerFrom, placed, answerOf};
 
-// A moment, or a refusal's number, its place in the phrase and the end of its part.
+// A moment, or a refusal.
 pub enum Answered {
     At(Moment),
-    Refused {
-        number: u8,
-        place: usize,
-        end: usize,
-    },
+    Refused(Refusal),
 }
 
 // Refusals 8 to 13 have place 0 and an empty part.
@@ -25,41 +22,26 @@ fn place(x: Reached) -> Answered
 {
     match x {
         Reached::At(t) => Answered::At(t),
-        Reached::Refused(number) => Answered::Refused {
+        Reached::Refused(number) => Answered::Refused(Refusal {
             number,
             place: 0,
             end: 0,
-        },
+        }),
     }
 }
 
-// A phrase at the now of six numbers: refusals 1 to 7, then 8, then 9 to 13; or the moment.
-pub fn answer(
-    phrase: &[u8],
-    year: u32,
-    month: u32,
-    day: u32,
-    hour: u32,
-    minute: u32,
-    second: u32,
-) -> Answered
-    ensures { λ r. ⌜ answerFrom r ≡ answerOf keywords (now (phrase .entry)) (momentOf year month day hour minute second) ⌝ }
+// A phrase at a now: refusals 1 to 7, then 8, then 9 to 13; or the moment.
+pub fn answer(phrase: &[u8], at: Moment) -> Answered
+    ensures { λ r. ⌜ answerFrom r ≡ answerOf keywords (now (phrase .entry)) at ⌝ }
 {
     let read = read(phrase);
-    let number = read.number;
-    if number == 0 {
-        let now = Moment::first()
-            .with_date(year, month, day)
-            .with_time(hour, minute, second);
-        if now.valid() {
-            let reading = read.reading;
-            return place(evaluate(reading, now));
+    let refusal = read.refusal;
+    if refusal.number == 0 {
+        if at.valid() {
+            let chain = read.chain;
+            return place(evaluate(chain, at));
         }
         return place(Reached::Refused(NO_NOW));
     }
-    Answered::Refused {
-        number,
-        place: read.place,
-        end: read.end,
-    }
+    Answered::Refused(refusal)
 }

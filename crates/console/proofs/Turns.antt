@@ -5,7 +5,8 @@ use mathlib.Core.Path.{_≡_, refl, sym, ap, _∙_}
 use mathlib.Core.Bool.{Bool}
 use mathlib.Core.List.{List, [], _∷_, _++_, append-nil, append-assoc}
 use lib.ListN.{length, take, drop}
-use lib.Seq.{sets, sets-eq, take-add, take-append-seam, length-take-le}
+use lib.Seq.{sets, take-add, length-take-le}
+use Rattle.digits.proofs.Stores.{sets-taken}
 use Rattle.text.specs.Lines.{restOf}
 use Rattle.text.specs.Output.{passedText, kept, pieceOf, Held, lastText, output, inPieces, joined}
 use Rattle.text.specs.declared.stream.Known.{Known}
@@ -13,12 +14,6 @@ use Rattle.text.specs.declared.stream.Known.the-variants.{Nothing}
 use Rattle.text.specs.declared.stream.Piece.{Piece}
 use Rattle.text.proofs.Pieces.{in-pieces}
 use Rattle.console.specs.Turns.{ReadBehind, MoreTo, Reached, start, behind, Stands}
-
--- what was stored at the front stands there
-front-written : (text before : List ℕ) {after : List ℕ} {r : ℕ} → r ≡ length text → after ≡ sets before 0 text → r ≤ length before → take r after ≡ text
-front-written text before counted stored h =
-    let all : 0 + length text ≤ length before = omega arith in
-    rw (stored, counted, sets-eq text before 0 all) (take-append-seam text (drop (0 + length text) before))
 
 -- what was kept, and the piece behind it
 pub in-two :
@@ -39,7 +34,7 @@ turned k {held} {n} {s₀} {s₁} {s₂} {out} {out'} {r} read len told bounds k
     record {
       piece = take n (drop held s₁);
       known = rw (← piece) (ap (λ (x : Piece). x .known) told);
-      rest = rw (← piece) (front-written (kept (restOf (take (held + n) s₁))) s₁ counted kept-there (omega (arith, bounds .within)));
+      rest = rw (← piece, kept-there) (sets-taken (kept (restOf (take (held + n) s₁))) s₁ (omega (arith, bounds .within)) (r .held) (sym counted));
       few = bounds .few;
       text = rw (← piece) stored;
     }

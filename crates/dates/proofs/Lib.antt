@@ -1,5 +1,5 @@
 pub mod Each
-pub mod Laws
-pub mod Bounds
+pub mod Parsed
+pub mod LexemesTaken
 pub mod Durations
 pub mod Small

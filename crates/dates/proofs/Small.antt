@@ -1,5 +1,5 @@
 -- Every number that a reader gives is below 2 ^ 32, so that it fits a field of a record, whatever the lexemes are.
-use mathlib.Core.Path.{_≡_, refl}
+use mathlib.Core.Path.{refl}
 use mathlib.Core.Bool.{Bool, true, false}
 use mathlib.Core.List.{List}
 use Prim.Native.Nat.{ℕ, _+_, _<_, _≤_}
@@ -10,17 +10,18 @@ use Rattle.lexer.specs.Lexemes as lexeme
 use Rattle.numbers.specs.Slices.{get, isAt, within}
 use Rattle.numbers.specs.Numbers.{numOf}
 use Rattle.numbers.specs.Answers.{Read}
-use Rattle.numbers.specs.declared.Found.{Found}
-use Rattle.numbers.specs.declared.Found.the-variants as number
+use Rattle.numbers.specs.declared.NumberFound.{NumberFound}
+use Rattle.numbers.specs.declared.NumberFound.the-variants as number
 use Rattle.numbers.proofs.Again.{again-keeps}
-use Rattle.numbers.proofs.Bounds.{num-read}
-use Rattle.numbers.proofs.Places.{within-bounds}
-use Rattle.dates.specs.Parsed.{Parsed, is, nothing, overflow, pick, orElse, ifLet, andThen, parsedNumber}
+use Rattle.numbers.proofs.NumberBounds.{num-read}
+use Rattle.numbers.proofs.LexemeAt.{within-bounds}
+use Rattle.dates.specs.Parsed.{Parsed, is, nothing, pick, parsedNumber}
 use Rattle.dates.specs.Units.{isArticle, unitOf, monthOf, weekdayOf}
 use Rattle.dates.specs.Dates.{namedDayOf, dayMonthYearOf, monthDayOf, isDelim, pickDate, threeNumbersOf, twoNumbersOf, behindSecondOf}
 use Rattle.dates.specs.Dates.{delimitedOf, dateOf}
 use Rattle.dates.specs.Times.{minuteOf, halfOf, clockOf, timeOf}
-use Rattle.dates.specs.Durations.{Duration, part, concat, specificOf, articleOf, concreteOf, durationStep, durationOf}
+use Rattle.dates.specs.Durations.{Duration, part, concat, specificOf, articleOf, concreteOf, durationTurn, durationOf}
+use Rattle.dates.proofs.Each.{Gives, nothing-gives, is-gives, pick-each, pick-gives, or-gives, then-each, then-gives, if-let-gives}
 use Rattle.dates.specs.declared.date.Date.{Date}
 use Rattle.dates.specs.declared.date.Date.the-variants.{YearMonthNumDay, MonthNumDayYear, DayMonthYear, MonthDayYear}
 use Rattle.dates.specs.declared.date.Date.the-variants.{MonthNumDay, MonthDay, Today, Tomorrow, Yesterday, Empty as NoDate}
@@ -63,59 +64,10 @@ abbrev pub SmallDuration : Duration → Type 0
 SmallDuration (part p) = SmallPart p
 SmallDuration (concat p d) = SmallPart p × SmallDuration d
 
-abbrev Holds : {A : Type 0} → (A → Type 0) → Parsed A → Type 0
-Holds P (is v t) = P v
-Holds P nothing = Unit
-Holds P overflow = Unit
-
--- what a reader gives has the property P
-pub record Gives {A : Type 0} (P : A → Type 0) (p : Parsed A) : Type 0 where
-  pub holds : Holds P p
-
-module _ {A : Type 0} {P : A → Type 0} where
-  -- nothing has every property
-  pub nothing-gives : Gives P nothing
-  nothing-gives = record { holds = tt }
-
-  -- a value that has it
-  pub is-gives : {v : A} {t : ℕ} → P v → Gives P (is v t)
-  is-gives h = record { holds = h }
-
-  -- a test
-  pub pick-gives : (b : Bool) {x y : Parsed A} → Gives P x → Gives P y → Gives P (pick b x y)
-  pick-gives true g h = g
-  pick-gives false g h = h
-
-  -- two alternatives
-  or-gives : (x : Parsed A) {y : Parsed A} → Gives P x → Gives P y → Gives P (orElse x y)
-  or-gives (is v t) g h = g
-  or-gives nothing g h = h
-  or-gives overflow g h = g
-
-  -- what follows a reader
-  pub then-gives : {B : Type 0} {Q : B → Type 0} (p : Parsed A) {f : A → ℕ → Parsed B}
-      → Gives P p → ((v : A) (t : ℕ) → P v → Gives Q (f v t)) → Gives Q (andThen p f)
-  then-gives (is v t) g h = h v t (g .holds)
-  then-gives nothing g h = record { holds = tt }
-  then-gives overflow g h = record { holds = tt }
-
-  -- what follows it, and what stands where it finds nothing
-  pub if-let-gives : {B : Type 0} {Q : B → Type 0} (p : Parsed A) {f : A → ℕ → Parsed B} {b : Parsed B}
-      → Gives P p → ((v : A) (t : ℕ) → P v → Gives Q (f v t)) → Gives Q b → Gives Q (ifLet p f b)
-  if-let-gives (is v t) g h z = h v t (g .holds)
-  if-let-gives nothing g h z = z
-  if-let-gives overflow g h z = record { holds = tt }
-
--- any value at all
-pub any : {A : Type 0} (p : Parsed A) → Gives (λ v. Unit) p
-any (is v t) = is-gives tt
-any nothing = nothing-gives
-any overflow = record { holds = tt }
-
-small-number : (w : Found) (k n : ℕ) → Read w k n → Gives Small (parsedNumber w)
-small-number (number.Is v t) k n h = is-gives (let b = h .bounds in omega arith)
+small-number : (w : NumberFound) (k n : ℕ) → Read w k n → Gives Small (parsedNumber w)
+small-number (number.Is a) k n h = is-gives (let b = h .bounds in omega arith)
 small-number number.Nothing k n h = nothing-gives
-small-number number.Overflow k n h = record { holds = tt }
+small-number number.Overflow k n h = record { bounds = tt }
 
 -- a number
 num-small : (l : List ℕ) → Gives Small (parsedNumber (numOf l))
@@ -123,11 +75,7 @@ num-small l = small-number (numOf l) 1 (length l) (num-read l)
 
 -- a lexeme between two small ones
 small-within : (lo x hi v : ℕ) → Small hi → (x ≤ hi → Small v) → Gives Small (pick (within lo x hi) (is v 1) nothing)
-small-within lo x hi v small f = go (within lo x hi) refl
-  where
-    go : (b : Bool) → within lo x hi ≡ b → Gives Small (pick b (is v 1) nothing)
-    go true e = is-gives (f (within-bounds lo x hi refl e .1))
-    go false e = nothing-gives
+small-within lo x hi v small f = pick-each (within lo x hi) (λ e. is-gives (f (within-bounds lo x hi refl e .1))) (λ e. nothing-gives)
 
 month-small : (l : List ℕ) → Gives Small (monthOf l)
 unfolding monthOf
@@ -212,12 +160,12 @@ time-small l =
 part-small : (l : List ℕ) → Gives SmallPart (concreteOf l)
 unfolding concreteOf specificOf articleOf
 part-small l =
-    or-gives _ (then-gives _ (num-small l) (λ num t a. then-gives _ (any (unitOf (drop t l))) (λ u k b. is-gives a)))
-    (pick-gives (isArticle l) (then-gives _ (any (unitOf (drop 1 l))) (λ u k b. is-gives tt)) nothing-gives)
+    or-gives _ (then-gives _ (num-small l) (λ num t a. then-each (unitOf (drop t l)) _ (λ u k e. is-gives a)))
+    (pick-gives (isArticle l) (then-each (unitOf (drop 1 l)) _ (λ u k e. is-gives tt)) nothing-gives)
 
 step-small : (D : List ℕ → Parsed Duration) → ((m : List ℕ) → Gives SmallDuration (D m)) → (l : List ℕ)
-    → Gives SmallDuration (durationStep D l)
-unfolding durationStep
+    → Gives SmallDuration (durationTurn D l)
+unfolding durationTurn
 step-small D small l =
     then-gives _ (part-small l) (λ d t a.
     pick-gives (isAt l t lexeme.And)
@@ -227,4 +175,4 @@ step-small D small l =
 -- a duration
 pub duration-small : (l : List ℕ) → Gives SmallDuration (durationOf l)
 unfolding durationOf
-duration-small l = again-keeps nothing durationStep (λ m w. Gives SmallDuration w) (λ m. nothing-gives) step-small l
+duration-small l = again-keeps nothing durationTurn (λ m w. Gives SmallDuration w) (λ m. nothing-gives) step-small l

@@ -1,10 +1,11 @@
--- What a reader gives: `Some((value, taken))`, `None`, or refusal 6, which stops the reading at once.
+-- What a reader gives: `Some((value, taken))`, `None`, or refusal 6, "a sum or product in a number passes 4,294,967,295", which stops
+-- the reading at once.
 use Prim.Native.Nat.{ℕ, _≤_}
 use mathlib.Core.Bool.{Bool, true, false}
-use Rattle.numbers.specs.declared.Found.{Found}
-use Rattle.numbers.specs.declared.Found.the-variants.{Is, Nothing, Overflow}
+use Rattle.numbers.specs.declared.NumberFound.{NumberFound}
+use Rattle.numbers.specs.declared.NumberFound.the-variants.{Is, Nothing, Overflow}
 
--- found, nothing or overflow
+-- found, nothing or overflow, which `readCodes` of phrase gives the number 6
 pub data Parsed (A : Type 0) : Type 0 where
   is : A → ℕ → Parsed A
   nothing : Parsed A
@@ -40,8 +41,8 @@ stopped nothing = nothing
 stopped overflow = overflow
 
 -- a number reader's answer
-abbrev pub parsedNumber : Found → Parsed ℕ
-parsedNumber (Is v t) = is v t
+abbrev pub parsedNumber : NumberFound → Parsed ℕ
+parsedNumber (Is a) = is (a .value) (a .taken)
 parsedNumber Nothing = nothing
 parsedNumber Overflow = overflow
 

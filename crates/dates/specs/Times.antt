@@ -8,6 +8,8 @@ use Rattle.numbers.specs.Numbers.{numOf}
 use Rattle.dates.specs.Parsed.{Parsed, is, nothing, overflow, pick, ifLet, andThen, parsedNumber}
 use Rattle.dates.specs.declared.time.Time.{Time}
 use Rattle.dates.specs.declared.time.Time.the-variants.{HourMin, HourMinAM, HourMinPM}
+use Rattle.dates.specs.declared.time.MinuteFound.{MinuteFound}
+use Rattle.dates.specs.declared.time.MinuteFound.the-variants.{Is as IsMinute, Overflow as MinuteOverflow}
 use Rattle.dates.specs.declared.time.TimeFound.{TimeFound}
 use Rattle.dates.specs.declared.time.TimeFound.the-variants.{Is, Nothing, Overflow}
 
@@ -37,6 +39,11 @@ timeOf l =
     pick (isAt l 0 lexeme.Midnight) (is (HourMin 0 0) 1)
     (pick (isAt l 0 lexeme.Noon) (is (HourMin 12 0) 1)
     (clockOf l))
+
+-- the code's answer for the minute
+abbrev pub parsedMinute : MinuteFound → Parsed ℕ
+parsedMinute (IsMinute n t) = is n t
+parsedMinute MinuteOverflow = overflow
 
 -- the code's answer
 abbrev pub parsedTime : TimeFound → Parsed Time

@@ -10,6 +10,10 @@ use Rattle.dates.specs.declared.units.Unit.{Unit}
 use Rattle.dates.specs.declared.units.Unit.the-variants.{Day, Week, Hour, Minute, Month, Year}
 use Rattle.dates.specs.declared.units.UnitFound.{UnitFound}
 use Rattle.dates.specs.declared.units.UnitFound.the-variants.{Is as IsUnit, Nothing as NoUnit}
+use Rattle.dates.specs.declared.units.MonthFound.{MonthFound}
+use Rattle.dates.specs.declared.units.MonthFound.the-variants.{Is as IsMonth, Nothing as NoMonth}
+use Rattle.dates.specs.declared.units.WeekdayFound.{WeekdayFound}
+use Rattle.dates.specs.declared.units.WeekdayFound.the-variants.{Is as IsWeekday, Nothing as NoWeekday}
 use Rattle.dates.specs.declared.units.RelativeSpecifier.{RelativeSpecifier}
 use Rattle.dates.specs.declared.units.RelativeSpecifier.the-variants.{This, Next, Last}
 use Rattle.dates.specs.declared.units.SpecifierFound.{SpecifierFound}
@@ -50,6 +54,16 @@ relativeSpecifierOf l =
 abbrev pub parsedUnit : UnitFound → Parsed Unit
 parsedUnit (IsUnit u) = is u 1
 parsedUnit NoUnit = nothing
+
+-- the code's answer for a month
+abbrev pub parsedMonth : MonthFound → Parsed ℕ
+parsedMonth (IsMonth n) = is n 1
+parsedMonth NoMonth = nothing
+
+-- the code's answer for a weekday
+abbrev pub parsedWeekday : WeekdayFound → Parsed ℕ
+parsedWeekday (IsWeekday n) = is n 1
+parsedWeekday NoWeekday = nothing
 
 -- the code's answer for a relative specifier
 abbrev pub parsedSpecifier : SpecifierFound → Parsed RelativeSpecifier

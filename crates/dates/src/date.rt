@@ -1,4 +1,5 @@
 // The readers of dates.
+use super::units::MonthFound;
 use super::units::read_month;
 use lexer::lexeme::DASH;
 use lexer::lexeme::DOT;
@@ -6,7 +7,7 @@ use lexer::lexeme::SLASH;
 use lexer::lexeme::TODAY;
 use lexer::lexeme::TOMORROW;
 use lexer::lexeme::YESTERDAY;
-use numbers::Found;
+use numbers::NumberFound;
 use numbers::num;
 use numbers::slices::get;
 use numbers::slices::is_at;
@@ -33,7 +34,7 @@ pub enum Date {
     Empty,
 }
 
-// A date and the lexemes taken.
+// A date and the lexemes taken; `Overflow` is refusal 6.
 pub enum DateFound {
     Is(Date, usize),
     Nothing,
@@ -41,10 +42,10 @@ pub enum DateFound {
 }
 
 // Where no number is found: nothing, or the overflow.
-fn date_stopped(a: Found) -> DateFound
+fn date_stopped(a: NumberFound) -> DateFound
     ensures { λ r. ⌜ parsedDate r ≡ stopped (parsedNumber a) ⌝ }
 {
-    let Found::Overflow = a else {
+    let NumberFound::Overflow = a else {
         return DateFound::Nothing;
     };
     DateFound::Overflow
@@ -67,21 +68,25 @@ fn read_named_day(l: &[u64]) -> DateFound
 }
 
 // <num> <month> <num>, the number at the front being read.
-fn read_day_month_year(l: &[u64], a: Found) -> DateFound
+fn read_day_month_year(l: &[u64], a: NumberFound) -> DateFound
     requires { ⌜ (a ≡ numOf (now l)) × Read a 1 (length (now l)) ⌝ }
     ensures { λ r. ⌜ parsedDate r ≡ dayMonthYearOf (now (l .entry)) ⌝ }
 {
-    let Found::Is(day, t) = a else {
+    let NumberFound::Is(day) = a else {
         return date_stopped(a);
     };
-    let Found::Is(month, u) = read_month(rest(l, t)) else {
+    let MonthFound::Is(month) = read_month(rest(l, day.taken)) else {
         return DateFound::Nothing;
     };
-    let b = num(rest(l, t + u));
-    let Found::Is(year, v) = b else {
+    let t = day.taken + 1;
+    let b = num(rest(l, t));
+    let NumberFound::Is(year) = b else {
         return date_stopped(b);
     };
-    DateFound::Is(Date::DayMonthYear(day, month, year), t + u + v)
+    DateFound::Is(
+        Date::DayMonthYear(day.value, month, year.value),
+        t + year.taken,
+    )
 }
 
 // <month> <num> [<num>], the month being read: with no number behind it there is no date.
@@ -90,13 +95,17 @@ fn read_month_day(l: &[u64], month: u32) -> DateFound
     ensures { λ r. ⌜ parsedDate r ≡ monthDayOf month (now (l .entry)) ⌝ }
 {
     let a = num(rest(l, 1));
-    let Found::Is(day, t) = a else {
+    let NumberFound::Is(day) = a else {
         return date_stopped(a);
     };
-    match num(rest(l, 1 + t)) {
-        Found::Is(year, u) => DateFound::Is(Date::MonthDayYear(month, day, year), 1 + t + u),
-        Found::Nothing => DateFound::Is(Date::MonthDay(month, day), 1 + t),
-        Found::Overflow => DateFound::Overflow,
+    let t = 1 + day.taken;
+    match num(rest(l, t)) {
+        NumberFound::Is(year) => DateFound::Is(
+            Date::MonthDayYear(month, day.value, year.value),
+            t + year.taken,
+        ),
+        NumberFound::Nothing => DateFound::Is(Date::MonthDay(month, day.value), t),
+        NumberFound::Overflow => DateFound::Overflow,
     }
 }
 
@@ -145,29 +154,33 @@ fn behind_second(l: &[u64], delim: u64, num1: u32, num2: u32, t: usize) -> DateF
     }
     if is_at(l, t, delim) {
         let a = num(rest(l, t + 1));
-        let Found::Is(num3, u) = a else {
+        let NumberFound::Is(num3) = a else {
             return date_stopped(a);
         };
-        return DateFound::Is(three_numbers(delim, num1, num2, num3), t + 1 + u);
+        return DateFound::Is(
+            three_numbers(delim, num1, num2, num3.value),
+            t + 1 + num3.taken,
+        );
     }
     DateFound::Is(two_numbers(delim, num1, num2), t)
 }
 
 // <num> <delim> <num> [<delim> <num>], the number at the front being read.
-fn read_delimited(l: &[u64], a: Found) -> DateFound
+fn read_delimited(l: &[u64], a: NumberFound) -> DateFound
     requires { ⌜ (a ≡ numOf (now l)) × Read a 1 (length (now l)) ⌝ }
     ensures { λ r. ⌜ parsedDate r ≡ delimitedOf (now (l .entry)) ⌝ }
 {
-    let Found::Is(num1, t) = a else {
+    let NumberFound::Is(num1) = a else {
         return date_stopped(a);
     };
-    let delim = get(l, t);
+    let delim = get(l, num1.taken);
     if is_delim(delim) {
-        let b = num(rest(l, t + 1));
-        let Found::Is(num2, u) = b else {
+        let t = num1.taken + 1;
+        let b = num(rest(l, t));
+        let NumberFound::Is(num2) = b else {
             return date_stopped(b);
         };
-        return behind_second(l, delim, num1, num2, t + 1 + u);
+        return behind_second(l, delim, num1.value, num2.value, t + num2.taken);
     }
     DateFound::Nothing
 }
@@ -186,7 +199,7 @@ pub fn read_date(l: &[u64]) -> DateFound
     let DateFound::Nothing = b else {
         return b;
     };
-    let Found::Is(month, _) = read_month(l) else {
+    let MonthFound::Is(month) = read_month(l) else {
         return read_delimited(l, first);
     };
     read_month_day(l, month)

@@ -4,7 +4,7 @@ use super::units::UnitFound;
 use super::units::is_article;
 use super::units::read_unit;
 use lexer::lexeme::AND;
-use numbers::Found;
+use numbers::NumberFound;
 use numbers::num;
 use numbers::slices::is_at;
 use numbers::slices::rest;
@@ -22,7 +22,7 @@ pub enum Part {
     Specific(Unit, u32),
 }
 
-// A part and the lexemes taken.
+// A part and the lexemes taken; `Overflow` is refusal 6.
 pub enum PartFound {
     Is(Part, usize),
     Nothing,
@@ -40,7 +40,7 @@ pub struct Parts {
     pub items: [Slot; 21],
 }
 
-// The lexemes that a duration takes, and whether it has hours or minutes.
+// The lexemes that a duration takes, and whether it has hours or minutes; `Overflow` is refusal 6.
 pub enum Taken {
     Is { taken: usize, sub_daily: bool },
     Nothing,
@@ -74,10 +74,10 @@ fn is_sub_daily(p: Part) -> bool
 }
 
 // Where no number is found: nothing, or the overflow.
-fn part_stopped(a: Found) -> PartFound
+fn part_stopped(a: NumberFound) -> PartFound
     ensures { λ r. ⌜ parsedPart r ≡ stopped (parsedNumber a) ⌝ }
 {
-    let Found::Overflow = a else {
+    let NumberFound::Overflow = a else {
         return PartFound::Nothing;
     };
     PartFound::Overflow
@@ -89,13 +89,13 @@ fn read_specific(l: &[u64]) -> PartFound
     ensures { λ r. ⌜ Took (parsedPart r) 2 (length (now (l .entry))) ⌝ }
 {
     let a = num(l);
-    let Found::Is(n, t) = a else {
+    let NumberFound::Is(n) = a else {
         return part_stopped(a);
     };
-    let UnitFound::Is(u) = read_unit(rest(l, t)) else {
+    let UnitFound::Is(u) = read_unit(rest(l, n.taken)) else {
         return PartFound::Nothing;
     };
-    PartFound::Is(Part::Specific(u, n), t + 1)
+    PartFound::Is(Part::Specific(u, n.value), n.taken + 1)
 }
 
 // <article> <unit>

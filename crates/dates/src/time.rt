@@ -4,14 +4,14 @@ use lexer::lexeme::COLON;
 use lexer::lexeme::MIDNIGHT;
 use lexer::lexeme::NOON;
 use lexer::lexeme::PM;
-use numbers::Found;
+use numbers::NumberFound;
 use numbers::num;
 use numbers::slices::is_at;
 use numbers::slices::rest;
 ghost use mathlib.Core.Path.{_≡_};
 ghost use lib.ListN.{length};
 ghost use Rattle.dates.specs.Parsed.{Took, stopped, parsedNumber};
-ghost use Rattle.dates.specs.Times.{minuteOf, halfOf, clockOf, timeOf, parsedTime};
+ghost use Rattle.dates.specs.Times.{minuteOf, halfOf, clockOf, timeOf, parsedMinute, parsedTime};
 
 // `enum Time`
 pub enum Time {
@@ -21,42 +21,48 @@ pub enum Time {
     Empty,
 }
 
-// A time of day and the lexemes taken.
+// A time of day and the lexemes taken; `Overflow` is refusal 6.
 pub enum TimeFound {
     Is(Time, usize),
     Nothing,
     Overflow,
 }
 
+// A minute and the lexemes taken; `Overflow` is refusal 6.
+enum MinuteFound {
+    Is(u32, usize),
+    Overflow,
+}
+
 // Where no number is found: nothing, or the overflow.
-fn time_stopped(a: Found) -> TimeFound
+fn time_stopped(a: NumberFound) -> TimeFound
     ensures { λ r. ⌜ parsedTime r ≡ stopped (parsedNumber a) ⌝ }
 {
-    let Found::Overflow = a else {
+    let NumberFound::Overflow = a else {
         return TimeFound::Nothing;
     };
     TimeFound::Overflow
 }
 
 // [: [<num>]]: the minute, 0 where it is not said; a colon is taken also with no number behind it.
-fn read_minute(l: &[u64]) -> Found
-    ensures { λ r. ⌜ parsedNumber r ≡ minuteOf (now (l .entry)) ⌝ }
-    ensures { λ r. ⌜ Took (parsedNumber r) 0 (length (now (l .entry))) ⌝ }
+fn read_minute(l: &[u64]) -> MinuteFound
+    ensures { λ r. ⌜ parsedMinute r ≡ minuteOf (now (l .entry)) ⌝ }
+    ensures { λ r. ⌜ Took (parsedMinute r) 0 (length (now (l .entry))) ⌝ }
 {
     if is_at(l, 0, COLON) {
         match num(rest(l, 1)) {
-            Found::Is(min, t) => {
-                return Found::Is(min, 1 + t);
+            NumberFound::Is(minute) => {
+                return MinuteFound::Is(minute.value, 1 + minute.taken);
             }
-            Found::Nothing => {
-                return Found::Is(0, 1);
+            NumberFound::Nothing => {
+                return MinuteFound::Is(0, 1);
             }
-            Found::Overflow => {
-                return Found::Overflow;
+            NumberFound::Overflow => {
+                return MinuteFound::Overflow;
             }
         }
     }
-    Found::Is(0, 0)
+    MinuteFound::Is(0, 0)
 }
 
 // [am | pm] behind hour and minute, which end at t.
@@ -77,14 +83,13 @@ fn read_clock(l: &[u64]) -> TimeFound
     ensures { λ r. ⌜ parsedTime r ≡ clockOf (now (l .entry)) ⌝ }
 {
     let a = num(l);
-    let Found::Is(hour, t) = a else {
+    let NumberFound::Is(hour) = a else {
         return time_stopped(a);
     };
-    let b = read_minute(rest(l, t));
-    let Found::Is(minute, u) = b else {
-        return time_stopped(b);
+    let MinuteFound::Is(minute, u) = read_minute(rest(l, hour.taken)) else {
+        return TimeFound::Overflow;
     };
-    read_half(l, hour, minute, t + u)
+    read_half(l, hour.value, minute, hour.taken + u)
 }
 
 // Time::parse; nothing is tried where no lexeme is left.

@@ -15,15 +15,15 @@ use lexer::lexeme::THE;
 use lexer::lexeme::THIS;
 use lexer::lexeme::WEEK;
 use lexer::lexeme::YEAR;
-use numbers::Found;
 use numbers::slices::get;
 use numbers::slices::is_within;
 ghost use mathlib.Core.Path.{_≡_};
 ghost use Prim.Native.Nat.{_≤_};
 ghost use lib.ListN.{length};
 ghost use Rattle.numbers.specs.Slices.{oneIf};
-ghost use Rattle.dates.specs.Parsed.{Took, parsedNumber};
-ghost use Rattle.dates.specs.Units.{isArticle, unitOf, monthOf, weekdayOf, relativeSpecifierOf, parsedUnit, parsedSpecifier};
+ghost use Rattle.dates.specs.Parsed.{Took};
+ghost use Rattle.dates.specs.Units.{isArticle, unitOf, monthOf, weekdayOf, relativeSpecifierOf};
+ghost use Rattle.dates.specs.Units.{parsedUnit, parsedMonth, parsedWeekday, parsedSpecifier};
 
 // `enum Unit`
 pub enum Unit {
@@ -38,6 +38,18 @@ pub enum Unit {
 // A unit is one lexeme.
 pub enum UnitFound {
     Is(Unit),
+    Nothing,
+}
+
+// A month, a number from 1 on, is one lexeme.
+pub enum MonthFound {
+    Is(u32),
+    Nothing,
+}
+
+// A weekday, a number with Monday 0, is one lexeme.
+pub enum WeekdayFound {
+    Is(u32),
     Nothing,
 }
 
@@ -87,27 +99,27 @@ pub fn read_unit(l: &[u64]) -> UnitFound
 }
 
 // Month::parse: January is 1.
-pub(crate) fn read_month(l: &[u64]) -> Found
-    ensures { λ r. ⌜ parsedNumber r ≡ monthOf (now (l .entry)) ⌝ }
-    ensures { λ r. ⌜ Took (parsedNumber r) 1 (length (now (l .entry))) ⌝ }
+pub(crate) fn read_month(l: &[u64]) -> MonthFound
+    ensures { λ r. ⌜ parsedMonth r ≡ monthOf (now (l .entry)) ⌝ }
+    ensures { λ r. ⌜ Took (parsedMonth r) 1 (length (now (l .entry))) ⌝ }
 {
     let x = get(l, 0);
     if is_within(JANUARY, x, DECEMBER) {
-        return Found::Is((x - JANUARY + 1) as u32, 1);
+        return MonthFound::Is((x - JANUARY + 1) as u32);
     }
-    Found::Nothing
+    MonthFound::Nothing
 }
 
 // Weekday::parse: Monday is 0.
-pub fn read_weekday(l: &[u64]) -> Found
-    ensures { λ r. ⌜ parsedNumber r ≡ weekdayOf (now (l .entry)) ⌝ }
-    ensures { λ r. ⌜ Took (parsedNumber r) 1 (length (now (l .entry))) ⌝ }
+pub fn read_weekday(l: &[u64]) -> WeekdayFound
+    ensures { λ r. ⌜ parsedWeekday r ≡ weekdayOf (now (l .entry)) ⌝ }
+    ensures { λ r. ⌜ Took (parsedWeekday r) 1 (length (now (l .entry))) ⌝ }
 {
     let x = get(l, 0);
     if is_within(MONDAY, x, SUNDAY) {
-        return Found::Is((x - MONDAY) as u32, 1);
+        return WeekdayFound::Is((x - MONDAY) as u32);
     }
-    Found::Nothing
+    WeekdayFound::Nothing
 }
 
 // RelativeSpecifier::parse

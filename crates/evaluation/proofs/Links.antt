@@ -1,4 +1,4 @@
--- The links of a flat reading are walked from the last to the first, whatever is carried along: a moment or a refusal, steps, a count.
+-- The links of a chain are walked from the last to the first, whatever is carried along: a moment or a refusal, steps, a count.
 use Prim.Native.Nat.{ℕ, zero, suc, _-_, _≤_, _<_}
 use native.Mathlib.Omega.{arith}
 use mathlib.Core.Path.{_≡_, refl, ap, _∙_}
@@ -11,18 +11,17 @@ use Rattle.calendar.specs.declared.moments.Moment.{Moment}
 use Rattle.dates.specs.Durations.{Duration}
 use Rattle.dates.specs.declared.duration.Slot.{Slot}
 use Rattle.phrase.specs.Tree.{DateTime, around}
-use Rattle.phrase.specs.Flat.{rowDuration, linksFrom, treeOf, blankLink}
-use Rattle.phrase.specs.declared.reading.Link.{Link}
-use Rattle.phrase.specs.declared.reading.Reading.{Reading}
+use Rattle.phrase.specs.Chains.{rowDuration, baseOf, linksFrom, treeOf, blankLink}
+use Rattle.phrase.specs.declared.chain.Link.{Link}
+use Rattle.phrase.specs.declared.chain.Chain.{Chain}
 use Rattle.evaluation.specs.Steps.{durationStep}
 use Rattle.evaluation.specs.Evaluate.{evaluate}
-use Rattle.evaluation.specs.Formed.{baseOf}
 
 -- link i, and its duration
-abbrev pub linkAt : Reading → ℕ → Link
+abbrev pub linkAt : Chain → ℕ → Link
 linkAt r i = getD (r .links) i blankLink
 
-abbrev pub lasting : Reading → ℕ → Duration
+abbrev pub lasting : Chain → ℕ → Duration
 lasting r i = rowDuration (slice (linkAt r i .from) (linkAt r i .to) (r .parts .items))
 
 -- what a duration, back or on, makes of what is carried along
@@ -32,14 +31,14 @@ module _ {X : Type 0} (by : Bool → Duration → X → X) where
   walk items (k ∷ ks) x = by (k .back) (rowDuration (slice (k .from) (k .to) items)) (walk items ks x)
 
   -- what the links from i on make of it
-  abbrev pub linksAt : Reading → ℕ → X → X
+  abbrev pub linksAt : Chain → ℕ → X → X
   linksAt r i x = walk (r .parts .items) (slice i (r .m) (r .links)) x
 
   -- no link yet
-  pub no-link : (r : Reading) (x : X) → linksAt r (r .m) x ≡ x
+  pub no-link : (r : Chain) (x : X) → linksAt r (r .m) x ≡ x
   no-link r x = rw (slice-empty (r .m) (r .links))
 
-  module _ (r : Reading) (x : X) (most : r .m ≤ length (r .links)) where
+  module _ (r : Chain) (x : X) (most : r .m ≤ length (r .links)) where
     pub next-link : (i : ℕ) → i < r .m → linksAt r i x ≡ by (linkAt r i .back) (lasting r i) (linksAt r (suc i) x)
     next-link i h = rw (slice-cons i (r .m) (r .links) blankLink h most)
 
@@ -57,9 +56,9 @@ module _ {X : Type 0} (by : Bool → Duration → X → X) where
         let d = rowDuration (slice (k .from) (k .to) items) in
         said (k .back) d (linksFrom ks items t) ∙ ap (by (k .back) d) (walked ks items t)
 
-    pub reading-walked : (r : Reading) → value (treeOf r) ≡ linksAt r 0 (value (baseOf r))
+    pub chain-walked : (r : Chain) → value (treeOf r) ≡ linksAt r 0 (value (baseOf r))
     unfolding treeOf
-    reading-walked r = walked (take (r .m) (r .links)) (r .parts .items) (baseOf r)
+    chain-walked r = walked (take (r .m) (r .links)) (r .parts .items) (baseOf r)
 
 -- a duration from where a moment has led
 abbrev pub stepped : Bool → Duration → Outcome → Outcome
@@ -71,7 +70,7 @@ unfolding evaluate
 around-step n true d x = refl
 around-step n false d x = refl
 
-module _ (r : Reading) (o : Outcome) (most : r .m ≤ length (r .links)) where
+module _ (r : Chain) (o : Outcome) (most : r .m ≤ length (r .links)) where
   -- one link more, from a moment
   pub from-moment : (i : ℕ) {t : Moment} → 0 < i → i ≤ r .m → linksAt stepped r i o ≡ moment t
       → linksAt stepped r (i - 1) o ≡ durationStep (linkAt r (i - 1) .back) (lasting r (i - 1)) t

@@ -11,7 +11,7 @@ use Rattle.calendar.specs.declared.moments.Moment.{Moment}
 use Rattle.dates.specs.Durations.{Duration, part, concat}
 use Rattle.dates.specs.declared.duration.Part.{Part}
 use Rattle.dates.specs.declared.duration.Slot.{Slot}
-use Rattle.phrase.specs.Flat.{blankSlot, durationFrom, rowDuration}
+use Rattle.phrase.specs.Chains.{blankSlot, durationFrom, rowDuration}
 use Rattle.evaluation.specs.Steps.{partStep, durationStep}
 
 -- what a part makes of what is carried along

@@ -4,4 +4,3 @@ pub mod Dates
 pub mod Times
 pub mod Cases
 pub mod Evaluate
-pub mod Formed

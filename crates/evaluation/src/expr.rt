@@ -20,7 +20,7 @@ ghost use Prim.Native.Nat.{_≤_, _<_, _%_};
 ghost use lib.Seq.{slice};
 ghost use Rattle.calendar.specs.Moments.{IsMoment, andThen, reachedOf, Valid};
 ghost use Rattle.expressions.specs.Shapes.{exprFrom, hasDuration};
-ghost use Rattle.phrase.specs.Flat.{rowDuration};
+ghost use Rattle.phrase.specs.Chains.{rowDuration};
 ghost use Rattle.evaluation.specs.Steps.{durationStep};
 ghost use Rattle.evaluation.specs.Weekdays.{backTo};
 ghost use Rattle.evaluation.specs.Evaluate.{byYear, isYear, isWeek, isMonthAndDay};

@@ -9,7 +9,7 @@ ghost use Prim.Native.Nat.{_≤_, _<_};
 ghost use lib.Seq.{slice};
 ghost use Rattle.calendar.specs.Moments.{IsMoment, reachedOf, Valid};
 ghost use Rattle.evaluation.specs.Steps.{unitStep, partStep, durationStep};
-ghost use Rattle.phrase.specs.Flat.{rowDuration};
+ghost use Rattle.phrase.specs.Chains.{rowDuration};
 
 // So many units, back or on: days, weeks, hours and minutes are fixed lengths.
 pub(crate) fn unit_step(back: bool, k: u32, unit: Unit, t: Moment) -> Reached

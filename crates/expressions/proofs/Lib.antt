@@ -1,3 +1,3 @@
-pub mod Few
-pub mod Own
+pub mod OwnDuration
+pub mod ExprAnswers
 pub mod Small

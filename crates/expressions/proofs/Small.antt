@@ -10,7 +10,8 @@ use Rattle.dates.specs.Dates.{dateOf}
 use Rattle.dates.specs.Units.{unitOf, relativeSpecifierOf}
 use Rattle.dates.specs.Durations.{Duration, isSubDaily}
 use Rattle.dates.specs.declared.date.Date.{Date}
-use Rattle.dates.proofs.Small.{Small, SmallDate, SmallDuration, Gives, nothing-gives, is-gives, pick-gives, then-gives, if-let-gives, any}
+use Rattle.dates.proofs.Each.{Gives, nothing-gives, is-gives, pick-gives, then-each, then-gives, if-let-each, if-let-gives}
+use Rattle.dates.proofs.Small.{Small, SmallDate, SmallDuration}
 use Rattle.dates.proofs.Small.{date-small, weekday-small, duration-small}
 use Rattle.expressions.specs.Tree.{DateExpr, date, dateRelative, dateExpressionAfter, dateExpressionBefore, unitRelative}
 use Rattle.expressions.specs.Tree.{relativeWeekday, weekdayRelative, weekdayExpressionBefore, before, after, weekday, empty}
@@ -42,8 +43,8 @@ SmallTail stray = Unit
 tail-small : (l : List ℕ) → Gives SmallTail (tailOf l)
 unfolding tailOf durationTailOf inTailOf
 tail-small l =
-    if-let-gives _ (any (relativeSpecifierOf l))
-    (λ s t a. if-let-gives _ (any (unitOf (drop t l))) (λ u k b. is-gives tt) (is-gives tt))
+    if-let-each (relativeSpecifierOf l) _ _
+    (λ s t e. if-let-each (unitOf (drop t l)) _ _ (λ u k f. is-gives tt) (is-gives tt))
     (if-let-gives _ (duration-small l)
     (λ d t a. pick-gives (isAt l t lexeme.Ago && not (isSubDaily d)) (is-gives a) (is-gives tt))
     (pick-gives (isAt l 0 lexeme.In)
@@ -79,9 +80,9 @@ unfolding weekdayExprOf relativeExprOf
 weekday-expr-small l =
     if-let-gives _ (weekday-small l)
     (λ w t a. if-let-gives _ (tail-small (drop t l)) (λ x u b. weekday-tail w t x u a b) (is-gives a))
-    (then-gives _ (any (relativeSpecifierOf l)) (λ s t a.
+    (then-each (relativeSpecifierOf l) _ (λ s t e.
     if-let-gives _ (weekday-small (drop t l)) (λ w u b. is-gives b)
-    (then-gives _ (any (unitOf (drop t l))) (λ k u b. is-gives tt))))
+    (then-each (unitOf (drop t l)) _ (λ k u f. is-gives tt))))
 
 -- a date expression
 pub expr-small : (l : List ℕ) → Gives SmallExpr (dateExprOf l)

@@ -8,6 +8,7 @@ use dates::units::RelativeSpecifier;
 use dates::units::SpecifierFound;
 use dates::units::Unit;
 use dates::units::UnitFound;
+use dates::units::WeekdayFound;
 use dates::units::read_specifier;
 use dates::units::read_unit;
 use dates::units::read_weekday;
@@ -15,15 +16,14 @@ use lexer::lexeme::AFTER;
 use lexer::lexeme::AGO;
 use lexer::lexeme::FROM;
 use lexer::lexeme::IN;
-use numbers::Found;
 use numbers::slices::is_at;
 use numbers::slices::rest;
 ghost use mathlib.Core.Path.{_≡_};
 ghost use Prim.Native.Nat.{ℕ, _+_, _≤_};
 ghost use lib.ListN.{length, drop};
-ghost use Rattle.dates.specs.Parsed.{is, andThen};
+ghost use Rattle.dates.specs.Parsed.{is, andThen, stopped};
 ghost use Rattle.dates.specs.Durations.{Duration, isSubDaily};
-ghost use Rattle.dates.specs.Dates.{dateOf};
+ghost use Rattle.dates.specs.Dates.{dateOf, parsedDate};
 ghost use Rattle.expressions.specs.Tree.{after};
 ghost use Rattle.expressions.specs.DateExprs.{relative, ago, inside, stray, inTailOf, durationTailOf, tailOf, withDurationOf};
 ghost use Rattle.expressions.specs.DateExprs.{relativeExprOf, weekdayExprOf, undatedOf, dateExprOf};
@@ -52,7 +52,7 @@ enum Head {
     Weekday(u32),
 }
 
-// A date expression, the lexemes taken, and the place of the first lexeme of its duration, 0 where it has none.
+// A date expression, the lexemes taken, and the place of the first lexeme of its duration, 0 where it has none; `Overflow` is refusal 6.
 pub enum ExprTaken {
     Is(Expr, usize, usize),
     Nothing,
@@ -184,16 +184,26 @@ fn read_tail(l: &[u64], h: Head, t: usize) -> ExprTaken
     relative(h, spec, unit, t + 2)
 }
 
+// Where no date is found: nothing, or the overflow.
+fn expr_stopped(a: DateFound) -> ExprTaken
+    ensures { λ r. ⌜ r ≡ answerAt 0 (stopped (parsedDate a)) ⌝ }
+{
+    let DateFound::Overflow = a else {
+        return ExprTaken::Nothing;
+    };
+    ExprTaken::Overflow
+}
+
 // after <date> | from <date>: the date behind a duration and its connection, which end at t
 fn read_after(l: &[u64], t: usize) -> ExprTaken
     requires { ⌜ t ≤ length (now l) ⌝ }
     ensures { λ r. ⌜ ((dur : Duration) → r ≡ answerAt 0 (andThen (dateOf (drop t (now (l .entry)))) (λ d u. is (after dur d) (t + u)))) ⌝ }
 {
-    match read_date(rest(l, t)) {
-        DateFound::Is(d, u) => ExprTaken::Is(Expr::After(d), t + u, 0),
-        DateFound::Nothing => ExprTaken::Nothing,
-        DateFound::Overflow => ExprTaken::Overflow,
-    }
+    let a = read_date(rest(l, t));
+    let DateFound::Is(d, u) = a else {
+        return expr_stopped(a);
+    };
+    ExprTaken::Is(Expr::After(d), t + u, 0)
 }
 
 // What stands behind a duration of t lexemes; a sub-daily one is given up.
@@ -224,23 +234,23 @@ fn read_relative(l: &[u64]) -> ExprTaken
         return ExprTaken::Nothing;
     };
     let after = rest(l, 1);
-    let Found::Is(w, u) = read_weekday(after) else {
+    let WeekdayFound::Is(w) = read_weekday(after) else {
         let UnitFound::Is(unit) = read_unit(after) else {
             return ExprTaken::Nothing;
         };
         return ExprTaken::Is(Expr::UnitRelative(spec, unit), 2, 0);
     };
-    ExprTaken::Is(Expr::RelativeWeekday(spec, w), 1 + u, 0)
+    ExprTaken::Is(Expr::RelativeWeekday(spec, w), 2, 0)
 }
 
 // A weekday and its tail, or a relative specifier.
 fn read_weekday_expr(l: &[u64]) -> ExprTaken
     ensures { λ r. ⌜ r ≡ answerAt (weekdayPlace (now (l .entry))) (weekdayExprOf (now (l .entry))) ⌝ }
 {
-    let Found::Is(w, t) = read_weekday(l) else {
+    let WeekdayFound::Is(w) = read_weekday(l) else {
         return read_relative(l);
     };
-    read_tail(l, Head::Weekday(w), t)
+    read_tail(l, Head::Weekday(w), 1)
 }
 
 // A duration and what stands behind it, or what begins with a weekday or a relative specifier.

@@ -1,3 +1,2 @@
-pub mod Short
-pub mod Made
+pub mod ReadyNumbers
 pub mod Back

@@ -6,10 +6,12 @@ use calendar::moments::Reached;
 use ready::make_ready;
 use records::record::encode;
 use records::run::run_ready;
+use refusals::Refusal;
 ghost use mathlib.Core.Path.{_≡_};
 ghost use Prim.Native.Nat.{_≤_};
 ghost use Rattle.lexer.specs.Keywords.{keywords};
-ghost use Rattle.answer.specs.Answer.{momentOf, placed, answerOf};
+ghost use Rattle.calendar.specs.Moments.{momentOf};
+ghost use Rattle.answer.specs.Answer.{placed, answerOf};
 ghost use Rattle.steps.specs.Running.{runOf};
 ghost use Rattle.ready.specs.Ready.{readyOf};
 ghost use Rattle.records.specs.Records.{decodeOf};
@@ -21,12 +23,12 @@ const PLACE: u64 = 65536;
 const LENGTH: u64 = 4294967296;
 
 // A refusal as one number.
-fn refusal(number: u8, place: usize, end: usize) -> u64
-    requires { ⌜ (place ≤ end) × (end ≤ 256) ⌝ }
-    ensures { λ r. ⌜ r ≡ code number place end ⌝ }
+fn code(refusal: Refusal) -> u64
+    requires { ⌜ (refusal .place ≤ refusal .end) × (refusal .end ≤ 256) ⌝ }
+    ensures { λ r. ⌜ r ≡ code refusal ⌝ }
 {
-    let part = end - place;
-    (number as u64) + PLACE * (place as u64) + LENGTH * (part as u64)
+    let part = refusal.end - refusal.place;
+    (refusal.number as u64) + PLACE * (refusal.place as u64) + LENGTH * (part as u64)
 }
 
 // A phrase at a now: 0 and the moment's six numbers, or a refusal and nothing written.
@@ -44,12 +46,20 @@ pub extern "C" fn fuzzy_read(
     ensures { λ r. ⌜ r ≡ codeOf (answerOf keywords (now (phrase .entry)) (momentOf year month day hour minute second)) ⌝ }
     ensures { λ r. ⌜ now (moment .exit) ≡ momentAfter (answerOf keywords (now (phrase .entry)) (momentOf year month day hour minute second)) (now (moment .entry)) ⌝ }
 {
-    match answer(phrase, year, month, day, hour, minute, second) {
+    let now = Moment {
+        year,
+        month,
+        day,
+        hour,
+        minute,
+        second,
+    };
+    match answer(phrase, now) {
         Answered::At(t) => {
             *moment = [t.year, t.month, t.day, t.hour, t.minute, t.second];
             0
         }
-        Answered::Refused { number, place, end } => refusal(number, place, end),
+        Answered::Refused(refusal) => code(refusal),
     }
 }
 
@@ -61,13 +71,13 @@ pub extern "C" fn fuzzy_make_ready(phrase: &[u8], ready: &mut [u8; 384]) -> u64
     ensures { λ r. ⌜ now (ready .exit) ≡ readyAfter (readyOf keywords (now (phrase .entry))) (now (ready .entry)) ⌝ }
 {
     let made = make_ready(phrase);
-    let number = made.number;
-    if number == 0 {
+    let refusal = made.refusal;
+    if refusal.number == 0 {
         let plan = made.plan;
         encode(plan, ready);
         return LENGTH * ((16 * plan.n) as u64);
     }
-    refusal(number, made.place, made.end)
+    code(refusal)
 }
 
 // A ready phrase at a now: 0 and the moment's six numbers, or a refusal of 8 to 13 and nothing written.
@@ -85,9 +95,14 @@ pub extern "C" fn fuzzy_run(
     ensures { λ r. ⌜ r ≡ codeOf (placed (runOf (decodeOf (now (ready .entry))) (momentOf year month day hour minute second))) ⌝ }
     ensures { λ r. ⌜ now (moment .exit) ≡ momentAfter (placed (runOf (decodeOf (now (ready .entry))) (momentOf year month day hour minute second))) (now (moment .entry)) ⌝ }
 {
-    let now = Moment::first()
-        .with_date(year, month, day)
-        .with_time(hour, minute, second);
+    let now = Moment {
+        year,
+        month,
+        day,
+        hour,
+        minute,
+        second,
+    };
     match run_ready(ready, now) {
         Reached::At(t) => {
             *moment = [t.year, t.month, t.day, t.hour, t.minute, t.second];

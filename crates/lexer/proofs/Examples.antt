@@ -5,11 +5,12 @@ use Prim.Native.Nat.{ℕ, _+_}
 use Prim.Native.Char.{code}
 use lib.ListN.{replicate}
 use Rattle.lexer.specs.Lexemes.{Fifty, Dash, Five, Day, From, January, Comma, Colon, NUM}
-use Rattle.lexer.specs.Words.{bytesOf}
+use Rattle.digits.specs.Bytes.{bytesOf}
 use Rattle.lexer.specs.Keywords.{keywords}
 use Rattle.lexer.specs.Classes.{classOf, markOf}
 use Rattle.refusals.specs.Table as refusal
-use Rattle.lexer.specs.Lex.{numberOf, wordAt, numberAt, tokenAt, Item, item, Lexed, refused, whole, lexed, codesOf, front}
+use Rattle.refusals.specs.Answers.{given, refuse}
+use Rattle.lexer.specs.Lex.{numberOf, wordAt, numberAt, tokenAt, Item, item, Lexed, lexed, codesOf, front}
 
 -- a phrase and what is read of it
 record Example : Type 0 where
@@ -27,17 +28,17 @@ mixed =
 
 abbrev examples : List Example
 examples =
-    reads (bytesOf "Fifty-five days FROM January 1, 2010 5:00") (whole mixed) ∷
+    reads (bytesOf "Fifty-five days FROM January 1, 2010 5:00") (given mixed) ∷
     -- a word that is no keyword, and a byte with no meaning
-    reads (bytesOf "in forty days") (refused refusal.Unknown 3 8) ∷
-    reads (bytesOf "5 + 5") (refused refusal.Unknown 2 3) ∷
+    reads (bytesOf "in forty days") (refuse refusal.Unknown 3 8) ∷
+    reads (bytesOf "5 + 5") (refuse refusal.Unknown 2 3) ∷
     -- the largest number is taken, the next one is not
-    reads (bytesOf "04294967295 4294967296") (refused refusal.LargeDigits 12 22) ∷
+    reads (bytesOf "04294967295 4294967296") (refuse refusal.LargeDigits 12 22) ∷
     -- 65 lexemes
-    reads (replicate 65 (code ",")) (refused refusal.TooMany 64 65) ∷
+    reads (replicate 65 (code ",")) (refuse refusal.TooMany 64 65) ∷
     -- 256 bytes, and 257
-    reads (replicate 256 (code " ")) (whole []) ∷
-    reads (replicate 257 (code " ")) (refused refusal.TooLong 0 0) ∷
+    reads (replicate 256 (code " ")) (given []) ∷
+    reads (replicate 257 (code " ")) (refuse refusal.TooLong 0 0) ∷
     []
 
 examples-hold : map (λ (x : Example). lexed keywords (x .phrase)) examples ≡ map (λ (x : Example). x .answer) examples

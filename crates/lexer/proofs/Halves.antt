@@ -8,13 +8,14 @@ use native.Mathlib.Omega.{arith}
 use lib.Dec.{T}
 use lib.Ieee.Fits.{and-l, and-r}
 use lib.ListN.{length}
+use Rattle.digits.proofs.Order.{Tri, below, equal, above, tri}
 use Rattle.lexer.specs.Words.{Word, ordered, isSame, meaning}
 use Rattle.lexer.specs.Table.{isLess, spellingAt, lexemeAt}
 use Rattle.lexer.specs.declared.find.Order.{Order}
 use Rattle.lexer.specs.declared.find.Order.the-variants.{Less, Same, More}
 use Rattle.lexer.specs.declared.find.Found.{Found}
 use Rattle.lexer.specs.declared.find.Found.the-variants.{Lexeme, Unknown}
-use Rattle.lexer.proofs.Order.{Tri, below, equal, above, tri, same-equal, more-less, less-more, less-trans, clash}
+use Rattle.lexer.proofs.Order.{same-equal, more-less, less-more, less-trans, clash}
 
 -- w comes before the first row
 abbrev before : Word → List Word → Bool

@@ -9,11 +9,11 @@ use lib.Dec.{T, eqb, leb, leb→le}
 use lib.Ieee.Fits.{and-l, and-r}
 use lib.ListN.{length, drop, length-drop}
 use borrow.Author.Tests.{lt-ltb, le-ltb}
+use Rattle.digits.proofs.Order.{Tri, below, equal, above, tri}
 use Rattle.lexer.specs.declared.find.Order.{Order}
 use Rattle.lexer.specs.declared.find.Order.the-variants.{Less, Same, More}
 use Rattle.lexer.specs.Words.{ordered, isSmall, small}
 use Rattle.lexer.specs.Table.{filler, fixed, bytesFrom, headOf, tailOf, byNumber, byKey, Stands}
-use Rattle.lexer.proofs.Order.{Tri, below, equal, above, tri}
 
 -- a word of small letters: its first, and the rest
 module _ (b : ℕ) (w : List ℕ) (t : T (small (b ∷ w))) where

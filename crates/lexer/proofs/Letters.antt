@@ -11,8 +11,9 @@ use lib.Ieee.Fits.{and-i, and-l, and-r}
 use lib.ListN.{length, getD, take, drop, drop-of-length-le, length-map}
 use lib.Seq.{drop-cons, drop-drop, length-take-le}
 use borrow.Author.Tests.{eqb-true, ne-eqb, ltb-true, ltb-false}
+use Rattle.digits.specs.Digits.{isDigit}
 use Rattle.lexer.specs.Words.{lowerOf, small, folded}
-use Rattle.lexer.specs.Classes.{Letter, isLetter, isDigit, letterOf, classOf, markOf}
+use Rattle.lexer.specs.Classes.{Letter, isLetter, letterOf, classOf, markOf}
 use Rattle.lexer.specs.Table.{fixed, bytesFrom, tailOf}
 use Rattle.lexer.specs.Lex.{run, wordFrom, letterAt}
 use Rattle.lexer.proofs.Runs.{run-most, run-step, run-stop, run-over}

@@ -6,9 +6,7 @@ pub mod Rooms
 pub mod Letters
 pub mod Cells
 pub mod Rows
-pub mod Tabled
 pub mod Runs
 pub mod Lines
 pub mod Places
 pub mod Examples
-pub mod Numbered

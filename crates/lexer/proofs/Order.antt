@@ -1,28 +1,15 @@
--- How two numbers stand to each other, and byte order: it turns round, is transitive, and only equal lists are the same. Assumes nothing.
+-- Byte order: it turns round, is transitive, and only equal lists are the same. Assumes nothing.
 use mathlib.Core.Path.{_≡_, refl, sym, ap, _∙_}
 use mathlib.Core.Bool.{Bool, true, false, not, cond}
 use mathlib.Core.List.{List, [], _∷_}
 use Prim.Native.Nat.{ℕ, suc, _≤_, _<_, zero-le, suc-le-suc}
 use native.Mathlib.Omega.{arith}
-use lib.Dec.{T, T-not, eqb, eqb-refl, ltb}
-use borrow.Author.Tests.{lt-ltb, le-ltb, ltb-true, ltb-false}
+use lib.Dec.{T, T-not, eqb, eqb-refl}
+use borrow.Author.Tests.{lt-ltb, le-ltb}
+use Rattle.digits.proofs.Order.{Tri, below, equal, above, tri}
 use Rattle.lexer.specs.declared.find.Order.{Order}
 use Rattle.lexer.specs.declared.find.Order.the-variants.{Less, Same, More}
 use Rattle.lexer.specs.Words.{ordered}
-
--- two numbers: one is below the other, or they are equal
-pub data Tri (x y : ℕ) : Type 0 where
-  below : x < y → Tri x y
-  equal : x ≡ y → Tri x y
-  above : y < x → Tri x y
-
-pub tri : (x y : ℕ) → Tri x y
-tri x y = go (ltb x y) refl (ltb y x) refl
-  where
-    go : (b : Bool) → ltb x y ≡ b → (d : Bool) → ltb y x ≡ d → Tri x y
-    go true e d f = below (ltb-true x y e)
-    go false e true f = above (ltb-true y x f)
-    go false e false f = equal (omega (arith, ltb-false x y e, ltb-false y x f))
 
 -- two counts, where the second counts all that the first does
 pub counted : (t u : Bool) (n m : ℕ) → (t ≡ true → u ≡ true) → n ≤ m → cond t (suc n) 0 ≤ cond u (suc m) 0

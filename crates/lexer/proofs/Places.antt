@@ -1,19 +1,20 @@
--- Where the lexemes and the refused part stand in a phrase. Assumes nothing.
+-- Where the lexemes and the refused part stand in a phrase, and which refusals there are. Assumes nothing.
 use mathlib.Core.Path.{_≡_, refl}
 use mathlib.Core.Bool.{Bool, true, false, cond}
 use mathlib.Core.List.{List, [], _∷_}
-use Prim.Native.Nat.{ℕ, zero, suc, _+_, _≤_, _<_, zero-le, suc-le-suc}
+use Prim.Native.Nat.{ℕ, zero, suc, _+_, _≤_, _<_, min, zero-le, suc-le-suc}
 use native.Mathlib.Nat.{not-suc-le-zero, le-of-suc-le-suc}
 use native.Mathlib.Omega.{arith}
 use lib.Dec.{eqb, leb, ltb}
-use borrow.Author.Tests.{ltb-true}
+use borrow.Author.Tests.{leb-true, ltb-true}
 use lib.ListN.{length, getD}
 use Rattle.lexer.specs.Words.{Word, meaning, folded}
 use Rattle.lexer.specs.Classes.{Gap, Letter, Digit, Mark, classOf, markOf}
 use Rattle.refusals.specs.Table as refusal
-use Rattle.lexer.specs.Lex.{runEnd, between, numberOf, ofWord, ofNumber, wordAt, numberAt, tokenOf, tokenFrom, tokenAt}
-use Rattle.lexer.specs.Lex.{Item, item, Lexed, refused, whole, ahead, ifTaken, lexFrom, lexed, ifLexeme, frontFrom, front}
-use Rattle.lexer.specs.Lex.{startsOf, endedOf, Placed, placeOf, offendingOf}
+use Rattle.refusals.specs.Answers.{refusalAt, refuse, between}
+use Rattle.refusals.proofs.Holds.{Holds, of-given, of-refusal, Bounded, then-holds}
+use Rattle.lexer.specs.Lex.{runEnd, numberOf, ofWord, ofNumber, wordAt, numberAt, tokenOf, tokenFrom, tokenAt}
+use Rattle.lexer.specs.Lex.{Item, item, Lexed, ahead, ifTaken, lexFrom, lexed, ifLexeme, frontFrom, front, startsOf, endedOf, Placed}
 use Rattle.lexer.specs.declared.find.Found.{Found}
 use Rattle.lexer.specs.declared.find.Found.the-variants.{Lexeme, Unknown}
 use Rattle.lexer.specs.declared.lex.Digits.{Digits}
@@ -22,7 +23,6 @@ use Rattle.lexer.specs.declared.lex.Ended.{Ended}
 use Rattle.lexer.specs.declared.lex.Token.{Token}
 use Rattle.lexer.specs.declared.lex.Token.the-variants.{Finish, Taken, Refused}
 use Rattle.lexer.proofs.Runs.{run-within}
-use Rattle.lexer.proofs.Lines.{front-whole}
 
 -- the bytes from a up to e begin and end within the first n
 record Part (a e n : ℕ) : Type 0 where
@@ -30,19 +30,19 @@ record Part (a e n : ℕ) : Type 0 where
   start-end : a ≤ e
   end-most : e ≤ n
 
--- a token's bytes are such a part
+-- a token's bytes are such a part, and a refused one has a number of 1 to 4
 abbrev Within : ℕ → Token → Type 0
 Within n Finish = Unit {0}
 Within n (Taken k a e) = Part a e n
-Within n (Refused m a e) = Part a e n
+Within n (Refused r) = Bounded 1 4 n r
 
 within-word : (f : Found) (a e n : ℕ) → Part a e n → Within n (ofWord f a e)
 within-word (Lexeme l) a e n p = p
-within-word Unknown a e n p = p
+within-word Unknown a e n p = omega arith
 
 within-number : (d : Digits) (a e n : ℕ) → Part a e n → Within n (ofNumber d a e)
 within-number (Value v) a e n p = p
-within-number Over a e n p = p
+within-number Over a e n p = omega arith
 
 -- whatever begins at a byte of the phrase
 module _ (ws : List Word) (s : List ℕ) (a : ℕ) (h : a < length s) where
@@ -64,11 +64,11 @@ module _ (ws : List Word) (s : List ℕ) (a : ℕ) (h : a < length s) where
   token-of-within k = go (eqb k Letter) (eqb k Digit) (eqb k Mark)
     where
       go : (l d m : Bool) → Within (length s)
-          (cond l (wordAt ws s a) (cond d (numberAt s a) (cond m (Taken (markOf (getD s a 0)) a (a + 1)) (Refused refusal.Unknown a (a + 1)))))
+          (cond l (wordAt ws s a) (cond d (numberAt s a) (cond m (Taken (markOf (getD s a 0)) a (a + 1)) (Refused (refusalAt refusal.Unknown a (a + 1))))))
       go true d m = word-within
       go false true m = number-within
       go false false true = byte-part
-      go false false false = byte-part
+      go false false false = omega arith
 
 token-within : (ws : List Word) (s : List ℕ) (at : ℕ) → Within (length s) (tokenAt ws s at)
 unfolding tokenAt
@@ -97,7 +97,7 @@ few-token : (ws : List Word) (room : ℕ) (s : List ℕ) (t : Token) → Within 
     → ((at : ℕ) → Few room (length s) (frontFrom ws room s at))
     → Few (suc room) (length s) (ifLexeme t (λ k a e. item k a ∷ frontFrom ws room s e))
 few-token ws room s Finish p h = (zero-le, tt)
-few-token ws room s (Refused m a e) p h = (zero-le, tt)
+few-token ws room s (Refused r) p h = (zero-le, tt)
 few-token ws room s (Taken k a e) p h = (suc-le-suc (h e .0), (p .start-below, h e .1))
 
 few-from : (ws : List Word) (room : ℕ) (s : List ℕ) (at : ℕ) → Few room (length s) (frontFrom ws room s at)
@@ -125,48 +125,46 @@ module _ (ws : List Word) (s : List ℕ) where
   pub start-below : (k : ℕ) → k < length (front ws s) → getD (startsOf (front ws s)) k 0 < length s
   start-below k h = below-at (length s) (front ws s) (few ws s .1) k h
 
--- a refused part stands within n bytes
-abbrev Fits : ℕ → Lexed → Type 0
-Fits n (refused m a e) = (a ≤ e) × (e ≤ n)
-Fits n (whole l) = Unit {0}
+-- at most so many lexemes; or a refusal of 1 to 4, whose part stands within n bytes
+abbrev Fits : ℕ → ℕ → Lexed → Type 0
+Fits room n w = Holds (λ l. length l ≤ room) (Bounded 1 4 n) w
 
-fits-ahead : (n : ℕ) (l : List Item) (r : Lexed) → Fits n r → Fits n (ahead l r)
-fits-ahead n l (refused m a e) h = h
-fits-ahead n l (whole m) h = tt
+fits-token : (room n : ℕ) (t : Token) (g : ℕ → ℕ → ℕ → Lexed) → Within n t → ((k a e : ℕ) → Part a e n → Fits room n (g k a e))
+    → Fits room n (ifTaken t g)
+fits-token room n Finish g p h = of-given zero-le
+fits-token room n (Taken k a e) g p h = h k a e p
+fits-token room n (Refused r) g p h = of-refusal p
 
-fits-token : (n : ℕ) (t : Token) (g : ℕ → ℕ → ℕ → Lexed) → Within n t → ((k a e : ℕ) → Part a e n → Fits n (g k a e)) → Fits n (ifTaken t g)
-fits-token n Finish g p h = tt
-fits-token n (Taken k a e) g p h = h k a e p
-fits-token n (Refused m a e) g p h = (p .start-end, p .end-most)
-
-fits-from : (ws : List Word) (room : ℕ) (s : List ℕ) (at : ℕ) → Fits (length s) (lexFrom ws room s at)
+fits-from : (ws : List Word) (room : ℕ) (s : List ℕ) (at : ℕ) → Fits room (length s) (lexFrom ws room s at)
 fits-from ws zero s at =
-    fits-token (length s) (tokenAt ws s at) (λ k a e. refused refusal.TooMany a e) (token-within ws s at) (λ k a e p. (p .start-end, p .end-most))
+    fits-token 0 (length s) (tokenAt ws s at) (λ k a e. refuse refusal.TooMany a e) (token-within ws s at) (λ k a e p. of-refusal (omega arith))
 fits-from ws (suc room) s at =
-    fits-token (length s) (tokenAt ws s at) (λ k a e. ahead (item k a ∷ []) (lexFrom ws room s e)) (token-within ws s at)
-    (λ k a e p. fits-ahead (length s) (item k a ∷ []) (lexFrom ws room s e) (fits-from ws room s e))
+    fits-token (suc room) (length s) (tokenAt ws s at) (λ k a e. ahead (item k a ∷ []) (lexFrom ws room s e)) (token-within ws s at)
+    (λ k a e p. then-holds _ (fits-from ws room s e) (λ l few. of-given (suc-le-suc few)))
 
-fits : (ws : List Word) (s : List ℕ) → Fits (length s) (lexed ws s)
+-- of a phrase that is lexed whole: at most 256 bytes and 64 lexemes
+pub record Whole (s : List ℕ) (l : List Item) : Type 0 where
+  pub bytes : length s ≤ 256
+  pub lexemes : length l ≤ 64
+
+-- lexing refuses 1 to 4, with a part within the phrase and the 256 bytes that it may have
+pub lexed-holds : (ws : List Word) (s : List ℕ) → Holds (Whole s) (Bounded 1 4 (min (length s) 256)) (lexed ws s)
 unfolding lexed
-fits ws s = go (leb (length s) 256)
+lexed-holds ws s = go (leb (length s) 256) refl
   where
-    go : (b : Bool) → Fits (length s) (cond b (lexFrom ws 64 s 0) (refused refusal.TooLong 0 0))
-    go true = fits-from ws 64 s 0
-    go false = (zero-le, zero-le)
+    short : {w : Lexed} → length s ≤ 256 → Fits 64 (length s) w → Holds (Whole s) (Bounded 1 4 (min (length s) 256)) w
+    short h (of-given most) = of-given (record { bytes = h; lexemes = most })
+    short h (of-refusal {r} part) = of-refusal {r = r} (omega arith)
+
+    go : (b : Bool) → leb (length s) 256 ≡ b →
+        Holds (Whole s) (Bounded 1 4 (min (length s) 256)) (cond b (lexFrom ws 64 s 0) (refuse refusal.TooLong 0 0))
+    go true e = short (leb-true (length s) 256 e) (fits-from ws 64 s 0)
+    go false e = of-refusal {r = refusalAt refusal.TooLong 0 0} (omega arith)
 
 -- an answer that is the right one stands where its bounds say
 pub placed : (ws : List Word) (s : List ℕ) {r : Ended} → r ≡ endedOf (lexed ws s) → Placed (length s) r
-placed ws s e = rw e (go (lexed ws s) refl (fits ws s))
+placed ws s e = rw e (go (lexed-holds ws s))
   where
-    go : (w : Lexed) → lexed ws s ≡ w → Fits (length s) w → Placed (length s) (endedOf w)
-    go (refused m b e) q h = record { count-most = zero-le; place-end = h .0; end-most = h .1 }
-    go (whole l) q h = record { count-most = rw (front-whole ws s l q) at (front-most ws s); place-end = zero-le; end-most = zero-le }
-
--- the place and the part of an answer
-pub ended-place : (r : Lexed) → endedOf r .place ≡ placeOf r
-ended-place (refused n a e) = refl
-ended-place (whole l) = refl
-
-pub ended-part : (s : List ℕ) (r : Lexed) → between s (endedOf r .place) (endedOf r .end) ≡ offendingOf s r
-ended-part s (refused n a e) = refl
-ended-part s (whole l) = refl
+    go : {w : Lexed} → Holds (Whole s) (Bounded 1 4 (min (length s) 256)) w → Placed (length s) (endedOf w)
+    go (of-given h) = record { count-most = h .lexemes; place-end = zero-le; end-most = zero-le }
+    go (of-refusal part) = omega arith

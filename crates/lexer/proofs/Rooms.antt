@@ -7,10 +7,10 @@ use native.Mathlib.Nat.{mul-lt-mul-of-pos-right, le-mul-of-pos-right}
 use native.Mathlib.Omega.{arith}
 use borrow.Author.Tests.{lt-ltb}
 use lib.ListN.{length}
+use Rattle.digits.proofs.Order.{Tri, below, equal, above, tri}
 use Rattle.lexer.specs.Table.{filler, fixed, bytesFrom, weightOf, Room}
 use Rattle.lexer.proofs.Cells.{length-fixed}
 use Rattle.lexer.proofs.Keys.{filler-most}
-use Rattle.lexer.proofs.Order.{Tri, below, equal, above, tri}
 
 pow-pos : (p : ℕ) → 0 < 256 ^ p
 pow-pos p = pow-le-pow-right {n = 256} (omega arith) {i = 0} {j = p} (omega arith)

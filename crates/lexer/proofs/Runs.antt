@@ -1,18 +1,18 @@
--- Runs of bytes of one class, and the number that digits say, a byte at a time. Assumes nothing.
+-- Runs of bytes of one class, a byte at a time, and the most that a run of digits says. Assumes nothing.
 use mathlib.Core.Path.{_≡_, refl, _∙_}
 use mathlib.Core.Bool.{Bool, true, false}
 use mathlib.Core.List.{List, [], _∷_}
-use Prim.Native.Nat.{ℕ, suc, _+_, _*_, _-_, _≤_, _<_, zero-le}
+use Prim.Native.Nat.{ℕ, suc, _+_, _≤_, _<_, zero-le}
 use native.Mathlib.Numerals.{add-one}
-use native.Mathlib.Nat.{le-refl}
 use native.Mathlib.Omega.{arith}
 use lib.Dec.{leb, eqb}
 use lib.ListN.{length, getD, drop, drop-of-length-le, length-drop}
 use lib.Seq.{drop-cons}
 use borrow.Author.Tests.{eq-eqb, ne-eqb, leb-true}
+use Rattle.digits.specs.Digits.{valueFrom}
 use Rattle.lexer.specs.declared.lex.Digits.the-variants.{Value, Over}
 use Rattle.lexer.specs.Classes.{classOf}
-use Rattle.lexer.specs.Lex.{run, runEnd, valueFrom, numberOf}
+use Rattle.lexer.specs.Lex.{run, runEnd, numberOf}
 use Rattle.lexer.proofs.Order.{counted}
 
 -- the run of class k from e on, by the byte at e
@@ -33,20 +33,6 @@ run-most k (b ∷ bs) = counted (eqb (classOf b) k) true (run k bs) (length bs) 
 -- a run ends within the phrase
 pub run-within : (k : ℕ) (s : List ℕ) (a : ℕ) → a ≤ length s → runEnd k s a ≤ length s
 run-within k s a h = omega (arith, run-most k (drop a s), length-drop a s)
-
--- the number that the digits from i on say behind v
-module _ (s : List ℕ) (i v : ℕ) where
-  pub value-step : i < length s → valueFrom v (drop i s) ≡ valueFrom (v * 10 + (getD s i 0 - 48)) (drop (i + 1) s)
-  value-step h = rw (drop-cons s i 0, add-one)
-
-  pub value-over : length s ≤ i → valueFrom v (drop i s) ≡ v
-  value-over h = rw (drop-of-length-le s h)
-
-pub value-least : (v : ℕ) (l : List ℕ) → v ≤ valueFrom v l
-value-least v [] = le-refl v
-value-least v (b ∷ bs) =
-    let h : v * 10 + (b - 48) ≤ valueFrom (v * 10 + (b - 48)) bs = value-least (v * 10 + (b - 48)) bs in
-    omega arith
 
 -- a number that is taken is no larger than the largest
 pub value-most : (l : List ℕ) (v : ℕ) → Value v ≡ numberOf l → v ≤ 4294967295

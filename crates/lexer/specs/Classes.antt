@@ -1,8 +1,9 @@
 -- What a byte is to the lexer. Assumes nothing.
 use Prim.Native.Nat.{ℕ}
 use Prim.Native.Char.{code}
-use mathlib.Core.Bool.{Bool, _&&_, cond}
-use lib.Dec.{leb, eqb}
+use mathlib.Core.Bool.{Bool, cond}
+use lib.Dec.{eqb}
+use Rattle.digits.specs.Digits.{isDigit}
 use Rattle.lexer.specs.Lexemes.{Comma, Colon, Slash, Dash, Dot}
 use Rattle.lexer.specs.Words.{lowerOf, isSmall}
 
@@ -33,10 +34,6 @@ isLetter b = isSmall (lowerOf b)
 -- a letter's small one, 0 for any other byte
 unfoldable pub letterOf : ℕ → ℕ
 letterOf b = cond (isLetter b) (lowerOf b) 0
-
--- 0 to 9
-abbrev pub isDigit : ℕ → Bool
-isDigit b = leb (code "0") b && leb b (code "9")
 
 -- "`- / . , :` are lexemes", in the order of the Rust's `match c`; 0 for any other byte
 unfoldable pub markOf : ℕ → ℕ

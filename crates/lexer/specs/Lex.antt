@@ -1,15 +1,16 @@
 -- How a phrase is cut into lexemes. Assumes nothing.
-use Prim.Native.Nat.{ℕ, suc, zero, _+_, _-_, _*_, _≤_, min}
-use Prim.Native.Char.{code}
+use Prim.Native.Nat.{ℕ, suc, zero, _+_, _-_, _≤_, min}
 use mathlib.Core.Bool.{cond}
 use mathlib.Core.List.{List, [], _∷_, _++_, map}
 use lib.Dec.{ltb, leb, eqb}
-use lib.ListN.{length, getD, take, drop}
+use lib.ListN.{length, getD, drop}
+use Rattle.digits.specs.Digits.{valueFrom}
 use Rattle.lexer.specs.Lexemes.{NUM}
 use Rattle.lexer.specs.Words.{Word, meaning, folded}
 use Rattle.lexer.specs.Table.{fixed, bytesFrom, headOf, tailOf}
 use Rattle.lexer.specs.Classes.{Gap, Letter, Digit, Mark, letterOf, classOf, markOf}
 use Rattle.refusals.specs.Table as refusal
+use Rattle.refusals.specs.Answers.{Answer, given, refused, refusalAt, refuse, andThen, refusalOf, between}
 use Rattle.lexer.specs.declared.find.Found.{Found}
 use Rattle.lexer.specs.declared.find.Found.the-variants.{Lexeme, Unknown}
 use Rattle.lexer.specs.declared.lex.Digits.{Digits}
@@ -29,15 +30,6 @@ run k (b ∷ bs) = cond (eqb (classOf b) k) (suc (run k bs)) 0
 abbrev pub runEnd : ℕ → List ℕ → ℕ → ℕ
 runEnd k s a = a + run k (drop a s)
 
--- the bytes from a up to e
-abbrev pub between : List ℕ → ℕ → ℕ → List ℕ
-between s a e = take (e - a) (drop a s)
-
--- the number that digits say behind v
-abbrev pub valueFrom : ℕ → List ℕ → ℕ
-valueFrom v [] = v
-valueFrom v (b ∷ bs) = valueFrom (v * 10 + (b - code "0")) bs
-
 -- `stack.parse::<u32>()`: a digit run by its value, however long it is
 unfoldable pub numberOf : List ℕ → Digits
 numberOf s = cond (leb (valueFrom 0 s) 4294967295) (Value (valueFrom 0 s)) Over
@@ -45,12 +37,12 @@ numberOf s = cond (leb (valueFrom 0 s) 4294967295) (Value (valueFrom 0 s)) Over
 -- a word from a to e by its meaning
 abbrev pub ofWord : Found → ℕ → ℕ → Token
 ofWord (Lexeme l) a e = Taken l a e
-ofWord Unknown a e = Refused refusal.Unknown a e
+ofWord Unknown a e = Refused (refusalAt refusal.Unknown a e)
 
 -- a number from a to e by its value
 abbrev pub ofNumber : Digits → ℕ → ℕ → Token
 ofNumber (Value v) a e = Taken (NUM + v) a e
-ofNumber Over a e = Refused refusal.LargeDigits a e
+ofNumber Over a e = Refused (refusalAt refusal.LargeDigits a e)
 
 -- "a run of letters is one word": the one that begins at a, as it is looked up
 abbrev pub wordFrom : List ℕ → ℕ → List ℕ
@@ -82,7 +74,7 @@ tokenOf ws k s a =
     cond (eqb k Letter) (wordAt ws s a)
     (cond (eqb k Digit) (numberAt s a)
     (cond (eqb k Mark) (Taken (markOf (getD s a 0)) a (a + 1))
-    (Refused refusal.Unknown a (a + 1))))
+    (Refused (refusalAt refusal.Unknown a (a + 1)))))
 
 -- what begins at a, or the end of the phrase
 abbrev pub tokenFrom : List Word → List ℕ → ℕ → Token
@@ -97,10 +89,9 @@ pub record Item : Type 0 where
   pub code : ℕ
   pub start : ℕ
 
--- a refusal's number, place and end of the part; or all the lexemes
-pub data Lexed : Type 0 where
-  refused : ℕ → ℕ → ℕ → Lexed
-  whole : List Item → Lexed
+-- all the lexemes, or a refusal
+abbrev pub Lexed : Type 0
+Lexed = Answer (List Item)
 
 -- a lexeme of code k whose first byte stands at a
 abbrev pub item : ℕ → ℕ → Item
@@ -108,28 +99,27 @@ item k a = record { code = k; start = a }
 
 -- lexemes in front of what follows them
 abbrev pub ahead : List Item → Lexed → Lexed
-ahead l (refused n a e) = refused n a e
-ahead l (whole m) = whole (l ++ m)
+ahead l w = andThen w (λ m. given (l ++ m))
 
 -- the end ends the phrase, a refusal is the answer, and a lexeme is handed on
 abbrev pub ifTaken : Token → (ℕ → ℕ → ℕ → Lexed) → Lexed
-ifTaken Finish g = whole []
-ifTaken (Refused n a e) g = refused n a e
+ifTaken Finish g = given []
+ifTaken (Refused r) g = refused r
 ifTaken (Taken k a e) g = g k a e
 
 -- the lexemes from a place on, left to right, with room for so many: a word or number is judged before it is counted
 abbrev pub lexFrom : List Word → ℕ → List ℕ → ℕ → Lexed
-lexFrom ws zero s at = ifTaken (tokenAt ws s at) (λ k a e. refused refusal.TooMany a e)
+lexFrom ws zero s at = ifTaken (tokenAt ws s at) (λ k a e. refuse refusal.TooMany a e)
 lexFrom ws (suc room) s at = ifTaken (tokenAt ws s at) (λ k a e. ahead (item k a ∷ []) (lexFrom ws room s e))
 
 -- `lex_line`: a phrase of at most 256 bytes and 64 lexemes
 unfoldable pub lexed : List Word → List ℕ → Lexed
-lexed ws s = cond (leb (length s) 256) (lexFrom ws 64 s 0) (refused refusal.TooLong 0 0)
+lexed ws s = cond (leb (length s) 256) (lexFrom ws 64 s 0) (refuse refusal.TooLong 0 0)
 
 -- a lexeme is handed on; neither the end nor a refusal has lexemes behind it
 abbrev pub ifLexeme : Token → (ℕ → ℕ → ℕ → List Item) → List Item
 ifLexeme Finish g = []
-ifLexeme (Refused n a e) g = []
+ifLexeme (Refused r) g = []
 ifLexeme (Taken k a e) g = g k a e
 
 -- the lexemes from a place on, in front of the end or the first refusal, with room for so many
@@ -149,23 +139,17 @@ codesOf l = map (λ (i : Item). i .code) l
 abbrev pub startsOf : List Item → List ℕ
 startsOf l = map (λ (i : Item). i .start) l
 
--- how lexing ends: a refusal with its number, or number 0 and how many lexemes
+-- how many lexemes there are, 0 where the phrase is refused
+abbrev pub countOf : Lexed → ℕ
+countOf (given l) = length l
+countOf (refused r) = 0
+
+-- how lexing ends: the refusal or none, and how many lexemes
 abbrev pub endedOf : Lexed → Ended
-endedOf (refused n a e) = record { number = n; place = a; end = e; count = 0 }
-endedOf (whole l) = record { number = 0; place = 0; end = 0; count = length l }
+endedOf w = record { refusal = refusalOf w; count = countOf w }
 
 -- where an answer stands in a phrase of n bytes: what callers need of it to cut the phrase and the arrays
 pub record Placed (n : ℕ) (r : Ended) : Type 0 where
   pub count-most : r .count ≤ 64
-  pub place-end : r .place ≤ r .end
-  pub end-most : r .end ≤ n
-
--- a refusal's place, 0 where nothing is refused
-abbrev pub placeOf : Lexed → ℕ
-placeOf (refused n a e) = a
-placeOf (whole l) = 0
-
--- "hand back the offending part": the word, byte or digits; empty where the phrase is too long or nothing is refused
-abbrev pub offendingOf : List ℕ → Lexed → List ℕ
-offendingOf s (refused n a e) = between s a e
-offendingOf s (whole l) = []
+  pub place-end : r .refusal .place ≤ r .refusal .end
+  pub end-most : r .refusal .end ≤ n

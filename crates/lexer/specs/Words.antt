@@ -1,10 +1,11 @@
 -- A word list, and what a word means by it. Assumes nothing.
 use Prim.Native.Nat.{ℕ, _+_}
 use Prim.Native.Char.{code}
-use Prim.Native.String.{String, [] as []ˢ, _∷_ as _∷ˢ_}
+use Prim.Native.String.{String}
 use mathlib.Core.Bool.{Bool, true, false, _&&_, cond}
 use mathlib.Core.List.{List, [], _∷_, map}
 use lib.Dec.{ltb, leb}
+use Rattle.digits.specs.Bytes.{bytesOf}
 use Rattle.lexer.specs.declared.find.Order.{Order}
 use Rattle.lexer.specs.declared.find.Order.the-variants.{Less, Same, More}
 use Rattle.lexer.specs.declared.find.Found.{Found}
@@ -14,11 +15,6 @@ use Rattle.lexer.specs.declared.find.Found.the-variants.{Lexeme, Unknown
 pub record Word : Type 0 where
   pub spelling : List ℕ
   pub lexeme : ℕ
-
--- the bytes of a text of ASCII characters
-abbrev pub bytesOf : String → List ℕ
-bytesOf []ˢ = []
-bytesOf (c ∷ˢ s) = code c ∷ bytesOf s
 
 -- `map.insert(spelling, lexeme)`
 abbrev pub word : String → ℕ → Word

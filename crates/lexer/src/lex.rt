@@ -12,6 +12,8 @@ use super::table::rows;
 use super::word::key_at;
 use super::word::letter;
 use refusals::LARGE_DIGITS;
+use refusals::NONE;
+use refusals::Refusal;
 use refusals::TOO_LONG;
 use refusals::TOO_MANY;
 use refusals::UNKNOWN;
@@ -22,7 +24,8 @@ ghost use lib.Seq.{sets};
 ghost use Rattle.lexer.specs.Keywords.{keywords};
 ghost use Rattle.lexer.specs.Table.{sorted, cells};
 ghost use Rattle.lexer.specs.Lex.{numberOf, wordAt, numberAt, tokenAt};
-ghost use Rattle.lexer.specs.Lex.{refused, lexed, front, codesOf, startsOf, endedOf, Placed};
+ghost use Rattle.lexer.specs.Lex.{lexed, front, codesOf, startsOf, endedOf, Placed};
+ghost use Rattle.refusals.specs.Answers.{refuse};
 
 // What a run of digits says.
 enum Digits {
@@ -30,27 +33,16 @@ enum Digits {
     Over,
 }
 
-// One step of lexing: the end, or a lexeme or a refusal with the bytes from start up to end.
+// One step of lexing: the end, a lexeme with the bytes from start up to end, or a refusal.
 pub enum Token {
     Finish,
-    Taken {
-        code: u64,
-        start: usize,
-        end: usize,
-    },
-    Refused {
-        number: u8,
-        start: usize,
-        end: usize,
-    },
+    Taken { code: u64, start: usize, end: usize },
+    Refused(Refusal),
 }
 
-// How lexing ended. Number 0: at the end of the phrase, with so many lexemes. Else a refusal: its number, its place and the end of the
-// offending part, and count 0.
+// How lexing ended: at the end of the phrase, with so many lexemes; or with a refusal, and count 0.
 pub struct Ended {
-    pub number: u8,
-    pub place: usize,
-    pub end: usize,
+    pub refusal: Refusal,
     pub count: usize,
 }
 
@@ -88,11 +80,11 @@ fn word_at(words: &[u8; 2128], s: &[u8], a: usize) -> Token
     let k = key_at(s, a);
     let f = find(words, k.head, k.tail);
     let Found::Lexeme(code) = f else {
-        return Token::Refused {
+        return Token::Refused(Refusal {
             number: UNKNOWN,
-            start: a,
+            place: a,
             end: k.end,
-        };
+        });
     };
     Token::Taken {
         code,
@@ -109,11 +101,11 @@ fn number_at(s: &[u8], a: usize) -> Token
     let e = run_end(s, a, DIGIT);
     let d = digits_value(&s[a..e]);
     let Digits::Value(v) = d else {
-        return Token::Refused {
+        return Token::Refused(Refusal {
             number: LARGE_DIGITS,
-            start: a,
+            place: a,
             end: e,
-        };
+        });
     };
     Token::Taken {
         code: NUM + v,
@@ -145,11 +137,11 @@ fn token_in(words: &[u8; 2128], s: &[u8], at: usize) -> Token
             end: a + 1,
         };
     }
-    Token::Refused {
+    Token::Refused(Refusal {
         number: UNKNOWN,
-        start: a,
+        place: a,
         end: a + 1,
-    }
+    })
 }
 
 // The first lexeme at or after a place; past the last byte there is none.
@@ -162,12 +154,10 @@ pub fn token_at(s: &[u8], at: usize) -> Token
 
 // How a refused phrase ends.
 pub fn refuse(number: u8, place: usize, end: usize) -> Ended
-    ensures { λ r. ⌜ r ≡ endedOf (refused number place end) ⌝ }
+    ensures { λ r. ⌜ r ≡ endedOf (refuse number place end) ⌝ }
 {
     Ended {
-        number,
-        place,
-        end,
+        refusal: Refusal { number, place, end },
         count: 0,
     }
 }
@@ -191,13 +181,11 @@ pub fn lex(s: &[u8], codes: &mut [u64; 64], starts: &mut [u8; 64]) -> Ended
         match t {
             Token::Finish => {
                 return Ended {
-                    number: 0,
-                    place: 0,
-                    end: 0,
+                    refusal: NONE,
                     count: n,
                 };
             }
-            Token::Refused { number, start, end } => return refuse(number, start, end),
+            Token::Refused(refusal) => return Ended { refusal, count: 0 },
             Token::Taken { code, start, end } => {
                 if 64 <= n {
                     return refuse(TOO_MANY, start, end);

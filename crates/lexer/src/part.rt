@@ -4,7 +4,8 @@ ghost use mathlib.Core.Path.{_≡_};
 ghost use Prim.Native.Nat.{_+_, _≤_};
 ghost use lib.ListN.{length};
 ghost use Rattle.lexer.specs.Keywords.{keywords};
-ghost use Rattle.lexer.specs.Lex.{between, lexed, offendingOf, placeOf};
+ghost use Rattle.lexer.specs.Lex.{lexed};
+ghost use Rattle.refusals.specs.Answers.{between, placeOf, offendingOf};
 
 // The bytes from a up to e, where they stand in the phrase.
 pub fn part(s: &[u8], a: usize, e: usize) -> &[u8]
@@ -23,7 +24,6 @@ pub fn offending(s: &[u8]) -> &[u8]
     let mut codes = [0u64; 64];
     let mut starts = [0u8; 64];
     let r = lex(s, &mut codes, &mut starts);
-    let a = r.place;
-    let e = r.end;
-    part(s, a, e)
+    let refusal = r.refusal;
+    part(s, refusal.place, refusal.end)
 }

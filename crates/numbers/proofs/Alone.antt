@@ -9,74 +9,76 @@ use lib.ListN.{drop}
 use lib.Seq.{getD-drop}
 use borrow.Author.Tests.{leb-false, le-leb, ne-eqb}
 use Rattle.lexer.specs.Lexemes.{Twenty, Ninety, Hundred, Billion, ST, ND, RD, TH, NUM}
-use Rattle.numbers.specs.declared.Found.{Found}
-use Rattle.numbers.specs.declared.Found.the-variants.{Is, Nothing, Overflow}
+use Rattle.numbers.specs.declared.Number.{Number}
+use Rattle.numbers.specs.declared.NumberFound.{NumberFound}
+use Rattle.numbers.specs.declared.NumberFound.the-variants.{Is, Nothing, Overflow}
 use Rattle.numbers.specs.Slices.{get, within}
-use Rattle.numbers.specs.Answers.{MAX, pick, orElse, andThen}
+use Rattle.numbers.specs.Answers.{MAX, number, pick, orElse, andThen}
 use Rattle.numbers.specs.Numbers.{isEnding, wordOf, literalOf, onesOf, teensOf, tensOf, tensOnesOf, numDoubleOf, hundredsOf, numTripleOf, unitsOf, numStep, numOf}
-use Rattle.numbers.proofs.Places.{within-bounds}
-use Rattle.numbers.proofs.Turns.{num-is}
+use Rattle.numbers.proofs.LexemeAt.{within-bounds}
+use Rattle.numbers.proofs.NumStep.{num-is}
 use Rattle.numbers.proofs.Begins.{outside, never, not-at, no-unit}
 
 -- an alternative that finds nothing or r, so that it changes nothing before r
-record Yields (a r : Found) : Type 0 where
+record Yields (a r : NumberFound) : Type 0 where
   same : orElse a r ≡ r
 
-either-same : (a b r : Found) → orElse a r ≡ r → orElse b r ≡ r → orElse (orElse a b) r ≡ r
-either-same (Is v t) b r e f = e
+either-same : (a b r : NumberFound) → orElse a r ≡ r → orElse b r ≡ r → orElse (orElse a b) r ≡ r
+either-same (Is n) b r e f = e
 either-same Nothing b r e f = f
 either-same Overflow b r e f = e
 
-either-yields : {a b r : Found} → Yields a r → Yields b r → Yields (orElse a b) r
+either-yields : {a b r : NumberFound} → Yields a r → Yields b r → Yields (orElse a b) r
 either-yields {a} {b} {r} e f = record { same = either-same a b r (e .same) (f .same) }
 
-test-yields : (b : Bool) (v t : ℕ) (r : Found) → (b ≡ true → r ≡ Is v t) → Yields (pick b (Is v t) Nothing) r
-test-yields true v t r h = record { same = sym (h refl) }
-test-yields false v t r h = record { same = refl }
+test-yields : (b : Bool) (n : Number) (r : NumberFound) → (b ≡ true → r ≡ Is n) → Yields (pick b (Is n) Nothing) r
+test-yields true n r h = record { same = sym (h refl) }
+test-yields false n r h = record { same = refl }
 
 -- what is not nothing is what it yields to
-yielded : (a r : Found) → Yields a r → (a ≡ Nothing → ⊥) → a ≡ r
-yielded (Is v t) r e h = e .same
+yielded : (a r : NumberFound) → Yields a r → (a ≡ Nothing → ⊥) → a ≡ r
+yielded (Is n) r e h = e .same
 yielded Nothing r e h = absurd (h refl)
 yielded Overflow r e h = e .same
 
--- what follows v of t lexemes finds nothing
-nothing-behind : (a : Found) (v t : ℕ) (f : ℕ → ℕ → Found) → Yields a (Is v t) → f v t ≡ Nothing → andThen a f ≡ Nothing
-nothing-behind (Is u s) v t f e h = let g : u ≡ v = cc in let k : s ≡ t = cc in rw (g, k) h
-nothing-behind Nothing v t f e h = refl
-nothing-behind Overflow v t f e h = let z : _≡_ {A = ℕ} 0 1 = cc in absurd (omega arith)
+-- what follows the number n finds nothing
+nothing-behind : (a : NumberFound) (n : Number) (f : Number → NumberFound) → Yields a (Is n) → f n ≡ Nothing → andThen a f ≡ Nothing
+nothing-behind (Is m) n f e h = let g : m ≡ n = cc in rw g h
+nothing-behind Nothing n f e h = refl
+nothing-behind Overflow n f e h = let z : _≡_ {A = ℕ} 0 1 = cc in absurd (omega arith)
 
 -- two alternatives that find nothing
-both-nothing : (a b : Found) → orElse a b ≡ Nothing → (a ≡ Nothing) × (b ≡ Nothing)
-both-nothing (Is v t) b e = let z : _≡_ {A = ℕ} 0 1 = cc in absurd (omega arith)
+both-nothing : (a b : NumberFound) → orElse a b ≡ Nothing → (a ≡ Nothing) × (b ≡ Nothing)
+both-nothing (Is n) b e = let z : _≡_ {A = ℕ} 0 1 = cc in absurd (omega arith)
 both-nothing Nothing b e = (refl, e)
 both-nothing Overflow b e = let z : _≡_ {A = ℕ} 0 1 = cc in absurd (omega arith)
 
-failed : (b : Bool) (v t : ℕ) → pick b (Is v t) Nothing ≡ Nothing → b ≡ false
-failed true v t e = let z : _≡_ {A = ℕ} 0 1 = cc in absurd (omega arith)
-failed false v t e = refl
+failed : (b : Bool) (n : Number) → pick b (Is n) Nothing ≡ Nothing → b ≡ false
+failed true n e = let z : _≡_ {A = ℕ} 0 1 = cc in absurd (omega arith)
+failed false n e = refl
 
 -- a range that was not met lies below
-beyond : (lo x hi v t : ℕ) → pick (within lo x hi) (Is v t) Nothing ≡ Nothing → lo ≤ x → hi < x
+beyond : (lo x hi : ℕ) (n : Number) → pick (within lo x hi) (Is n) Nothing ≡ Nothing → lo ≤ x → hi < x
 unfolding within
-beyond lo x hi v t e a = leb-false x hi (rw (le-leb lo x a) at (failed (within lo x hi) v t e))
+beyond lo x hi n e a = leb-false x hi (rw (le-leb lo x a) at (failed (within lo x hi) n e))
 
--- the first lexeme is a literal or a word, of the value v, and none that begins more
-module _ (l : List ℕ) (v : ℕ) (as-word : get l 0 < NUM → v ≡ get l 0) (as-literal : NUM ≤ get l 0 → v ≡ get l 0 - NUM)
+-- the first lexeme is a literal or a word, which alone is the number n, and none that begins more
+module _ (l : List ℕ) (n : Number) (one : n .taken ≡ 1)
+    (as-word : get l 0 < NUM → Is n ≡ number (get l 0) 1) (as-literal : NUM ≤ get l 0 → Is n ≡ number (get l 0 - NUM) 1)
     (first : Twenty ≤ get l 0 → get l 0 ≤ Billion → ⊥) (apart : Hundred ≤ get l 1 → get l 1 ≤ TH → ⊥) where
-  word-yields : (lo hi : ℕ) → hi ≤ Ninety → Yields (wordOf l lo hi 1) (Is v 1)
+  word-yields : (lo hi : ℕ) → hi ≤ Ninety → Yields (wordOf l lo hi 1) (Is n)
   unfolding wordOf
   word-yields lo hi h =
-      test-yields (within lo (get l 0) hi) _ 1 _ (λ e.
+      test-yields (within lo (get l 0) hi) _ _ (λ e.
       let b = within-bounds lo (get l 0) hi refl e in
-      rw (as-word (omega arith)))
+      as-word (omega arith))
 
-  literal-yields : (lo hi : ℕ) → Yields (literalOf l lo hi 1) (Is v 1)
+  literal-yields : (lo hi : ℕ) → Yields (literalOf l lo hi 1) (Is n)
   unfolding literalOf
   literal-yields lo hi =
-      test-yields (within (NUM + lo) (get l 0) (NUM + hi)) _ 1 _ (λ e.
+      test-yields (within (NUM + lo) (get l 0) (NUM + hi)) _ _ (λ e.
       let b = within-bounds (NUM + lo) (get l 0) (NUM + hi) refl e in
-      rw (as-literal (omega arith)))
+      as-literal (omega arith))
 
   no-ending : isEnding (get l 1) ≡ false
   unfolding isEnding
@@ -102,18 +104,18 @@ module _ (l : List ℕ) (v : ℕ) (as-word : get l 0 < NUM → v ≡ get l 0) (a
       let b = within-bounds 20 (get l 0) 90 refl e in
       first (omega arith) (omega arith)))
 
-  ones-yield : Yields (onesOf l) (Is v 1)
+  ones-yield : Yields (onesOf l) (Is n)
   ones-yield = rw ones-are (either-yields (word-yields 1 9 (omega arith)) (literal-yields 0 9))
 
   no-hundreds : hundredsOf l (onesOf l) ≡ Nothing
   unfolding hundredsOf
-  no-hundreds = nothing-behind (onesOf l) v 1 _ ones-yield (rw (not-at l 1 Hundred (λ e. apart (omega arith) (omega arith))))
+  no-hundreds = nothing-behind (onesOf l) n _ ones-yield (rw (one, not-at l 1 Hundred (λ e. apart (omega arith) (omega arith))))
 
   triple-is : numTripleOf l ≡ orElse (numDoubleOf l) (literalOf l 100 999 1)
   unfolding numTripleOf hundredsOf
   triple-is = rw (no-hundreds, not-at l 0 Hundred (λ e. first (omega arith) (omega arith)), no-ending)
 
-  triple-yields : Yields (numTripleOf l) (Is v 1)
+  triple-yields : Yields (numTripleOf l) (Is n)
   triple-yields =
       let teens = either-yields (word-yields 10 19 (omega arith)) (literal-yields 10 19) in
       rw (triple-is, double-is, teens-are)
@@ -122,9 +124,12 @@ module _ (l : List ℕ) (v : ℕ) (as-word : get l 0 < NUM → v ≡ get l 0) (a
   no-units : unitsOf numOf l (numTripleOf l) ≡ Nothing
   unfolding unitsOf get
   no-units =
-      nothing-behind (numTripleOf l) v 1 _ triple-yields (rw (no-unit (drop 1 l) (λ a b.
-      let g = getD-drop 1 l 0 0 in
-      apart (omega arith) (omega arith))))
+      nothing-behind (numTripleOf l) n _ triple-yields (rw (
+        one,
+        no-unit (drop 1 l) (λ a b.
+            let g = getD-drop 1 l 0 0 in
+            apart (omega arith) (omega arith)),
+      ))
 
   num-plain : numOf l ≡ orElse (numTripleOf l) (literalOf l 1000 MAX 1)
   unfolding numStep unitsOf
@@ -152,22 +157,22 @@ module _ (l : List ℕ) (v : ℕ) (as-word : get l 0 < NUM → v ≡ get l 0) (a
 
     beyond-words : 1 ≤ get l 0 → 19 < get l 0
     unfolding wordOf
-    beyond-words h = beyond 10 (get l 0) 19 _ 1 (teens .0) (beyond 1 (get l 0) 9 _ 1 (ones .0) h)
+    beyond-words h = beyond 10 (get l 0) 19 _ (teens .0) (beyond 1 (get l 0) 9 _ (ones .0) h)
 
     beyond-literals : NUM ≤ get l 0 → NUM + MAX < get l 0
     unfolding literalOf
     beyond-literals h =
         let x = get l 0 in
-        beyond (NUM + 1000) x (NUM + MAX) _ 1 (num .1)
-        (beyond (NUM + 100) x (NUM + 999) _ 1 (triple .1)
-        (beyond (NUM + 20) x (NUM + 99) _ 1 (behind .1)
-        (beyond (NUM + 10) x (NUM + 19) _ 1 (teens .1)
-        (beyond (NUM + 0) x (NUM + 9) _ 1 (ones .1) h))))
+        beyond (NUM + 1000) x (NUM + MAX) _ (num .1)
+        (beyond (NUM + 100) x (NUM + 999) _ (triple .1)
+        (beyond (NUM + 20) x (NUM + 99) _ (behind .1)
+        (beyond (NUM + 10) x (NUM + 19) _ (teens .1)
+        (beyond (NUM + 0) x (NUM + 9) _ (ones .1) h))))
 
   -- then it is the number
-  num-alone : ((1 ≤ get l 0) × (get l 0 ≤ 19)) ⊎ ((NUM ≤ get l 0) × (get l 0 ≤ NUM + MAX)) → numOf l ≡ Is v 1
+  num-alone : ((1 ≤ get l 0) × (get l 0 ≤ 19)) ⊎ ((NUM ≤ get l 0) × (get l 0 ≤ NUM + MAX)) → numOf l ≡ Is n
   num-alone h =
-      yielded (numOf l) (Is v 1) (rw num-plain (either-yields triple-yields (literal-yields 1000 MAX))) (λ none.
+      yielded (numOf l) (Is n) (rw num-plain (either-yields triple-yields (literal-yields 1000 MAX))) (λ none.
       ⊎-elim (λ w. let b = beyond-words none (w .0) in omega arith) (λ w. let b = beyond-literals none (w .0) in omega arith) h)
 
 -- a number word up to nineteen, or a literal, is the whole number where nothing that could belong to it stands behind it
@@ -178,10 +183,10 @@ alone l none =
     let x = get l 0 in
     let apart = outside Hundred (get l 1) TH none in
     either-yields
-    (test-yields (within 1 x 19) x 1 (numOf l) (λ e.
+    (test-yields (within 1 x 19) _ (numOf l) (λ e.
     let b = within-bounds 1 x 19 refl e in
-    num-alone l x (λ h. refl) (λ h. absurd (omega arith)) (λ h k. omega arith) apart (inl b)))
-    (test-yields (within (NUM + 0) x (NUM + MAX)) (x - NUM) 1 (numOf l) (λ e.
+    num-alone l _ refl (λ h. refl) (λ h. absurd (omega arith)) (λ h k. omega arith) apart (inl b)))
+    (test-yields (within (NUM + 0) x (NUM + MAX)) _ (numOf l) (λ e.
     let b = within-bounds (NUM + 0) x (NUM + MAX) refl e in
-    num-alone l (x - NUM) (λ h. absurd (omega arith)) (λ h. refl) (λ h k. omega arith) apart (inr (omega arith))))
+    num-alone l _ refl (λ h. absurd (omega arith)) (λ h. refl) (λ h k. omega arith) apart (inr (omega arith))))
     .same

@@ -8,13 +8,13 @@ use lib.Dec.{leb, ltb}
 use lib.ListN.{length}
 use borrow.Author.Tests.{leb-false, le-leb, lt-leb, ne-eqb}
 use Rattle.lexer.specs.Lexemes.{One, Ninety, Hundred, Thousand, Million, Billion, NUM}
-use Rattle.numbers.specs.declared.Found.{Found}
-use Rattle.numbers.specs.declared.Found.the-variants.{Nothing}
+use Rattle.numbers.specs.declared.NumberFound.{NumberFound}
+use Rattle.numbers.specs.declared.NumberFound.the-variants.{Nothing}
 use Rattle.numbers.specs.Slices.{get, isAt, within}
 use Rattle.numbers.specs.Answers.{MAX, pick}
 use Rattle.numbers.specs.Numbers.{beginsNumber, wordOf, literalOf, onesOf, teensOf, tensOf, tensOnesOf, numDoubleOf, hundredsOf, numTripleOf, numTripleUnitOf, unitsOf, numStep, numOf}
-use Rattle.numbers.proofs.Places.{within-bounds}
-use Rattle.numbers.proofs.Turns.{num-is}
+use Rattle.numbers.proofs.LexemeAt.{within-bounds}
+use Rattle.numbers.proofs.NumStep.{num-is}
 
 -- none of three tests held
 failed : (p q r : Bool) → p || (q || r) ≡ false → (p ≡ false) × (q ≡ false) × (r ≡ false)
@@ -28,7 +28,7 @@ unfolding within
 outside lo x hi e a b = true≢false (rw (le-leb lo x a, le-leb x hi b) at e)
 
 -- a test that cannot hold
-pub never : (b : Bool) (w : Found) → (b ≡ true → ⊥) → pick b w Nothing ≡ Nothing
+pub never : (b : Bool) (w : NumberFound) → (b ≡ true → ⊥) → pick b w Nothing ≡ Nothing
 never true w h = absurd (h refl)
 never false w h = refl
 

@@ -1,7 +1,7 @@
-pub mod Places
+pub mod LexemeAt
 pub mod Again
-pub mod Laws
-pub mod Bounds
-pub mod Turns
+pub mod NumberAnswers
+pub mod NumberBounds
+pub mod NumStep
 pub mod Begins
 pub mod Alone

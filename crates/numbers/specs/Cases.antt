@@ -3,17 +3,17 @@ use mathlib.Core.Path.{_≡_, refl}
 use mathlib.Core.List.{List, [], _∷_, map}
 use Prim.Native.Nat.{ℕ, _+_}
 use Rattle.lexer.specs.Lexemes.{One, Two, Three, Four, Five, Six, Seven, Nine, Twenty, Sixty, Ninety, Dash, And, Zero, Hundred, Thousand, Million, Billion, RD, TH, NUM}
-use Rattle.numbers.specs.declared.Found.{Found}
-use Rattle.numbers.specs.declared.Found.the-variants.{Is, Nothing, Overflow}
+use Rattle.numbers.specs.declared.NumberFound.{NumberFound}
+use Rattle.numbers.specs.declared.NumberFound.the-variants.{Nothing, Overflow}
 use Rattle.numbers.specs.Slices.{get, isAt, within}
-use Rattle.numbers.specs.Answers.{fitsOf}
+use Rattle.numbers.specs.Answers.{number, fitsOf}
 use Rattle.numbers.specs.Numbers.{isEnding, wordOf, literalOf, onesOf, teensOf, tensOf, tensOnesOf, numDoubleOf, sumOf, tailOf, hundredsOf, numTripleOf, numTripleUnitOf, unitsOf, numStep, numOf}
 use Rattle.numbers.specs.Again.{turns, again}
 
 -- a row: the lexemes, and what is read of them
 pub record Case : Type 0 where
   pub lexemes : List ℕ
-  pub reading : Found
+  pub reading : NumberFound
 
 -- the literal n
 abbrev Num : ℕ → ℕ
@@ -28,44 +28,44 @@ nearMAX ones =
     ∷ Two ∷ Hundred ∷ Ninety ∷ ones ∷ []
 
 -- the lexemes of a row and its reading
-abbrev row : List ℕ → Found → Case
+abbrev row : List ℕ → NumberFound → Case
 row l r = record { lexemes = l; reading = r }
 
 -- the table
 unfoldable pub cases : List Case
 cases =
     -- words
-    row (Twenty ∷ Dash ∷ Two ∷ Thousand ∷ And ∷ Three ∷ Hundred ∷ Five ∷ []) (Is 22305 8)
-    ∷ row (Ninety ∷ Dash ∷ Nine ∷ []) (Is 99 3)
-    ∷ row (One ∷ Hundred ∷ []) (Is 100 2)
-    ∷ row (Hundred ∷ And ∷ Five ∷ []) (Is 105 3)
-    ∷ row (Five ∷ Thousand ∷ []) (Is 5000 2)
-    ∷ row (Thousand ∷ []) (Is 1000 1)
+    row (Twenty ∷ Dash ∷ Two ∷ Thousand ∷ And ∷ Three ∷ Hundred ∷ Five ∷ []) (number 22305 8)
+    ∷ row (Ninety ∷ Dash ∷ Nine ∷ []) (number 99 3)
+    ∷ row (One ∷ Hundred ∷ []) (number 100 2)
+    ∷ row (Hundred ∷ And ∷ Five ∷ []) (number 105 3)
+    ∷ row (Five ∷ Thousand ∷ []) (number 5000 2)
+    ∷ row (Thousand ∷ []) (number 1000 1)
     -- a dash behind tens is taken though no ones follow; behind ones it is not
-    ∷ row (Ninety ∷ Dash ∷ []) (Is 90 2)
-    ∷ row (Ninety ∷ Nine ∷ Dash ∷ []) (Is 99 2)
+    ∷ row (Ninety ∷ Dash ∷ []) (number 90 2)
+    ∷ row (Ninety ∷ Nine ∷ Dash ∷ []) (number 99 2)
     -- after an `and` a number has to follow
-    ∷ row (One ∷ Hundred ∷ And ∷ []) (Is 1 1)
+    ∷ row (One ∷ Hundred ∷ And ∷ []) (number 1 1)
     ∷ row (Hundred ∷ And ∷ []) Nothing
     -- `Zero` is never a number, the digit 0 is
     ∷ row (Zero ∷ []) Nothing
-    ∷ row (Num 0 ∷ []) (Is 0 1)
+    ∷ row (Num 0 ∷ []) (number 0 1)
     -- an ending is taken with some numbers only
-    ∷ row (Num 4 ∷ RD ∷ []) (Is 4 2)
-    ∷ row (Num 12 ∷ TH ∷ []) (Is 12 2)
-    ∷ row (Num 24 ∷ TH ∷ []) (Is 24 1)
-    ∷ row (Num 100 ∷ TH ∷ []) (Is 100 2)
-    ∷ row (Num 1000 ∷ []) (Is 1000 1)
-    ∷ row (Num 1000 ∷ TH ∷ []) (Is 1000 1)
+    ∷ row (Num 4 ∷ RD ∷ []) (number 4 2)
+    ∷ row (Num 12 ∷ TH ∷ []) (number 12 2)
+    ∷ row (Num 24 ∷ TH ∷ []) (number 24 1)
+    ∷ row (Num 100 ∷ TH ∷ []) (number 100 2)
+    ∷ row (Num 1000 ∷ []) (number 1000 1)
+    ∷ row (Num 1000 ∷ TH ∷ []) (number 1000 1)
     -- the largest u32, and one more
-    ∷ row (Num 4294967295 ∷ []) (Is 4294967295 1)
-    ∷ row (nearMAX Five) (Is 4294967295 16)
+    ∷ row (Num 4294967295 ∷ []) (number 4294967295 1)
+    ∷ row (nearMAX Five) (number 4294967295 16)
     ∷ row (nearMAX Six) Overflow
     ∷ row (Thousand ∷ And ∷ Num 4294966296 ∷ []) Overflow
     -- the product is made only once the tail has been read and not given up
-    ∷ row (Four ∷ Billion ∷ []) (Is 4000000000 2)
+    ∷ row (Four ∷ Billion ∷ []) (number 4000000000 2)
     ∷ row (Five ∷ Billion ∷ []) Overflow
-    ∷ row (Five ∷ Billion ∷ And ∷ []) (Is 5 1)
+    ∷ row (Five ∷ Billion ∷ And ∷ []) (number 5 1)
     -- an overflow in the number that begins again stops the reading
     ∷ row (One ∷ Thousand ∷ And ∷ Five ∷ Billion ∷ []) Overflow
     ∷ []

@@ -3,7 +3,7 @@ ghost use mathlib.Core.Path.{_≡_};
 ghost use Prim.Native.Nat.{_+_, _≤_, _<_, max};
 ghost use lib.ListN.{length};
 ghost use Rattle.numbers.specs.Slices.{get, oneIf};
-ghost use Rattle.numbers.specs.Answers.{MAX, USIZE, Taken, Read, orElse, takenOf, fitsOf};
+ghost use Rattle.numbers.specs.Answers.{MAX, USIZE, Taken, Read, number, orElse, takenOf, fitsOf};
 ghost use Rattle.numbers.specs.Numbers.{isEnding, beginsNumber, wordOf, literalOf, onesOf, teensOf, tensOf, tensOnesOf, numDoubleOf, sumOf, hundredsOf, numTripleOf, numTripleUnitOf, unitsOf, numOf};
 use lexer::lexeme::AND;
 use lexer::lexeme::BILLION;
@@ -28,11 +28,24 @@ pub mod slices;
 // The largest u32.
 const MAX: u32 = 4294967295;
 
-// What a number reader answers: the value and the count of lexemes taken, nothing, or a sum or product past the largest u32.
-pub enum Found {
-    Is(u32, usize),
+// A number that was read, and the lexemes taken.
+pub struct Number {
+    pub value: u32,
+    pub taken: usize,
+}
+
+// What a number reader answers. `Overflow` is refusal 6: a sum or product in the number passes 4,294,967,295.
+pub enum NumberFound {
+    Is(Number),
     Nothing,
     Overflow,
+}
+
+// The answer of a value and the lexemes taken: the one function that makes a `Number`.
+fn found(value: u32, taken: usize) -> NumberFound
+    ensures { λ r. ⌜ r ≡ number value taken ⌝ }
+{
+    NumberFound::Is(Number { value, taken })
 }
 
 // `ST | RD | ND | TH`
@@ -61,40 +74,40 @@ fn take_ending(l: &[u64], i: usize) -> usize
 }
 
 // A number word from lo to hi, whose code is its value.
-fn word(l: &[u64], lo: u32, hi: u32, tokens: usize) -> Found
+fn word(l: &[u64], lo: u32, hi: u32, tokens: usize) -> NumberFound
     ensures { λ r. ⌜ r ≡ wordOf (now (l .entry)) lo hi tokens ⌝ }
 {
     let x = get(l, 0);
     if is_within(lo as u64, x, hi as u64) {
-        return Found::Is(x as u32, tokens);
+        return found(x as u32, tokens);
     }
-    Found::Nothing
+    NumberFound::Nothing
 }
 
 // `Num(n)` with lo <= n <= hi.
-fn literal(l: &[u64], lo: u32, hi: u32, tokens: usize) -> Found
+fn literal(l: &[u64], lo: u32, hi: u32, tokens: usize) -> NumberFound
     ensures { λ r. ⌜ r ≡ literalOf (now (l .entry)) lo hi tokens ⌝ }
 {
     let x = get(l, 0);
     if is_within(NUM + lo as u64, x, NUM + hi as u64) {
-        return Found::Is((x - NUM) as u32, tokens);
+        return found((x - NUM) as u32, tokens);
     }
-    Found::Nothing
+    NumberFound::Nothing
 }
 
 // A number word from `first` to `last`, or a literal from lo to hi.
-fn word_or_literal(l: &[u64], first: u32, last: u32, lo: u32, hi: u32, tokens: usize) -> Found
+fn word_or_literal(l: &[u64], first: u32, last: u32, lo: u32, hi: u32, tokens: usize) -> NumberFound
     ensures { λ r. ⌜ r ≡ orElse (wordOf (now (l .entry)) first last tokens) (literalOf (now (l .entry)) lo hi tokens) ⌝ }
 {
     let a = word(l, first, last, tokens);
-    let Found::Nothing = a else {
+    let NumberFound::Nothing = a else {
         return a;
     };
     literal(l, lo, hi, tokens)
 }
 
 // `Ones::parse`
-fn ones(l: &[u64]) -> Found
+fn ones(l: &[u64]) -> NumberFound
     ensures { λ r. ⌜ r ≡ onesOf (now (l .entry)) ⌝ }
     ensures { λ r. ⌜ Taken r 1 9 (length (now (l .entry))) ⌝ }
 {
@@ -102,7 +115,7 @@ fn ones(l: &[u64]) -> Found
 }
 
 // `Teens::parse`
-fn teens(l: &[u64]) -> Found
+fn teens(l: &[u64]) -> NumberFound
     ensures { λ r. ⌜ r ≡ teensOf (now (l .entry)) ⌝ }
     ensures { λ r. ⌜ Taken r 1 19 (length (now (l .entry))) ⌝ }
 {
@@ -110,155 +123,162 @@ fn teens(l: &[u64]) -> Found
 }
 
 // `Tens::parse`
-fn tens(l: &[u64]) -> Found
+fn tens(l: &[u64]) -> NumberFound
     ensures { λ r. ⌜ r ≡ tensOf (now (l .entry)) ⌝ }
     ensures { λ r. ⌜ Taken r 1 90 (length (now (l .entry))) ⌝ }
 {
     let tokens = 1 + take_if(l, 1, TH);
     let a = word(l, 20, 90, tokens);
-    let Found::Is(n, _) = a else {
+    let NumberFound::Is(n) = a else {
         return a;
     };
-    if n % 10 == 0 {
+    if n.value % 10 == 0 {
         return a;
     }
-    Found::Nothing
+    NumberFound::Nothing
 }
 
 // The first alternative of `NumDouble::parse`: tens, a dash that may be missing, ones that may be missing.
-fn tens_ones(l: &[u64]) -> Found
+fn tens_ones(l: &[u64]) -> NumberFound
     ensures { λ r. ⌜ r ≡ tensOnesOf (now (l .entry)) ⌝ }
     ensures { λ r. ⌜ Taken r 1 99 (length (now (l .entry))) ⌝ }
 {
-    let Found::Is(n, t) = tens(l) else {
-        return Found::Nothing;
+    let NumberFound::Is(n) = tens(l) else {
+        return NumberFound::Nothing;
     };
-    let tokens = t + take_if(l, t, DASH);
-    let Found::Is(m, u) = ones(rest(l, tokens)) else {
-        return Found::Is(n, tokens);
+    let tokens = n.taken + take_if(l, n.taken, DASH);
+    let NumberFound::Is(m) = ones(rest(l, tokens)) else {
+        return found(n.value, tokens);
     };
-    Found::Is(n + m, tokens + u)
+    found(n.value + m.value, tokens + m.taken)
 }
 
 // `NumDouble::parse`
-fn num_double(l: &[u64]) -> Found
+fn num_double(l: &[u64]) -> NumberFound
     ensures { λ r. ⌜ r ≡ numDoubleOf (now (l .entry)) ⌝ }
     ensures { λ r. ⌜ Taken r 1 99 (length (now (l .entry))) ⌝ }
 {
     let a = tens_ones(l);
-    let Found::Nothing = a else {
+    let NumberFound::Nothing = a else {
         return a;
     };
     let b = teens(l);
-    let Found::Nothing = b else {
+    let NumberFound::Nothing = b else {
         return b;
     };
     let c = ones(l);
-    let Found::Nothing = c else {
+    let NumberFound::Nothing = c else {
         return c;
     };
     literal(l, 20, 99, 1)
 }
 
 // A value that passes the largest u32 is an overflow.
-fn fits(v: u64, t: usize) -> Found
+fn fits(v: u64, t: usize) -> NumberFound
     ensures { λ r. ⌜ r ≡ fitsOf v t ⌝ }
 {
     if v <= MAX as u64 {
-        Found::Is(v as u32, t)
+        found(v as u32, t)
     } else {
-        Found::Overflow
+        NumberFound::Overflow
     }
 }
 
 // A head and the number behind it, which may be missing unless it is required.
-fn sum(required: bool, head: u64, tokens: usize, num: Found) -> Found
+fn sum(required: bool, head: u64, tokens: usize, num: NumberFound) -> NumberFound
     requires { ⌜ (head ≤ 999000000000) × (tokens + takenOf num ≤ USIZE) ⌝ }
     ensures { λ r. ⌜ r ≡ sumOf required head tokens num ⌝ }
 {
     match num {
-        Found::Is(n, t) => fits(head + n as u64, tokens + t),
-        Found::Nothing => {
+        NumberFound::Is(n) => fits(head + n.value as u64, tokens + n.taken),
+        NumberFound::Nothing => {
             if required {
-                Found::Nothing
+                NumberFound::Nothing
             } else {
                 fits(head, tokens)
             }
         }
-        Found::Overflow => Found::Overflow,
+        NumberFound::Overflow => NumberFound::Overflow,
     }
 }
 
 // `<ones> hundred [[and] <num_double>]` for the ones that were read.
-fn hundreds(l: &[u64], ones: Found) -> Found
+fn hundreds(l: &[u64], ones: NumberFound) -> NumberFound
     requires { ⌜ Taken ones 0 9 (length (now l)) ⌝ }
     ensures { λ r. ⌜ r ≡ hundredsOf (now (l .entry)) ones ⌝ }
     ensures { λ r. ⌜ Taken r 1 999 (length (now (l .entry))) ⌝ }
 {
-    let Found::Is(v, t) = ones else {
-        return Found::Nothing;
+    let NumberFound::Is(n) = ones else {
+        return NumberFound::Nothing;
     };
-    if is_at(l, t, HUNDRED) {
-        let head = v as u64 * 100;
-        let s = t + 1;
+    if is_at(l, n.taken, HUNDRED) {
+        let head = n.value as u64 * 100;
+        let s = n.taken + 1;
         let required = is_at(l, s, AND);
         let tokens = s + one_if(required);
         return sum(required, head, tokens, num_double(rest(l, tokens)));
     }
-    Found::Nothing
+    NumberFound::Nothing
+}
+
+// The last alternative of `NumTriple::parse`: a literal from 100 to 999, with an ordinal's ending.
+fn literal_hundreds(l: &[u64]) -> NumberFound
+    ensures { λ r. ⌜ r ≡ literalOf (now (l .entry)) 100 999 (1 + oneIf (isEnding (get (now (l .entry)) 1))) ⌝ }
+{
+    literal(l, 100, 999, 1 + take_ending(l, 1))
 }
 
 // `NumTriple::parse`
-fn num_triple(l: &[u64]) -> Found
+fn num_triple(l: &[u64]) -> NumberFound
     ensures { λ r. ⌜ r ≡ numTripleOf (now (l .entry)) ⌝ }
     ensures { λ r. ⌜ Taken r 1 999 (length (now (l .entry))) ⌝ }
 {
     let a = hundreds(l, ones(l));
-    let Found::Nothing = a else {
+    let NumberFound::Nothing = a else {
         return a;
     };
-    let b = hundreds(l, Found::Is(1, 0));
-    let Found::Nothing = b else {
+    let b = hundreds(l, found(1, 0));
+    let NumberFound::Nothing = b else {
         return b;
     };
     let c = num_double(l);
-    let Found::Nothing = c else {
+    let NumberFound::Nothing = c else {
         return c;
     };
-    literal(l, 100, 999, 1 + take_ending(l, 1))
+    literal_hundreds(l)
 }
 
 // `NumTripleUnit::parse`
-fn num_triple_unit(l: &[u64]) -> Found
+fn num_triple_unit(l: &[u64]) -> NumberFound
     ensures { λ r. ⌜ r ≡ numTripleUnitOf (now (l .entry)) ⌝ }
     ensures { λ r. ⌜ Taken r 1 1000000000 (length (now (l .entry))) ⌝ }
 {
     if is_at(l, 0, THOUSAND) {
-        return Found::Is(1000, 1);
+        return found(1000, 1);
     }
     if is_at(l, 0, MILLION) {
-        return Found::Is(1000000, 1);
+        return found(1000000, 1);
     }
     if is_at(l, 0, BILLION) {
-        return Found::Is(1000000000, 1);
+        return found(1000000000, 1);
     }
-    Found::Nothing
+    NumberFound::Nothing
 }
 
 // `<num_triple> <num_triple_unit> [[and] <num>]` for the triple that was read: the tail behind it, in which a number begins again.
-fn units(l: &[u64], triple: Found) -> Found
+fn units(l: &[u64], triple: NumberFound) -> NumberFound
     requires { ⌜ Taken triple 0 999 (length (now l)) ⌝ }
     ensures { λ r. ⌜ r ≡ unitsOf numOf (now (l .entry)) triple ⌝ }
     ensures { λ r. ⌜ Read r 1 (length (now (l .entry))) ⌝ }
 {
-    let Found::Is(v, t) = triple else {
-        return Found::Nothing;
+    let NumberFound::Is(n) = triple else {
+        return NumberFound::Nothing;
     };
-    let Found::Is(unit, u) = num_triple_unit(rest(l, t)) else {
-        return Found::Nothing;
+    let NumberFound::Is(unit) = num_triple_unit(rest(l, n.taken)) else {
+        return NumberFound::Nothing;
     };
-    let head = v as u64 * unit as u64;
-    let s = t + u;
+    let head = n.value as u64 * unit.value as u64;
+    let s = n.taken + unit.taken;
     let required = is_at(l, s, AND);
     let tokens = s + one_if(required);
     sum(required, head, tokens, whole(rest(l, tokens)))
@@ -279,27 +299,27 @@ fn begins_number(l: &[u64]) -> bool
 }
 
 // `Num::parse`, each alternative; the triple is read once for both that begin with it.
-fn whole(l: &[u64]) -> Found
+fn whole(l: &[u64]) -> NumberFound
     ensures { λ r. ⌜ r ≡ numOf (now (l .entry)) ⌝ }
     ensures { λ r. ⌜ Read r 1 (length (now (l .entry))) ⌝ }
 {
     let triple = num_triple(l);
     let scaled = units(l, triple);
-    let Found::Nothing = scaled else {
+    let NumberFound::Nothing = scaled else {
         return scaled;
     };
-    let unit = units(l, Found::Is(1, 0));
-    let Found::Nothing = unit else {
+    let unit = units(l, found(1, 0));
+    let NumberFound::Nothing = unit else {
         return unit;
     };
-    let Found::Nothing = triple else {
+    let NumberFound::Nothing = triple else {
         return triple;
     };
     literal(l, 1000, MAX, 1)
 }
 
 // A literal, or a word up to nineteen, is the number where behind it stands no lexeme from `HUNDRED` to `TH`, which could belong to it.
-fn begun(l: &[u64]) -> Found
+fn begun(l: &[u64]) -> NumberFound
     ensures { λ r. ⌜ r ≡ numOf (now (l .entry)) ⌝ }
     ensures { λ r. ⌜ Read r 1 (length (now (l .entry))) ⌝ }
 {
@@ -307,19 +327,19 @@ fn begun(l: &[u64]) -> Found
         return whole(l);
     }
     let alone = word_or_literal(l, 1, 19, 0, MAX, 1);
-    let Found::Nothing = alone else {
+    let NumberFound::Nothing = alone else {
         return alone;
     };
     whole(l)
 }
 
 // `Num::parse`; no alternative is tried where no number begins.
-pub fn num(l: &[u64]) -> Found
+pub fn num(l: &[u64]) -> NumberFound
     ensures { λ r. ⌜ r ≡ numOf (now (l .entry)) ⌝ }
     ensures { λ r. ⌜ Read r 1 (length (now (l .entry))) ⌝ }
 {
     if begins_number(l) {
         return begun(l);
     }
-    Found::Nothing
+    NumberFound::Nothing
 }

@@ -1,4 +1,4 @@
--- A flat reading stands for its tree: `treeOf (flat x) ≡ x` for every tree of at most 21 parts.
+-- A chain stands for its tree: `treeOf (chainOf x) ≡ x` for every tree of at most 21 parts.
 use Prim.Native.Nat.{ℕ, _+_, _≤_, _<_}
 use native.Mathlib.Omega.{arith}
 use native.Mathlib.Numerals.{add-one}
@@ -17,10 +17,10 @@ use Rattle.expressions.specs.Tree.{relativeWeekday, weekdayRelative, weekdayExp
 use Rattle.phrase.specs.Tree.{DateTime}
 use Rattle.phrase.specs.Tree.{dateTime, timeDate, durationAfter, durationBefore, now, around}
 use Rattle.expressions.specs.Shapes.{shape, ownOf, ofOwn, intoExpr, exprFrom, sizeExpr}
-use Rattle.phrase.specs.Flat.{linkedParts, flatFrom, flat, blank, rowDuration, linksFrom, treeOf, sizeTree}
-use Rattle.phrase.specs.declared.reading.Link.{Link}
-use Rattle.phrase.specs.declared.reading.Reading.{Reading}
-use Rattle.expressions.proofs.Few.{into-expr-n}
+use Rattle.phrase.specs.Chains.{linkedParts, chainFrom, chainOf, blank, rowDuration, linksFrom, treeOf, sizeTree}
+use Rattle.phrase.specs.declared.chain.Link.{Link}
+use Rattle.phrase.specs.declared.chain.Chain.{Chain}
+use Rattle.expressions.proofs.OwnDuration.{into-expr-n}
 
 -- the parts of a duration as a row of their own
 abbrev slots : Duration → List Slot
@@ -75,7 +75,7 @@ expr-keeps e ps k h = go (ownOf e)
     go [] = refl
     go (dur ∷ none) = into-keeps dur ps k h
 
-tree-keeps : (x : DateTime) (r : Reading) (k : ℕ) → k ≤ r .parts .n → take k (flatFrom r x .parts .items) ≡ take k (r .parts .items)
+tree-keeps : (x : DateTime) (r : Chain) (k : ℕ) → k ≤ r .parts .n → take k (chainFrom r x .parts .items) ≡ take k (r .parts .items)
 tree-keeps (dateTime e t) r k h = expr-keeps e (r .parts) k h
 tree-keeps (timeDate t e) r k h = expr-keeps e (r .parts) k h
 tree-keeps (durationAfter dur x) r k h =
@@ -105,7 +105,7 @@ links-append [] js l x = refl
 links-append (k ∷ ks) js l x = ap (around (k .back) (rowDuration (slice (k .from) (k .to) l))) (links-append ks js l x)
 
 -- room for k parts, and links for them, inside the links of a reading
-record Holds (r : Reading) (k : ℕ) : Type 0 where
+record Holds (r : Chain) (k : ℕ) : Type 0 where
   parts : r .parts .n + k ≤ length (r .parts .items)
   links : r .m + k ≤ length (r .links)
 
@@ -115,12 +115,12 @@ some (part p) = omega arith
 some (concat p d) = omega arith
 
 -- one link more around a tree
-module _ (back : Bool) (dur : Duration) (x : DateTime) (r : Reading) where
-  inner : Reading
+module _ (back : Bool) (dur : Duration) (x : DateTime) (r : Chain) where
+  inner : Chain
   inner = linkedParts back (into dur (r .parts)) r
 
   all : List Slot
-  all = flatFrom inner x .parts .items
+  all = chainFrom inner x .parts .items
 
   link-back :
       Holds r (size dur + sizeTree x) →
@@ -147,8 +147,8 @@ module _ (back : Bool) (dur : Duration) (x : DateTime) (r : Reading) where
       }
 
 -- what is read inside the links of a reading stands for the tree inside those links
-tree-back : (x : DateTime) (r : Reading) → Holds r (sizeTree x) →
-    treeOf (flatFrom r x) ≡ linksFrom (take (r .m) (r .links)) (flatFrom r x .parts .items) x
+tree-back : (x : DateTime) (r : Chain) → Holds r (sizeTree x) →
+    treeOf (chainFrom r x) ≡ linksFrom (take (r .m) (r .links)) (chainFrom r x .parts .items) x
 unfolding treeOf inner all
 tree-back (dateTime e t) r h =
     ap (λ (d : DateExpr). linksFrom (take (r .m) (r .links)) (intoExpr e (r .parts) .items) (dateTime d t))
@@ -160,12 +160,12 @@ tree-back (durationAfter dur x) r h = tree-back x (inner false dur x r) (holds-i
 tree-back (durationBefore dur x) r h = tree-back x (inner true dur x r) (holds-inner true dur x r h) ∙ link-back true dur x r h
 tree-back now r h = refl
 
--- the tree of a flat reading
-pub decoded : (x : DateTime) → sizeTree x ≤ 21 → treeOf (flat x) ≡ x
+-- the tree of a chain
+pub decoded : (x : DateTime) → sizeTree x ≤ 21 → treeOf (chainOf x) ≡ x
 decoded x h = tree-back x blank (record { parts = omega arith; links = omega arith })
 
 -- a reading has the parts of its tree behind those that were there
-pub tree-count : (x : DateTime) (r : Reading) → flatFrom r x .parts .n ≡ r .parts .n + sizeTree x
+pub tree-count : (x : DateTime) (r : Chain) → chainFrom r x .parts .n ≡ r .parts .n + sizeTree x
 tree-count (dateTime e t) r = into-expr-n e (r .parts)
 tree-count (timeDate t e) r = into-expr-n e (r .parts)
 tree-count (durationAfter dur x) r =

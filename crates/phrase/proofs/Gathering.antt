@@ -1,4 +1,4 @@
--- What is gathered, link after link, is the flat reading of the tree.
+-- What is gathered, link after link, is the chain of the tree.
 use Prim.Native.Nat.{ℕ, _+_, _*_, _≤_, _<_}
 use native.Mathlib.Omega.{arith}
 use mathlib.Core.Path.{_≡_, refl}
@@ -18,36 +18,36 @@ use Rattle.expressions.specs.Tree.{relativeWeekday, weekdayRelative, weekdayExp
 use Rattle.expressions.specs.Shapes.{shape, hasDuration, ownOf, intoExpr, OwnStands}
 use Rattle.phrase.specs.Tree.{DateTime, dateTime, timeDate, durationAfter, durationBefore, now, around}
 use Rattle.phrase.specs.DateTimes.{dateTimeOf}
-use Rattle.phrase.specs.Flat.{linkedParts, flatFrom, flat, blank}
+use Rattle.phrase.specs.Chains.{linkedParts, chainFrom, chainOf, blank}
 use Rattle.phrase.specs.Outlines.{linkTaken, outline, outlineAnswer, countOf, treeIn, kept, isBack, withOwn}
-use Rattle.phrase.specs.declared.reading.Base.the-variants.{Now}
-use Rattle.phrase.specs.declared.reading.Link.{Link}
-use Rattle.phrase.specs.declared.reading.Reading.{Reading}
+use Rattle.phrase.specs.declared.chain.Base.the-variants.{Now}
+use Rattle.phrase.specs.declared.chain.Link.{Link}
+use Rattle.phrase.specs.declared.chain.Chain.{Chain}
 use Rattle.phrase.specs.declared.gather.Gathered.{Gathered}
 use Rattle.phrase.specs.declared.date_time.Count.{Count}
 use Rattle.phrase.specs.declared.date_time.Outline.{Outline}
 use Rattle.dates.proofs.Each.{Each}
 use Rattle.phrase.proofs.Stands.{LinkStands, TreeStands, TreeHolds, date-time-holds}
-use Rattle.phrase.proofs.Turns.{around-outline}
+use Rattle.phrase.proofs.Outlining.{around-outline}
 use Rattle.phrase.proofs.Decoded.{some}
 
 -- a reading of i links so far
-abbrev held : Parts → List Link → ℕ → Reading
+abbrev held : Parts → List Link → ℕ → Chain
 held ps ks i = record { base = Now; time = Empty; parts = ps; own = 0; m = i; links = ks }
 
 -- what is gathered up to the place at, and what is left: a tree whose outline is that of the whole
-pub record Gathering (l : List ℕ) (k : Count) (o : Outline) (goal : Reading) (ps : Parts) (ks : List Link) (i at : ℕ) : Type 0 where
+pub record Gathering (l : List ℕ) (k : Count) (o : Outline) (goal : Chain) (ps : Parts) (ks : List Link) (i at : ℕ) : Type 0 where
   pub left : DateTime
   pub stands : TreeStands (drop at l) left
   pub outlined : outline k i (drop at l) left ≡ o
-  pub flattened : flatFrom (held ps ks i) left ≡ goal
+  pub flattened : chainFrom (held ps ks i) left ≡ goal
   pub within : at ≤ length l
   pub room : 3 * ps .n + length l ≤ 64 + at
   pub few : i ≤ ps .n
 
 -- nothing yet
 pub begin : (l : List ℕ) (n : ℕ) {o : Outline} → length l ≤ 64 → let w = kept n (dateTimeOf l) in
-    o ≡ outlineAnswer l w → Gathering l (countOf w) o (flat (treeIn w)) (blank .parts) (blank .links) 0 0
+    o ≡ outlineAnswer l w → Gathering l (countOf w) o (chainOf (treeIn w)) (blank .parts) (blank .links) 0 0
 begin l n h answer =
     record {
       left = treeIn (kept n (dateTimeOf l));
@@ -87,12 +87,12 @@ around-stood : (back : Bool) (dur : Duration) (x : DateTime) (l : List ℕ) → 
 around-stood true dur x l h = h
 around-stood false dur x l h = h
 
-around-flat : (back : Bool) (dur : Duration) (x : DateTime) (r : Reading) →
-    flatFrom r (around back dur x) ≡ flatFrom (linkedParts back (into dur (r .parts)) r) x
-around-flat true dur x r = refl
-around-flat false dur x r = refl
+around-chain : (back : Bool) (dur : Duration) (x : DateTime) (r : Chain) →
+    chainFrom r (around back dur x) ≡ chainFrom (linkedParts back (into dur (r .parts)) r) x
+around-chain true dur x r = refl
+around-chain false dur x r = refl
 
-module _ {l : List ℕ} {k : Count} {o : Outline} {goal : Reading} {ps : Parts} {ks : List Link} {i at : ℕ}
+module _ {l : List ℕ} {k : Count} {o : Outline} {goal : Chain} {ps : Parts} {ks : List Link} {i at : ℕ}
     (g : Gathering l k o goal ps ks i at) where
   -- one link more, with the row x that its duration gave, and its direction
   pub one-link : i < o .m → {x : Rowed} {back : Bool} {m : List ℕ} → m ≡ drop at l → x ≡ rowed ps (durationOf m) → back ≡ isBack m (x .end) →
@@ -111,7 +111,7 @@ module _ {l : List ℕ} {k : Count} {o : Outline} {goal : Reading} {ps : Parts} 
         left = x .inner;
         stands = rw there at (s .2);
         outlined = rw (← there, ← (around-outline (x .back) (x .duration) (x .inner) k i (drop at l)), ← (x .same)) (g .outlined);
-        flattened = rw (← (around-flat (x .back) (x .duration) (x .inner) (held ps ks i)), ← (x .same)) (g .flattened);
+        flattened = rw (← (around-chain (x .back) (x .duration) (x .inner) (held ps ks i)), ← (x .same)) (g .flattened);
         within = omega arith;
         room = omega arith;
         few = omega arith;
@@ -141,7 +141,7 @@ links-most (durationBefore dur x) k i l = let h = links-most x k (i + 1) (drop (
 links-most now k i l = omega arith
 
 -- with no link left, the base and its own duration's parts are all
-pub record Based (l : List ℕ) (k : Count) (o : Outline) (goal : Reading) (ps : Parts) (ks : List Link) (i at : ℕ) : Type 0 where
+pub record Based (l : List ℕ) (k : Count) (o : Outline) (goal : Chain) (ps : Parts) (ks : List Link) (i at : ℕ) : Type 0 where
   pub reading :
       record {
         base = o .base;
@@ -155,7 +155,7 @@ pub record Based (l : List ℕ) (k : Count) (o : Outline) (goal : Reading) (ps :
   pub within : at + o .own ≤ length l
   pub links : o .m ≡ i
 
-module _ {l : List ℕ} {k : Count} {o : Outline} {goal : Reading} {ps : Parts} {ks : List Link} {i at : ℕ} where
+module _ {l : List ℕ} {k : Count} {o : Outline} {goal : Chain} {ps : Parts} {ks : List Link} {i at : ℕ} where
   pub base-left : Gathering l k o goal ps ks i at → o .m ≤ i → Based l k o goal ps ks i at
   base-left g done = rw (← (g .outlined)) (go (g .left) (g .stands) (g .flattened) (rw (← (g .outlined)) at done))
     where
@@ -163,7 +163,7 @@ module _ {l : List ℕ} {k : Count} {o : Outline} {goal : Reading} {ps : Parts} 
           cond (hasDuration (shape e)) (rowed ps (durationOf (drop (at + p) l)) .parts) ps ≡ intoExpr e ps
       own e p h = own-into e (drop (at + p) l) ps (rw (drop-drop p at l) at h)
 
-      go : (x : DateTime) → TreeStands (drop at l) x → flatFrom (held ps ks i) x ≡ goal → outline k i (drop at l) x .m ≤ i →
+      go : (x : DateTime) → TreeStands (drop at l) x → chainFrom (held ps ks i) x ≡ goal → outline k i (drop at l) x .m ≤ i →
           Based l k (outline k i (drop at l) x) goal ps ks i at
       go (dateTime e t) s f d =
           let left = length-drop at l in
@@ -179,8 +179,8 @@ module _ {l : List ℕ} {k : Count} {o : Outline} {goal : Reading} {ps : Parts} 
   pub all-gathered : Based l k o goal ps ks i at → {all : Parts} {m : List ℕ} → m ≡ drop (at + o .own) l → all ≡ withOwn (o .base) m ps →
       _≡_ {A = Gathered}
       (record {
-        reading = record { base = o .base; time = o .time; parts = all; own = ps .n; m = o .m; links = ks };
+        chain = record { base = o .base; time = o .time; parts = all; own = ps .n; m = o .m; links = ks };
         taken = o .taken;
       })
-      (record { reading = goal; taken = k })
+      (record { chain = goal; taken = k })
   all-gathered b here own = rw (own, here, b .reading, b .count)

@@ -1,6 +1,7 @@
 pub mod Stands
-pub mod Turns
+pub mod Outlining
 pub mod Decoded
+pub mod Formed
 pub mod Gathering
 pub mod Phrases
 pub mod Small

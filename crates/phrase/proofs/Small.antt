@@ -5,20 +5,22 @@ use mathlib.Core.List.{List}
 use lib.Dec.{ltb}
 use lib.ListN.{length, drop, getD}
 use Rattle.refusals.specs.Table as table
+use Rattle.refusals.specs.Answers.{given, refused, refuse, andThen}
+use Rattle.refusals.proofs.Holds.{Holds, of-given, of-refusal}
 use Rattle.lexer.specs.Lexemes as lexeme
 use Rattle.lexer.specs.Words.{Word}
-use Rattle.lexer.specs.Lex.{Lexed, refused, whole as lexemes, lexed, codesOf, startsOf}
+use Rattle.lexer.specs.Lex.{Lexed, lexed, codesOf, startsOf}
 use Rattle.numbers.specs.Slices.{isAt}
 use Rattle.numbers.proofs.Again.{again-keeps}
 use Rattle.dates.specs.Parsed.{Parsed, is, nothing, overflow}
 use Rattle.dates.specs.Durations.{Duration}
-use Rattle.dates.proofs.Small.{SmallTime, SmallDuration, Gives, nothing-gives, is-gives, pick-gives, then-gives, if-let-gives}
-use Rattle.dates.proofs.Small.{time-small, duration-small}
+use Rattle.dates.proofs.Each.{Gives, nothing-gives, is-gives, pick-gives, then-gives, if-let-gives}
+use Rattle.dates.proofs.Small.{SmallTime, SmallDuration, time-small, duration-small}
 use Rattle.expressions.proofs.Small.{SmallExpr, expr-small}
 use Rattle.phrase.specs.Tree.{DateTime, dateTime, timeDate, durationAfter, durationBefore, now, around}
 use Rattle.phrase.specs.DateTimes.{Turn, whole, ago, link, timeBehindOf, withDurationOf, timedTurnOf, undatedTurnOf, turnOf}
 use Rattle.phrase.specs.DateTimes.{againOf, dateTimeStep, dateTimeOf}
-use Rattle.phrase.specs.Read.{ReadPhrase, refusal, tree, readCodes, readLexed, readOf}
+use Rattle.phrase.specs.Read.{ReadPhrase, reads, readCodes, readItems, readOf}
 
 -- every number of a tree
 abbrev pub SmallTree : DateTime → Type 0
@@ -75,23 +77,22 @@ tree-small l = again-keeps nothing dateTimeStep (λ m w. Gives SmallTree w) (λ 
 
 -- of what reading gives
 abbrev pub SmallRead : ReadPhrase → Type 0
-SmallRead (refusal k a e) = Unit
-SmallRead (tree x t) = SmallTree x
+SmallRead w = Holds (λ x. SmallTree (x .tree)) (λ r. Unit {0}) w
 
 codes-small : (p : Parsed DateTime) (count : ℕ) (starts : List ℕ) (n : ℕ) → Gives SmallTree p → SmallRead (readCodes p count starts n)
 codes-small (is x t) count starts n h = go (ltb t count)
   where
-    go : (b : Bool) → SmallRead (cond b (refusal table.LeftOver (getD starts t 0) n) (tree x t))
-    go true = tt
-    go false = h .holds
-codes-small nothing count starts n h = tt
-codes-small overflow count starts n h = tt
-
-lexed-small : (w : Lexed) (n : ℕ) → SmallRead (readLexed w n)
-lexed-small (refused k a b) n = tt
-lexed-small (lexemes items) n = codes-small _ (length items) (startsOf items) n (tree-small (codesOf items))
+    go : (b : Bool) → SmallRead (cond b (refuse table.LeftOver (getD starts t 0) n) (reads x t))
+    go true = of-refusal tt
+    go false = of-given (h .bounds)
+codes-small nothing count starts n h = of-refusal tt
+codes-small overflow count starts n h = of-refusal tt
 
 -- a phrase, with the words of any list
 pub read-small : (ws : List Word) (s : List ℕ) → SmallRead (readOf ws s)
 unfolding readOf
-read-small ws s = lexed-small (lexed ws s) (length s)
+read-small ws s = go (lexed ws s)
+  where
+    go : (w : Lexed) → SmallRead (andThen w (readItems (length s)))
+    go (given items) = codes-small _ (length items) (startsOf items) (length s) (tree-small (codesOf items))
+    go (refused r) = of-refusal tt

@@ -9,23 +9,23 @@ use lib.Seq.{drop-drop}
 use Rattle.lexer.specs.Lexemes as lexeme
 use Rattle.numbers.specs.Slices.{isAt, oneIf}
 use Rattle.numbers.proofs.Again.{again-keeps}
-use Rattle.numbers.proofs.Places.{at-most, there}
+use Rattle.numbers.proofs.LexemeAt.{at-most, there}
 use Rattle.dates.specs.Parsed.{Parsed, is, nothing, Took}
 use Rattle.dates.specs.Durations.{Duration, size, durationOf}
 use Rattle.dates.specs.Times.{timeOf}
 use Rattle.dates.proofs.Each.{Each, pick-each, then-each, if-let-each}
-use Rattle.dates.proofs.Laws.{found, if-let-took}
-use Rattle.dates.proofs.Bounds.{time-took}
+use Rattle.dates.proofs.Parsed.{found, if-let-took}
+use Rattle.dates.proofs.LexemesTaken.{time-took}
 use Rattle.dates.proofs.Durations.{duration-bounds}
 use Rattle.expressions.specs.Tree.{DateExpr}
 use Rattle.expressions.specs.DateExprs.{dateExprOf}
 use Rattle.expressions.specs.Shapes.{ownOf, OwnStands}
 use Rattle.expressions.specs.ExprAnswers.{ownPlace}
-use Rattle.expressions.proofs.Few.{expr-few}
+use Rattle.expressions.proofs.OwnDuration.{expr-few}
 use Rattle.phrase.specs.Tree.{DateTime, dateTime, timeDate, durationAfter, durationBefore, now, around}
 use Rattle.phrase.specs.DateTimes.{Turn, whole, ago, link, commaOr, timeBehindOf, withDurationOf, timedTurnOf, undatedTurnOf, turnOf}
 use Rattle.phrase.specs.DateTimes.{againOf, dateTimeStep, dateTimeOf}
-use Rattle.phrase.specs.Flat.{sizeTree}
+use Rattle.phrase.specs.Chains.{sizeTree}
 use Rattle.phrase.specs.Outlines.{linkTaken, timeTaken, isBack}
 
 -- a link of t lexemes: its duration at the front of l, and its direction behind that

@@ -3,10 +3,11 @@ use mathlib.Core.Path.{_≡_, refl}
 use mathlib.Core.List.{List, [], _∷_, map}
 use Prim.Native.Nat.{ℕ}
 use Prim.Native.String.{String}
-use Rattle.lexer.specs.Words.{bytesOf}
+use Rattle.digits.specs.Bytes.{bytesOf}
 use Rattle.lexer.specs.Keywords.{keywords}
 use Rattle.lexer.specs.Classes.{classOf, markOf}
 use Rattle.refusals.specs.Table as table
+use Rattle.refusals.specs.Answers.{refuse}
 use Rattle.lexer.specs.Lex.{numberOf, wordAt, numberAt, tokenAt, lexed}
 use Rattle.numbers.specs.Slices.{get, isAt, within}
 use Rattle.numbers.specs.Answers.{fitsOf}
@@ -14,7 +15,7 @@ use Rattle.numbers.specs.Numbers.{isEnding, wordOf, literalOf, onesOf, teensOf,
 use Rattle.numbers.specs.Numbers.{tailOf as numTailOf, numTripleOf, numTripleUnitOf, unitsOf, numStep, numOf}
 use Rattle.dates.specs.Units.{isArticle, unitOf, monthOf, weekdayOf, relativeSpecifierOf}
 use Rattle.numbers.specs.Again.{turns, again}
-use Rattle.dates.specs.Durations.{part, specificOf, articleOf, concreteOf, durationStep, durationOf}
+use Rattle.dates.specs.Durations.{part, specificOf, articleOf, concreteOf, durationTurn, durationOf}
 use Rattle.dates.specs.Dates.{namedDayOf, dayMonthYearOf, monthDayOf, isDelim, threeNumbersOf, twoNumbersOf, behindSecondOf, delimitedOf}
 use Rattle.dates.specs.Dates.{dateOf}
 use Rattle.dates.specs.Times.{minuteOf, halfOf, clockOf, timeOf}
@@ -30,7 +31,7 @@ use Rattle.expressions.specs.DateExprs.{inTailOf, durationTailOf, tailOf, withD
 use Rattle.expressions.specs.DateExprs.{dateExprOf}
 use Rattle.phrase.specs.DateTimes.{timeBehindOf, withDurationOf as durationTurnOf, timedTurnOf, undatedTurnOf, turnOf}
 use Rattle.phrase.specs.DateTimes.{dateTimeStep, dateTimeOf}
-use Rattle.phrase.specs.Read.{ReadPhrase, refusal, tree, readOf}
+use Rattle.phrase.specs.Read.{ReadPhrase, reads, readOf}
 
 -- a row: the phrase, and what is read of it
 pub record Case : Type 0 where
@@ -44,41 +45,41 @@ row s r = record { phrase = bytesOf s; reading = r }
 unfoldable pub cases : List Case
 cases =
     -- each alternative of `DateTime::parse`
-    row "now" (tree now 1)
-    ∷ row "next friday at 3 pm" (tree (dateTime (relativeWeekday Next 4) (HourMinPM 3 0)) 5)
-    ∷ row "tomorrow, 5:00" (tree (dateTime (date Tomorrow) (HourMin 5 0)) 5)
-    ∷ row "5 days after tomorrow at noon" (tree (dateTime (after (part (Specific Day 5)) Tomorrow) (HourMin 12 0)) 6)
-    ∷ row "an hour from now" (tree (durationAfter (part (Article Hour)) now) 4)
-    ∷ row "an hour after today" (tree (durationAfter (part (Article Hour)) (dateTime (date Today) NoTime)) 4)
+    row "now" (reads now 1)
+    ∷ row "next friday at 3 pm" (reads (dateTime (relativeWeekday Next 4) (HourMinPM 3 0)) 5)
+    ∷ row "tomorrow, 5:00" (reads (dateTime (date Tomorrow) (HourMin 5 0)) 5)
+    ∷ row "5 days after tomorrow at noon" (reads (dateTime (after (part (Specific Day 5)) Tomorrow) (HourMin 12 0)) 6)
+    ∷ row "an hour from now" (reads (durationAfter (part (Article Hour)) now) 4)
+    ∷ row "an hour after today" (reads (durationAfter (part (Article Hour)) (dateTime (date Today) NoTime)) 4)
     ∷ row
     "an hour before 5 days ago"
-    (tree (durationBefore (part (Article Hour)) (dateTime (before (part (Specific Day 5)) NoDate) NoTime)) 6)
-    ∷ row "two hours ago" (tree (durationBefore (part (Specific Hour 2)) now) 3)
-    ∷ row "5 pm on friday" (tree (timeDate (HourMinPM 5 0) (weekday 4)) 4)
-    ∷ row "5" (tree (timeDate (HourMin 5 0) empty) 1)
+    (reads (durationBefore (part (Article Hour)) (dateTime (before (part (Specific Day 5)) NoDate) NoTime)) 6)
+    ∷ row "two hours ago" (reads (durationBefore (part (Specific Hour 2)) now) 3)
+    ∷ row "5 pm on friday" (reads (timeDate (HourMinPM 5 0) (weekday 4)) 4)
+    ∷ row "5" (reads (timeDate (HourMin 5 0) empty) 1)
     -- a comma, "at" or "on" is taken with nothing behind it
-    ∷ row "today at" (tree (dateTime (date Today) NoTime) 2)
-    ∷ row "5 pm, " (tree (timeDate (HourMinPM 5 0) empty) 3)
+    ∷ row "today at" (reads (dateTime (date Today) NoTime) 2)
+    ∷ row "5 pm, " (reads (timeDate (HourMinPM 5 0) empty) 3)
     -- "next" behind a weekday is passed
-    ∷ row "friday next 5:00" (tree (dateTime (weekday 4) (HourMin 5 0)) 5)
+    ∷ row "friday next 5:00" (reads (dateTime (weekday 4) (HourMin 5 0)) 5)
     -- lexemes are left: from the first of them to the phrase's end
-    ∷ row "5/2" (refusal table.LeftOver 1 3)
-    ∷ row "march 24th" (refusal table.LeftOver 8 10)
+    ∷ row "5/2" (refuse table.LeftOver 1 3)
+    ∷ row "march 24th" (refuse table.LeftOver 8 10)
     -- nothing is read
-    ∷ row "" (refusal table.Nothing 0 0)
-    ∷ row "5 days after" (refusal table.Nothing 0 0)
+    ∷ row "" (refuse table.Nothing 0 0)
+    ∷ row "5 days after" (refuse table.Nothing 0 0)
     -- a number passes 4,294,967,295, also where its alternative would have been given up
-    ∷ row "five billion days ago" (refusal table.LargeSum 0 0)
-    ∷ row "5 pm five billion" (refusal table.LargeSum 0 0)
+    ∷ row "five billion days ago" (refuse table.LargeSum 0 0)
+    ∷ row "5 pm five billion" (refuse table.LargeSum 0 0)
     -- lexing refuses first
-    ∷ row "forty days ago" (refusal table.Unknown 0 5)
+    ∷ row "forty days ago" (refuse table.Unknown 0 5)
     ∷ []
 
 -- each row is what `readOf` gives
 pub read-as-listed : map (λ c. readOf keywords (c .phrase)) cases ≡ map (λ c. c .reading) cases
 unfolding cases keywords classOf markOf numberOf wordAt numberAt tokenAt lexed get isAt within isEnding wordOf literalOf onesOf teensOf
     tensOf tensOnesOf numDoubleOf sumOf numTailOf hundredsOf numTripleOf numTripleUnitOf fitsOf unitsOf numStep turns again numOf
-    isArticle unitOf monthOf weekdayOf relativeSpecifierOf specificOf articleOf concreteOf durationStep durationOf namedDayOf
+    isArticle unitOf monthOf weekdayOf relativeSpecifierOf specificOf articleOf concreteOf durationTurn durationOf namedDayOf
     dayMonthYearOf monthDayOf isDelim threeNumbersOf twoNumbersOf behindSecondOf delimitedOf dateOf minuteOf halfOf clockOf timeOf
     inTailOf durationTailOf tailOf withDurationOf relativeExprOf weekdayExprOf undatedOf dateExprOf timeBehindOf durationTurnOf
     timedTurnOf undatedTurnOf turnOf dateTimeStep dateTimeOf readOf

@@ -1,6 +1,7 @@
 pub mod Tree
 pub mod DateTimes
-pub mod Flat
+pub mod Chains
 pub mod Outlines
+pub mod Formed
 pub mod Read
 pub mod Cases

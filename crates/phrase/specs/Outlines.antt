@@ -15,15 +15,15 @@ use Rattle.expressions.specs.Shapes.{shape, hasDuration}
 use Rattle.expressions.specs.ExprAnswers.{ownPlace}
 use Rattle.phrase.specs.Tree.{DateTime, dateTime, timeDate, durationAfter, durationBefore, now}
 use Rattle.phrase.specs.DateTimes.{Turn, whole, ago, link, commaOr}
-use Rattle.phrase.specs.Flat.{flat}
-use Rattle.phrase.specs.declared.reading.Base.{Base}
-use Rattle.phrase.specs.declared.reading.Base.the-variants.{Now, DateTime as Dated, TimeDate as Timed}
+use Rattle.phrase.specs.Chains.{chainOf}
+use Rattle.phrase.specs.declared.chain.Base.{Base}
+use Rattle.phrase.specs.declared.chain.Base.the-variants.{Now, DateTime as Dated, TimeDate as Timed}
 use Rattle.phrase.specs.declared.gather.Gathered.{Gathered}
 use Rattle.phrase.specs.declared.date_time.Count.{Count}
 use Rattle.phrase.specs.declared.date_time.Count.the-variants.{Is, Nothing, Overflow}
 use Rattle.phrase.specs.declared.date_time.Outline.{Outline}
-use Rattle.phrase.specs.declared.date_time.Turn.{Turn as TurnTaken}
-use Rattle.phrase.specs.declared.date_time.Turn.the-variants.{Whole, Ago, Link, Nothing as NoTurn, Overflow as TurnOverflow}
+use Rattle.phrase.specs.declared.date_time.TurnTaken.{TurnTaken}
+use Rattle.phrase.specs.declared.date_time.TurnTaken.the-variants.{Whole, Ago, Link, Nothing as NoTurn, Overflow as TurnOverflow}
 
 -- the lexemes taken, 0 where nothing was read
 abbrev pub takenOf : {A : Type 0} → Parsed A → ℕ
@@ -78,9 +78,9 @@ kept n (is x t) = is (cond (ltb t n) now x) t
 kept n nothing = nothing
 kept n overflow = overflow
 
--- the flat reading of a tree, and how reading ended
+-- the chain of a tree, and how reading ended
 abbrev pub gathered : Parsed DateTime → Gathered
-gathered w = record { reading = flat (treeIn w); taken = countOf w }
+gathered w = record { chain = chainOf (treeIn w); taken = countOf w }
 
 -- whether a duration that ends at t goes back
 abbrev pub isBack : List ℕ → ℕ → Bool

@@ -1,5 +1,5 @@
 // The reader of a whole phrase's lexemes: links, outermost first, around one base. Their durations are passed here, and read at the end.
-use super::reading::Base;
+use super::chain::Base;
 use dates::duration::Taken;
 use dates::duration::read_duration;
 use dates::time::Time;
@@ -35,7 +35,8 @@ ghost use Rattle.phrase.specs.Outlines.{turnAnswer, outline, outlineAnsw
 
 // One turn, with the lexemes taken: a whole reading, with its base, its time and the place of the base's own duration;
 // a duration before now; or a link, behind which a datetime is read again. The duration of `Ago` and `Link` stands in front.
-pub enum Turn {
+// `Overflow` is refusal 6.
+pub enum TurnTaken {
     Whole(Base, Time, usize, usize),
     Ago(usize),
     Link(usize),
@@ -43,7 +44,7 @@ pub enum Turn {
     Overflow,
 }
 
-// The lexemes that a reading takes.
+// The lexemes that a reading takes; `Overflow` is refusal 6.
 pub enum Count {
     Is(usize),
     Nothing,
@@ -84,36 +85,36 @@ fn time_behind(l: &[u64], t: usize) -> TimeFound
 }
 
 // after | from | before | ago behind a duration of t lexemes, whichever that is
-fn with_duration(l: &[u64], t: usize) -> Turn
+fn with_duration(l: &[u64], t: usize) -> TurnTaken
     ensures { λ r. ⌜ ((dur : Duration) → r ≡ turnAnswer (now (l .entry)) (withDurationOf dur t (now (l .entry)))) ⌝ }
 {
     if is_at(l, t, AFTER) {
-        return Turn::Link(t + 1);
+        return TurnTaken::Link(t + 1);
     }
     if is_at(l, t, FROM) {
-        return Turn::Link(t + 1);
+        return TurnTaken::Link(t + 1);
     }
     if is_at(l, t, BEFORE) {
-        return Turn::Link(t + 1);
+        return TurnTaken::Link(t + 1);
     }
     if is_at(l, t, AGO) {
-        return Turn::Ago(t + 1);
+        return TurnTaken::Ago(t + 1);
     }
-    Turn::Nothing
+    TurnTaken::Nothing
 }
 
 // Where no time is found: nothing, or the overflow.
-fn turn_stopped(a: TimeFound) -> Turn
+fn turn_stopped(a: TimeFound) -> TurnTaken
     ensures { λ r. ⌜ r ≡ turnAnswer [] (stopped (parsedTime a)) ⌝ }
 {
     let TimeFound::Overflow = a else {
-        return Turn::Nothing;
+        return TurnTaken::Nothing;
     };
-    Turn::Overflow
+    TurnTaken::Overflow
 }
 
 // <time> [, | on] [<date_expr>]
-fn read_timed(l: &[u64]) -> Turn
+fn read_timed(l: &[u64]) -> TurnTaken
     ensures { λ r. ⌜ r ≡ turnAnswer (now (l .entry)) (timedTurnOf (now (l .entry))) ⌝ }
 {
     let a = read_time(l);
@@ -123,14 +124,14 @@ fn read_timed(l: &[u64]) -> Turn
     let s = t + take_comma_or(l, t, ON);
     let e = read_expr(rest(l, s));
     match e {
-        ExprTaken::Is(expr, u, own) => Turn::Whole(Base::TimeDate(expr), time, s + own, s + u),
-        ExprTaken::Nothing => Turn::Whole(Base::TimeDate(Expr::Empty), time, s, s),
-        ExprTaken::Overflow => Turn::Overflow,
+        ExprTaken::Is(expr, u, own) => TurnTaken::Whole(Base::TimeDate(expr), time, s + own, s + u),
+        ExprTaken::Nothing => TurnTaken::Whole(Base::TimeDate(Expr::Empty), time, s, s),
+        ExprTaken::Overflow => TurnTaken::Overflow,
     }
 }
 
 // A duration and its connection, or a bare time.
-fn read_undated(l: &[u64]) -> Turn
+fn read_undated(l: &[u64]) -> TurnTaken
     ensures { λ r. ⌜ r ≡ turnAnswer (now (l .entry)) (undatedTurnOf (now (l .entry))) ⌝ }
 {
     let taken = read_duration(l);
@@ -140,16 +141,16 @@ fn read_undated(l: &[u64]) -> Turn
             sub_daily: _,
         } => with_duration(l, t),
         Taken::Nothing => read_timed(l),
-        Taken::Overflow => Turn::Overflow,
+        Taken::Overflow => TurnTaken::Overflow,
     }
 }
 
 // One turn of DateTime::parse: now, a dated phrase, a duration, or a bare time last.
-fn read_turn(l: &[u64]) -> Turn
+fn read_turn(l: &[u64]) -> TurnTaken
     ensures { λ r. ⌜ r ≡ turnAnswer (now (l .entry)) (turnOf (now (l .entry))) ⌝ }
 {
     if is_at(l, 0, NOW) {
-        return Turn::Whole(Base::Now, Time::Empty, 0, 1);
+        return TurnTaken::Whole(Base::Now, Time::Empty, 0, 1);
     }
     let e = read_expr(l);
     match e {
@@ -158,10 +159,10 @@ fn read_turn(l: &[u64]) -> Turn
             let TimeFound::Is(time, n) = a else {
                 return turn_stopped(a);
             };
-            Turn::Whole(Base::DateTime(expr), time, own, n)
+            TurnTaken::Whole(Base::DateTime(expr), time, own, n)
         }
         ExprTaken::Nothing => read_undated(l),
-        ExprTaken::Overflow => Turn::Overflow,
+        ExprTaken::Overflow => TurnTaken::Overflow,
     }
 }
 
@@ -187,7 +188,7 @@ fn read_date_time(l: &[u64]) -> Outline
     loop {
         let turn = read_turn(rest(l, at));
         match turn {
-            Turn::Whole(base, time, own, t) => {
+            TurnTaken::Whole(base, time, own, t) => {
                 return Outline {
                     taken: Count::Is(at + t),
                     base,
@@ -196,7 +197,7 @@ fn read_date_time(l: &[u64]) -> Outline
                     m,
                 };
             }
-            Turn::Ago(t) => {
+            TurnTaken::Ago(t) => {
                 return Outline {
                     taken: Count::Is(at + t),
                     base: Base::Now,
@@ -205,14 +206,14 @@ fn read_date_time(l: &[u64]) -> Outline
                     m: m + 1,
                 };
             }
-            Turn::Link(t) => {
+            TurnTaken::Link(t) => {
                 at += t;
                 m += 1;
             }
-            Turn::Nothing => {
+            TurnTaken::Nothing => {
                 return ended(Count::Nothing);
             }
-            Turn::Overflow => {
+            TurnTaken::Overflow => {
                 return ended(Count::Overflow);
             }
         }

@@ -1,9 +1,9 @@
 // The reading of a phrase's lexemes: the parts of each link's duration, then the base's own, in one row.
+use super::chain::Base;
+use super::chain::Chain;
+use super::chain::Link;
 use super::date_time::Count;
 use super::date_time::read_outline;
-use super::reading::Base;
-use super::reading::Link;
-use super::reading::Reading;
 use dates::duration::Part;
 use dates::duration::Parts;
 use dates::duration::Slot;
@@ -20,9 +20,9 @@ ghost use lib.ListN.{length};
 ghost use Rattle.phrase.specs.DateTimes.{dateTimeOf};
 ghost use Rattle.phrase.specs.Outlines.{hasOwn, isBack, withOwn, kept, gathered};
 
-// A reading, and how it ended; that of now where nothing is kept.
+// A chain, and how its reading ended; that of now where nothing is kept.
 pub struct Gathered {
-    pub reading: Reading,
+    pub chain: Chain,
     pub taken: Count,
 }
 
@@ -62,7 +62,7 @@ fn with_own(base: Base, l: &[u64], parts: Parts) -> Parts
     parts
 }
 
-// The flat reading of what is read of l, kept only where at least n lexemes are taken.
+// The chain of what is read of l, kept only where at least n lexemes are taken.
 pub fn gather(l: &[u64], n: usize) -> Gathered
     requires { ⌜ length (now l) ≤ 64 ⌝ }
     ensures { λ r. ⌜ r ≡ gathered (kept n (dateTimeOf (now (l .entry)))) ⌝ }
@@ -98,7 +98,7 @@ pub fn gather(l: &[u64], n: usize) -> Gathered
     let time = o.time;
     let taken = o.taken;
     let all = with_own(base, rest(l, at + o.own), parts);
-    let reading = Reading {
+    let chain = Chain {
         base,
         time,
         parts: all,
@@ -106,5 +106,5 @@ pub fn gather(l: &[u64], n: usize) -> Gathered
         m: m as u8,
         links,
     };
-    Gathered { reading, taken }
+    Gathered { chain, taken }
 }

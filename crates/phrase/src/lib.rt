@@ -1,5 +1,5 @@
-// The whole phrase: `DateExpr` and `DateTime` of ast.rs, read into a flat reading.
+// The whole phrase: `DateExpr` and `DateTime` of ast.rs, read into a chain.
+pub mod chain;
 pub mod date_time;
 pub mod gather;
 pub mod read;
-pub mod reading;

@@ -1,37 +1,27 @@
 // A phrase of bytes read whole, or refused.
+use super::chain::Chain;
 use super::date_time::Count;
 use super::gather::gather;
-use super::reading::Reading;
 use lexer::lex::Ended;
 use lexer::lex::lex;
+use lexer::lex::refuse;
 use lexer::part::part;
 use refusals::LARGE_SUM;
 use refusals::LEFT_OVER;
+use refusals::NONE;
 use refusals::NOTHING;
+use refusals::Refusal;
 ghost use mathlib.Core.Path.{_≡_};
 ghost use Prim.Native.Nat.{_+_, _≤_};
 ghost use Rattle.lexer.specs.Keywords.{keywords};
-ghost use Rattle.phrase.specs.Read.{refusedEnd, judgedOf, readOf, phraseAnswer, placeOf, offendingOf};
+ghost use Rattle.refusals.specs.Answers.{placeOf, offendingOf};
+ghost use Rattle.phrase.specs.Read.{judgedOf, readOf, phraseAnswer};
 
-// Number 0: the lexemes taken and the reading. Else a refusal of 1 to 7, with its place and the end of its part.
+// Number 0: the lexemes taken and the chain. Else a refusal of 1 to 7.
 pub struct PhraseRead {
-    pub reading: Reading,
-    pub number: u8,
-    pub place: usize,
-    pub end: usize,
+    pub chain: Chain,
+    pub refusal: Refusal,
     pub taken: usize,
-}
-
-// A refusal.
-fn refuse(number: u8, place: usize, end: usize) -> Ended
-    ensures { λ r. ⌜ r ≡ refusedEnd number place end ⌝ }
-{
-    Ended {
-        number,
-        place,
-        end,
-        count: 0,
-    }
 }
 
 // A byte as a place.
@@ -46,7 +36,7 @@ fn judged(line: Ended, taken: Count, starts: &[u8; 64], n: usize) -> Ended
     requires { ⌜ line .count ≤ 64 ⌝ }
     ensures { λ r. ⌜ r ≡ judgedOf line taken (now (starts .entry)) n ⌝ }
 {
-    if line.number != 0 {
+    if line.refusal.number != 0 {
         return line;
     }
     match taken {
@@ -55,9 +45,7 @@ fn judged(line: Ended, taken: Count, starts: &[u8; 64], n: usize) -> Ended
                 return refuse(LEFT_OVER, wide(starts[t]), n);
             }
             Ended {
-                number: 0,
-                place: 0,
-                end: 0,
+                refusal: NONE,
                 count: t,
             }
         }
@@ -77,13 +65,12 @@ pub fn read(phrase: &[u8]) -> PhraseRead
     let n = line.count;
     let x = gather(&codes[..n], n);
     let taken = x.taken;
-    let reading = x.reading;
+    let chain = x.chain;
     let end = judged(line, taken, &starts, phrase.len());
+    let refusal = end.refusal;
     PhraseRead {
-        reading,
-        number: end.number,
-        place: end.place,
-        end: end.end,
+        chain,
+        refusal,
         taken: end.count,
     }
 }
@@ -94,7 +81,6 @@ pub fn offending(phrase: &[u8]) -> &[u8]
     ensures own { λ r. ⌜ r .ptr ≡ ((phrase .entry) .ptr .0, placeOf (readOf keywords (now (phrase .entry))) + (phrase .entry) .ptr .1) ⌝ }
 {
     let r = read(phrase);
-    let a = r.place;
-    let e = r.end;
-    part(phrase, a, e)
+    let refusal = r.refusal;
+    part(phrase, refusal.place, refusal.end)
 }

@@ -8,7 +8,8 @@ use lib.ListN.{length}
 use denote.Ref.{RefT, now}
 use Rattle.lexer.specs.Keywords.{keywords}
 use Rattle.refusals.specs.Table as refusal
-use Rattle.lexer.specs.Lex.{Lexed, refused, item, ahead, ifTaken, lexFrom, lexed}
+use Rattle.refusals.specs.Answers.{refuse}
+use Rattle.lexer.specs.Lex.{Lexed, item, ahead, ifTaken, lexFrom, lexed}
 use Rattle.lexer.specs.declared.lex.Token.{Token}
 use Rattle.lexer.specs.declared.lex.Token.the-variants.{Finish, Taken, Refused}
 use Rattle.reader.specs.declared.Lexer.{Lexer}
@@ -17,7 +18,7 @@ use Rattle.reader.specs.Read.{newOf, nextOf, placeBehind, behindOf, take
 -- what follows a lexeme is all that can differ
 same-behind : (t : Token) (g h : ℕ → ℕ → ℕ → Lexed) → ((k a e : ℕ) → t ≡ Taken k a e → g k a e ≡ h k a e) → ifTaken t g ≡ ifTaken t h
 same-behind Finish g h same = refl
-same-behind (Refused n a e) g h same = refl
+same-behind (Refused r) g h same = refl
 same-behind (Taken k a e) g h same = same k a e refl
 
 -- from any reader, with any room
@@ -31,6 +32,6 @@ taken-from (suc room) r =
 
 -- tokens taken one after the other from a new reader until the end, with room for 64 lexemes, behind the test for 256 bytes: exactly lexing's lexemes
 -- and their places, or its refusal
-pub lexed-is : (s : RefT (List ℕ)) → lexed keywords (now s) ≡ cond (leb (length (now s)) 256) (taken 64 (newOf s)) (refused refusal.TooLong 0 0)
+pub lexed-is : (s : RefT (List ℕ)) → lexed keywords (now s) ≡ cond (leb (length (now s)) 256) (taken 64 (newOf s)) (refuse refusal.TooLong 0 0)
 unfolding lexed
-lexed-is s = ap (λ (x : Lexed). cond (leb (length (now s)) 256) x (refused refusal.TooLong 0 0)) (sym (taken-from 64 (newOf s)))
+lexed-is s = ap (λ (x : Lexed). cond (leb (length (now s)) 256) x (refuse refusal.TooLong 0 0)) (sym (taken-from 64 (newOf s)))

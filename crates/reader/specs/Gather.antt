@@ -6,7 +6,8 @@ use lib.Dec.{leb}
 use lib.ListN.{length, set, replicate}
 use lib.Seq.{sets}
 use Rattle.refusals.specs.Table as refusal
-use Rattle.lexer.specs.Lex.{Item, Lexed, refused, whole, codesOf, startsOf, endedOf}
+use Rattle.refusals.specs.Answers.{given, refused, refusalAt, refuse}
+use Rattle.lexer.specs.Lex.{Item, Lexed, codesOf, startsOf, endedOf}
 use Rattle.lexer.specs.declared.lex.Ended.{Ended}
 use Rattle.lexer.specs.declared.lex.Token.{Token}
 use Rattle.lexer.specs.declared.lex.Token.the-variants.{Finish, Taken, Refused}
@@ -17,7 +18,7 @@ abbrev pub soFar : List Item → Gathered
 soFar l =
     record {
       going = true;
-      ended = endedOf (whole []);
+      ended = endedOf (given []);
       count = length l;
       codes = sets (replicate 64 0) 0 (codesOf l);
       starts = sets (replicate 64 0) 0 (startsOf l);
@@ -44,9 +45,9 @@ longer g k a =
 
 -- one token more: the end, a refusal and "a 65th lexeme" end the reading
 abbrev pub joinedTo : Gathered → Token → Gathered
-joinedTo g Finish = over g (record { number = 0; place = 0; end = 0; count = g .count })
-joinedTo g (Refused n a e) = over g (endedOf (refused n a e))
-joinedTo g (Taken k a e) = cond (leb 64 (g .count)) (over g (endedOf (refused refusal.TooMany a e))) (longer g k a)
+joinedTo g Finish = over g (record { refusal = refusalAt 0 0 0; count = g .count })
+joinedTo g (Refused r) = over g (endedOf (refused r))
+joinedTo g (Taken k a e) = cond (leb 64 (g .count)) (over g (endedOf (refuse refusal.TooMany a e))) (longer g k a)
 
 -- all that is gathered: how the reading ends, and the lexemes in front
 abbrev pub gatheredOf : Lexed → List Item → Gathered

@@ -5,7 +5,8 @@ use lib.ListN.{length}
 use denote.Ref.{RefT, now}
 use Rattle.lexer.specs.Keywords.{keywords}
 use Rattle.refusals.specs.Table as refusal
-use Rattle.lexer.specs.Lex.{tokenAt, Lexed, refused, item, ahead, ifTaken}
+use Rattle.refusals.specs.Answers.{refuse}
+use Rattle.lexer.specs.Lex.{tokenAt, Lexed, item, ahead, ifTaken}
 use Rattle.lexer.specs.declared.lex.Token.{Token}
 use Rattle.lexer.specs.declared.lex.Token.the-variants.{Finish, Taken, Refused}
 use Rattle.reader.specs.declared.Lexer.{Lexer}
@@ -22,7 +23,7 @@ nextOf r = tokenAt keywords (now (r .phrase)) (r .at)
 abbrev pub placeBehind : ℕ → Token → ℕ
 placeBehind at Finish = at
 placeBehind at (Taken k a e) = e
-placeBehind at (Refused n a e) = e
+placeBehind at (Refused r) = r .end
 
 -- the reader behind a token: the same borrow, and the place behind the token
 abbrev pub behindOf : Lexer → Token → Lexer
@@ -34,5 +35,5 @@ restStart r = min (r .at) (length (now (r .phrase)))
 
 -- tokens taken one after the other until the end, with room for so many lexemes: "a word or number is judged before it is counted"
 abbrev pub taken : ℕ → Lexer → Lexed
-taken zero r = ifTaken (nextOf r) (λ k a e. refused refusal.TooMany a e)
+taken zero r = ifTaken (nextOf r) (λ k a e. refuse refusal.TooMany a e)
 taken (suc room) r = ifTaken (nextOf r) (λ k a e. ahead (item k a ∷ []) (taken room (behindOf r (nextOf r))))

@@ -2,6 +2,7 @@
 use lexer::lex::Ended;
 use lexer::lex::Token;
 use lexer::lex::refuse;
+use refusals::NONE;
 use refusals::TOO_MANY;
 ghost use mathlib.Core.Path.{_≡_};
 ghost use Rattle.reader.specs.Gather.{nothing, over, joinedTo};
@@ -22,7 +23,10 @@ pub(crate) fn begun() -> Gathered
 {
     Gathered {
         going: true,
-        ended: refuse(0, 0, 0),
+        ended: Ended {
+            refusal: NONE,
+            count: 0,
+        },
         count: 0,
         codes: [0; 64],
         starts: [0; 64],
@@ -53,13 +57,11 @@ pub(crate) fn joined(g: Gathered, t: Token) -> Gathered
         Token::Finish => stopped(
             g,
             Ended {
-                number: 0,
-                place: 0,
-                end: 0,
+                refusal: NONE,
                 count: n,
             },
         ),
-        Token::Refused { number, start, end } => stopped(g, refuse(number, start, end)),
+        Token::Refused(refusal) => stopped(g, Ended { refusal, count: 0 }),
         Token::Taken { code, start, end } => {
             if 64 <= n {
                 return stopped(g, refuse(TOO_MANY, start, end));

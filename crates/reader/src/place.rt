@@ -13,7 +13,7 @@ pub(crate) fn place_behind(at: usize, t: Token) -> usize
     match t {
         Token::Finish => at,
         Token::Taken { end, .. } => end,
-        Token::Refused { end, .. } => end,
+        Token::Refused(refusal) => refusal.end,
     }
 }
 

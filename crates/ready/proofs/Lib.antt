@@ -2,9 +2,8 @@ pub mod Runs
 pub mod Forms
 pub mod Made
 pub mod Small
-pub mod Answers
+pub mod ReadyPhrases
 pub mod Settles
 pub mod Rows
 pub mod Within
 pub mod Links
-pub mod Read

@@ -1,4 +1,4 @@
--- The steps of a flat reading: those of its base, and then of each link's duration, from the last link to the first.
+-- The steps of a chain: those of its base, and then of each link's duration, from the last link to the first.
 use Prim.Native.Nat.{ℕ, zero, suc, _+_, _-_, _≤_, _<_}
 use native.Mathlib.Omega.{arith}
 use mathlib.Core.Path.{_≡_, refl, ap, sym, _∙_}
@@ -6,10 +6,9 @@ use mathlib.Core.Bool.{Bool, true, false}
 use lib.ListN.{length}
 use Rattle.dates.specs.Durations.{Duration, size}
 use Rattle.phrase.specs.Tree.{DateTime, around}
-use Rattle.phrase.specs.Flat.{treeOf, sizeTree}
-use Rattle.phrase.specs.declared.reading.Reading.{Reading}
-use Rattle.evaluation.specs.Formed.{baseOf}
-use Rattle.evaluation.proofs.Links.{linkAt, lasting, linksAt, next-link, turn, reading-walked}
+use Rattle.phrase.specs.Chains.{baseOf, treeOf, sizeTree}
+use Rattle.phrase.specs.declared.chain.Chain.{Chain}
+use Rattle.evaluation.proofs.Links.{linkAt, lasting, linksAt, next-link, turn, chain-walked}
 use Rattle.steps.specs.declared.plan.Plan.{Plan}
 use Rattle.ready.specs.Made.{addDuration, treeSteps, held}
 
@@ -31,20 +30,20 @@ around-size true d x = refl
 around-size false d x = refl
 
 -- the steps and the parts of the base and the links from i on
-abbrev pub planAt : Reading → ℕ → Plan
+abbrev pub planAt : Chain → ℕ → Plan
 planAt r i = linksAt behind r i (treeSteps held (baseOf r))
 
-abbrev pub sizeAt : Reading → ℕ → ℕ
+abbrev pub sizeAt : Chain → ℕ → ℕ
 sizeAt r i = linksAt counted r i (sizeTree (baseOf r))
 
 -- from the first link on they are those of the whole reading
-pub whole-plan : (r : Reading) → treeSteps held (treeOf r) ≡ planAt r 0
-whole-plan r = reading-walked behind (treeSteps held) around-steps r
+pub whole-plan : (r : Chain) → treeSteps held (treeOf r) ≡ planAt r 0
+whole-plan r = chain-walked behind (treeSteps held) around-steps r
 
-pub whole-size : (r : Reading) → sizeTree (treeOf r) ≡ sizeAt r 0
-whole-size r = reading-walked counted sizeTree around-size r
+pub whole-size : (r : Chain) → sizeTree (treeOf r) ≡ sizeAt r 0
+whole-size r = chain-walked counted sizeTree around-size r
 
-module _ (r : Reading) (most : r .m ≤ length (r .links)) where
+module _ (r : Chain) (most : r .m ≤ length (r .links)) where
   -- what is inside has no more parts
   pub inner-size : (i : ℕ) → i ≤ r .m → sizeAt r i ≤ sizeAt r 0
   inner-size zero h = omega arith

@@ -15,7 +15,7 @@ use Rattle.dates.specs.declared.units.Unit.{Unit}
 use Rattle.expressions.specs.Shapes.{sizeExpr}
 use Rattle.expressions.specs.Tree.{DateExpr, date, dateRelative, dateExpressionAfter, dateExpressionBefore, unitRelative}
 use Rattle.expressions.specs.Tree.{relativeWeekday, weekdayRelative, weekdayExpressionBefore, before, after, weekday, empty}
-use Rattle.phrase.specs.Flat.{sizeTree}
+use Rattle.phrase.specs.Chains.{sizeTree}
 use Rattle.phrase.specs.Tree.{DateTime, dateTime, timeDate, durationAfter, durationBefore, now}
 use Rattle.evaluation.specs.Evaluate.{isYear, isWeek, isMonthAndDay}
 use Rattle.steps.specs.Joining.{addStep, allApart}

@@ -9,7 +9,7 @@ use lib.Seq.{slice, slice-cons, length-slice}
 use Rattle.dates.specs.Durations.{Duration, part, concat, size}
 use Rattle.dates.specs.declared.duration.Part.{Part}
 use Rattle.dates.specs.declared.duration.Slot.{Slot}
-use Rattle.phrase.specs.Flat.{blankSlot, durationFrom, rowDuration}
+use Rattle.phrase.specs.Chains.{blankSlot, durationFrom, rowDuration}
 use Rattle.evaluation.proofs.Rows.{over, overRow, row-steps}
 use Rattle.steps.specs.Plans.{addTo}
 use Rattle.steps.specs.declared.plan.Plan.{Plan}

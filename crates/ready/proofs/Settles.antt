@@ -9,8 +9,10 @@ use Rattle.calendar.specs.Moments.{IsMoment, isMoment}
 use Rattle.calendar.specs.declared.moments.Moment.{Moment}
 use Rattle.calendar.proofs.Valid.{test-moment}
 use Rattle.refusals.specs.Table.{NoNow}
+use Rattle.refusals.specs.Answers.{refusalAt}
+use Rattle.refusals.proofs.Holds.{Holds, of-refusal, Bounded}
 use Rattle.answer.specs.Answer.{placed}
-use Rattle.answer.proofs.Answers.{Settled, refusal-at, placed-settled}
+use Rattle.answer.proofs.PhraseAtNow.{placed-holds, lowered}
 use Rattle.answer.proofs.Leads.{Leads, leads, refuses, behind, minutes-lead, months-lead, years-lead, kept-moment}
 use Rattle.answer.proofs.Leads.{date-leads, on-day-leads, days-back-lead, week-leads, time-leads}
 use Rattle.steps.specs.Running.{startAt, moveBy, actOf, walkOf, isList, runOf}
@@ -43,11 +45,11 @@ walk-leads : (ss : List Step) (n t : Moment) → IsMoment n → IsMoment t → L
 walk-leads [] n t w v = leads v
 walk-leads (s ∷ ss) n t w v = behind (walkOf ss n) (act-leads s n t w v) (λ u h. walk-leads ss n u w h)
 
-pub run-settled : (ss : List Step) (n : Moment) → Settled 8 (placed (runOf ss n))
+pub run-settled : (ss : List Step) (n : Moment) → Holds IsMoment (Bounded 8 13 0) (placed (runOf ss n))
 unfolding runOf
 run-settled ss n = go (isMoment n) (isList ss) refl refl
   where
-    go : (b c : Bool) → isMoment n ≡ b → isList ss ≡ c → Settled 8 (placed (runOf ss n))
-    go true true e f = rw (e, f) (placed-settled (walk-leads ss n n (test-moment n e) (test-moment n e)))
-    go true false e f = rw (e, f) (refusal-at {k = 9} (omega arith) (omega arith))
-    go false c e f = rw e (refusal-at {k = NoNow} (omega arith) (omega arith))
+    go : (b c : Bool) → isMoment n ≡ b → isList ss ≡ c → Holds IsMoment (Bounded 8 13 0) (placed (runOf ss n))
+    go true true e f = rw (e, f) (lowered (omega arith) (placed-holds (walk-leads ss n n (test-moment n e) (test-moment n e))))
+    go true false e f = rw (e, f) (of-refusal {r = refusalAt 9 0 0} (omega arith))
+    go false c e f = rw e (of-refusal {r = refusalAt NoNow 0 0} (omega arith))

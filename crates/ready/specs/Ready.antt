@@ -1,36 +1,35 @@
 -- A phrase made ready without a now.
 use Prim.Native.Nat.{ℕ}
 use mathlib.Core.List.{List}
+use Rattle.refusals.specs.Answers.{Answer, given, refused, andThen, refusalOf}
 use Rattle.calendar.specs.declared.moments.Moment.{Moment}
 use Rattle.lexer.specs.Words.{Word}
-use Rattle.phrase.specs.Read.{ReadPhrase, refusal, tree, readOf}
-use Rattle.answer.specs.Answer.{Answer, refusedAt, placed}
+use Rattle.phrase.specs.Read.{readOf}
+use Rattle.answer.specs.Answer.{placed}
 use Rattle.steps.specs.Plans.{blankPlan, planOf}
 use Rattle.steps.specs.Running.{runOf}
+use Rattle.steps.specs.declared.plan.Plan.{Plan}
 use Rattle.steps.specs.declared.plan.Step.{Step}
 use Rattle.ready.specs.Made.{stepsOf}
 use Rattle.ready.specs.declared.Ready.{Ready}
 
--- a refusal's number, place and end of the part; or the steps
-pub data ReadyPhrase : Type 0 where
-  refusedReady : ℕ → ℕ → ℕ → ReadyPhrase
-  steps : List Step → ReadyPhrase
+-- the steps, or a refusal of 1 to 7
+abbrev pub ReadyPhrase : Type 0
+ReadyPhrase = Answer (List Step)
 
--- "Making ready refuses only 1 to 7, as reading does, with the same number, place and part."
-abbrev pub readyRead : ReadPhrase → ReadyPhrase
-readyRead (refusal k a e) = refusedReady k a e
-readyRead (tree x t) = steps (stepsOf x)
-
--- a phrase, with the words of a list
+-- a phrase, with the words of a list: "Making ready refuses only 1 to 7, as reading does, with the same number, place and part."
 unfoldable pub readyOf : List Word → List ℕ → ReadyPhrase
-readyOf ws s = readyRead (readOf ws s)
+readyOf ws s = andThen (readOf ws s) (λ x. given (stepsOf (x .tree)))
 
--- the code's answer: number 0 and the steps; or a refusal's number, place and end, and no step
+-- the steps in the code's struct, and none where the phrase is refused
+abbrev pub planIn : ReadyPhrase → Plan
+planIn (given ss) = planOf ss
+planIn (refused r) = blankPlan
+
+-- the code's answer: the refusal or none, and the steps
 abbrev pub readyAnswer : ReadyPhrase → Ready
-readyAnswer (refusedReady k a e) = record { number = k; place = a; end = e; plan = blankPlan }
-readyAnswer (steps ss) = record { number = 0; place = 0; end = 0; plan = planOf ss }
+readyAnswer w = record { plan = planIn w; refusal = refusalOf w }
 
 -- what was made ready, run at a now
-abbrev pub runReady : ReadyPhrase → Moment → Answer
-runReady (refusedReady k a e) n = refusedAt k a e
-runReady (steps ss) n = placed (runOf ss n)
+abbrev pub runReady : ReadyPhrase → Moment → Answer Moment
+runReady w n = andThen w (λ ss. placed (runOf ss n))

@@ -1,4 +1,4 @@
-// The steps of a flat reading.
+// The steps of a chain.
 use dates::date::Date;
 use dates::duration::Part;
 use dates::duration::Parts;
@@ -9,8 +9,8 @@ use evaluation::expr::is_month_and_day;
 use evaluation::expr::is_week;
 use evaluation::expr::is_year;
 use expressions::expr::Expr;
-use phrase::reading::Base;
-use phrase::reading::Reading;
+use phrase::chain::Base;
+use phrase::chain::Chain;
 use steps::plan::Move;
 use steps::plan::Plan;
 use steps::plan::Start;
@@ -23,8 +23,8 @@ ghost use Prim.Native.Nat.{_+_, _*_, _≤_, _<_};
 ghost use lib.Seq.{slice};
 ghost use Rattle.dates.specs.Durations.{size};
 ghost use Rattle.expressions.specs.Shapes.{exprFrom, hasDuration, sizeExpr};
-ghost use Rattle.phrase.specs.Flat.{rowDuration, treeOf, sizeTree};
-ghost use Rattle.evaluation.specs.Formed.{baseOf, Formed};
+ghost use Rattle.phrase.specs.Chains.{rowDuration, baseOf, treeOf, sizeTree};
+ghost use Rattle.phrase.specs.Formed.{Formed};
 ghost use Rattle.steps.specs.Joining.{minutesOf};
 ghost use Rattle.steps.specs.Plans.{lastOf, begun};
 ghost use Rattle.steps.specs.declared.plan.Start.the-variants.{OnDate};
@@ -175,7 +175,7 @@ fn expr_plan(expr: Expr, parts: Parts, own: u8) -> Plan
 }
 
 // The steps of what the durations stand around.
-fn base_plan(r: Reading) -> Plan
+fn base_plan(r: Chain) -> Plan
     requires { ⌜ Formed r × (sizeTree (baseOf r) ≤ 21) ⌝ }
     ensures { λ p. ⌜ (p ≡ treeSteps held (baseOf r)) × Within p (3 + sizeTree (baseOf r)) ⌝ }
 {
@@ -191,7 +191,7 @@ fn base_plan(r: Reading) -> Plan
 }
 
 // The steps of a reading: those of each link's duration, from the last link to the first, behind those of the base.
-pub(crate) fn plan_of(r: Reading) -> Plan
+pub(crate) fn plan_of(r: Chain) -> Plan
     requires { ⌜ Formed r × (sizeTree (treeOf r) ≤ 21) ⌝ }
     ensures { λ p. ⌜ p ≡ treeSteps held (treeOf r) ⌝ }
 {

@@ -2,7 +2,7 @@
 use Prim.Native.Nat.{ℕ, zero, suc, _+_, _-_, _*_, _/_, _%_, _^_, _≤_, _<_}
 use native.Mathlib.Omega.{arith}
 use mathlib.Core.Path.{_≡_, refl, ap, sym, _∙_}
-use mathlib.Core.Bool.{Bool, true, false, cond, _&&_, and-false, false≢true}
+use mathlib.Core.Bool.{Bool, true, false, cond, _&&_, and-false, and-eq-true-iff}
 use mathlib.Core.List.{List, [], _∷_, _++_}
 use borrow.Author.Tests.{le-leb, lt-leb, eq-eqb, ne-eqb, eqb-true}
 use lib.Dec.{leb, eqb}
@@ -10,7 +10,7 @@ use lib.ListN.{length, drop, length-drop, take-append-drop, drop-of-length-le}
 use lib.Seq.{drop-drop, getD-drop}
 use Rattle.steps.proofs.Small.{All, none, more}
 use Rattle.steps.specs.declared.plan.Step.{Step}
-use Rattle.records.specs.Bytes.{bytesOf}
+use Rattle.records.specs.Bytes.{lowFirst}
 use Rattle.records.specs.Words.{words, wordsOf, stepFrom}
 use Rattle.records.specs.Records.{bytesOfWords, encodeOf, wordAt, wordsAt, sameWords, isRecord, areRecords, stepsAt, decodeOf}
 use Rattle.records.specs.declared.words.Words.{Words}
@@ -18,18 +18,13 @@ use Rattle.records.proofs.Numbers.{AreBytes, back, forth}
 use Rattle.records.proofs.Steps.{step-back, small-kind, small-form}
 use Rattle.records.proofs.Fitting.{Fits, in-bytes}
 
--- both of two tests
-both : (a b : Bool) → (a && b) ≡ true → (a ≡ true) × (b ≡ true)
-both true b h = (refl, h)
-both false b h = absurd (false≢true h)
-
 -- two records with the same numbers are one
 same-words : (v w : Words) → sameWords v w ≡ true → v ≡ w
 same-words v w h =
-    let k = both (eqb (v .kind) (w .kind)) _ h in
-    let f = both (eqb (v .form) (w .form)) _ (k .1) in
-    let a = both (eqb (v .a) (w .a)) _ (f .1) in
-    let b = both (eqb (v .b) (w .b)) _ (a .1) in
+    let k = and-eq-true-iff (eqb (v .kind) (w .kind)) _ .0 h in
+    let f = and-eq-true-iff (eqb (v .form) (w .form)) _ .0 (k .1) in
+    let a = and-eq-true-iff (eqb (v .a) (w .a)) _ .0 (f .1) in
+    let b = and-eq-true-iff (eqb (v .b) (w .b)) _ .0 (a .1) in
     let kind = eqb-true (v .kind) (w .kind) (k .0) in
     let form = eqb-true (v .form) (w .form) (f .0) in
     let first = eqb-true (v .a) (w .a) (a .0) in
@@ -107,7 +102,7 @@ decoded-back ss h fs =
 -- four bytes are those of their number
 four-bytes :
     (l : List ℕ) (at m : ℕ) {rest : List ℕ} → AreBytes l → at + 4 ≡ m → m ≤ length l → rest ≡ drop m l →
-    bytesOf 4 (wordAt l at) ++ rest ≡ drop at l
+    lowFirst 4 (wordAt l at) ++ rest ≡ drop at l
 four-bytes l at m {rest = rest} h e r f =
     let room : 4 ≤ length (drop at l) = rw length-drop (omega arith) in
     let bytes : AreBytes (drop at l) = λ i. rw getD-drop (h (at + i)) in
@@ -128,7 +123,7 @@ encoded :
     encodeOf (stepsAt n l at) ≡ drop at l
 encoded zero l at h e r = sym (drop-of-length-le l {i = at} (omega arith))
 encoded (suc n) l at h e r =
-    let now = both (isRecord (wordsAt l at)) _ r in
+    let now = and-eq-true-iff (isRecord (wordsAt l at)) _ .0 r in
     let same = same-words (wordsOf (stepFrom (wordsAt l at))) (wordsAt l at) (now .0) in
     rw (same, encoded n l (at + 16) h (omega arith) (now .1)) (record-at l at h (omega arith))
 
@@ -143,7 +138,7 @@ unfolding decodeOf
 only-records l h s ss e =
     let n = length l / 16 in
     let was = chosen (leb (length l) 384 && (eqb (length l % 16) 0 && areRecords n l 0)) (stepsAt n l 0) e in
-    let rest = both (eqb (length l % 16) 0) (areRecords n l 0) (both (leb (length l) 384) _ (was .0) .1) in
+    let rest = and-eq-true-iff (eqb (length l % 16) 0) (areRecords n l 0) .0 (and-eq-true-iff (leb (length l) 384) _ .0 (was .0) .1) in
     let whole : 0 + 16 * n ≡ length l = omega (arith, eqb-true (length l % 16) 0 (rest .0)) in
     sym (ap encodeOf (was .1)) ∙ encoded n l 0 h whole (rest .1)
 

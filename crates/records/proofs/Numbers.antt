@@ -2,15 +2,16 @@
 use Prim.Native.Nat.{ℕ, zero, suc, _+_, _-_, _*_, _/_, _%_, _^_, _≤_, _<_}
 use native.Mathlib.Omega.{arith}
 use native.Mathlib.Numerals.{add-one}
-use native.Mathlib.Nat.{pow-succ', add-zero}
+use native.Mathlib.Nat.{pow-succ'}
 use mathlib.Core.Path.{_≡_, refl, ap, sym, _∙_}
 use mathlib.Core.List.{List, [], _∷_, _++_}
 use lib.ListN.{length, take, drop, set, getD}
 use lib.Seq.{sets, drop-cons}
-use Rattle.records.specs.Bytes.{bytesOf, numOf}
+use Rattle.digits.proofs.Stores.{sets-append}
+use Rattle.records.specs.Bytes.{lowFirst, numOf}
 
 -- a number is read back from its bytes, at any width
-pub back : (k x : ℕ) → x < 256 ^ k → numOf (bytesOf k x) ≡ x
+pub back : (k x : ℕ) → x < 256 ^ k → numOf (lowFirst k x) ≡ x
 back zero x h = omega arith
 back (suc k) x h =
     let wide : x < 256 * 256 ^ k = rw pow-succ' at h in
@@ -21,7 +22,7 @@ abbrev pub AreBytes : List ℕ → Type 0
 AreBytes l = (i : ℕ) → getD l i 0 < 256
 
 -- and bytes are those of the number that they are read as
-pub forth : (k : ℕ) (l : List ℕ) → AreBytes l → k ≤ length l → bytesOf k (numOf (take k l)) ≡ take k l
+pub forth : (k : ℕ) (l : List ℕ) → AreBytes l → k ≤ length l → lowFirst k (numOf (take k l)) ≡ take k l
 forth zero l h r = refl
 forth (suc k) [] h r = absurd (omega arith)
 forth (suc k) (b ∷ bs) h r =
@@ -29,27 +30,20 @@ forth (suc k) (b ∷ bs) h r =
     let high : (b + 256 * numOf (take k bs)) / 256 ≡ numOf (take k bs) = omega (arith, h 0) in
     rw (low, high, forth k bs (λ i. h (suc i)) (omega arith))
 
--- stores behind stores are stores of the two lists in one
-pub sets-append : (l : List ℕ) (at : ℕ) (xs ys : List ℕ) → sets l at (xs ++ ys) ≡ sets (sets l at xs) (at + length xs) ys
-sets-append l at [] ys = rw add-zero
-sets-append l at (x ∷ xs) ys =
-    let e : at + suc (length xs) ≡ suc at + length xs = omega arith in
-    rw e (sets-append (set l at x) (suc at) xs ys)
-
 -- four numbers of four bytes, one behind the other
 pub put-four :
     (l : List ℕ) (at v w x y : ℕ) →
-    sets (sets (sets (sets l at (bytesOf 4 v)) (at + 4) (bytesOf 4 w)) (at + 8) (bytesOf 4 x)) (at + 12) (bytesOf 4 y)
-    ≡ sets l at (bytesOf 4 v ++ bytesOf 4 w ++ bytesOf 4 x ++ bytesOf 4 y)
+    sets (sets (sets (sets l at (lowFirst 4 v)) (at + 4) (lowFirst 4 w)) (at + 8) (lowFirst 4 x)) (at + 12) (lowFirst 4 y)
+    ≡ sets l at (lowFirst 4 v ++ lowFirst 4 w ++ lowFirst 4 x ++ lowFirst 4 y)
 put-four l at v w x y =
-    sym (sets-append l at (bytesOf 4 v ++ bytesOf 4 w ++ bytesOf 4 x) (bytesOf 4 y)
-    ∙ ap (λ (m : List ℕ). sets m (at + 12) (bytesOf 4 y)) (sets-append l at (bytesOf 4 v ++ bytesOf 4 w) (bytesOf 4 x)
-    ∙ ap (λ (m : List ℕ). sets m (at + 8) (bytesOf 4 x)) (sets-append l at (bytesOf 4 v) (bytesOf 4 w))))
+    sym (sets-append (lowFirst 4 v ++ lowFirst 4 w ++ lowFirst 4 x) (lowFirst 4 y) l at
+    ∙ ap (λ (m : List ℕ). sets m (at + 12) (lowFirst 4 y)) (sets-append (lowFirst 4 v ++ lowFirst 4 w) (lowFirst 4 x) l at
+    ∙ ap (λ (m : List ℕ). sets m (at + 8) (lowFirst 4 x)) (sets-append (lowFirst 4 v) (lowFirst 4 w) l at)))
 
 -- one byte more is put
 pub put-more :
     (l : List ℕ) (at k v i : ℕ) → i < k →
-    sets l (at + i) (bytesOf (k - i) v) ≡ sets (set l (at + i) (v % 256)) (at + (i + 1)) (bytesOf (k - (i + 1)) (v / 256))
+    sets l (at + i) (lowFirst (k - i) v) ≡ sets (set l (at + i) (v % 256)) (at + (i + 1)) (lowFirst (k - (i + 1)) (v / 256))
 put-more l at k v i h =
     let left : k - i ≡ suc (k - (i + 1)) = omega arith in
     let next : at + (i + 1) ≡ suc (at + i) = omega arith in

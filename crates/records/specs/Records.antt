@@ -6,13 +6,13 @@ use lib.Dec.{leb, eqb}
 use lib.ListN.{length, take, drop}
 use Rattle.steps.specs.Running.{starts, times}
 use Rattle.steps.specs.declared.plan.Step.{Step}
-use Rattle.records.specs.Bytes.{bytesOf, numOf}
+use Rattle.records.specs.Bytes.{lowFirst, numOf}
 use Rattle.records.specs.Words.{words, wordsOf, stepFrom}
 use Rattle.records.specs.declared.words.Words.{Words}
 
 -- kind and form share the first four bytes, kind in the lowest
 abbrev pub bytesOfWords : Words → List ℕ
-bytesOfWords w = bytesOf 4 (w .kind + 256 * w .form) ++ bytesOf 4 (w .a) ++ bytesOf 4 (w .b) ++ bytesOf 4 (w .c)
+bytesOfWords w = lowFirst 4 (w .kind + 256 * w .form) ++ lowFirst 4 (w .a) ++ lowFirst 4 (w .b) ++ lowFirst 4 (w .c)
 
 -- a record for each step, one behind the other
 abbrev pub encodeOf : List Step → List ℕ

@@ -1,5 +1,5 @@
 -- The promises of `calendar`. Assumes nothing.
-use Rattle.settled.proofs.Settled.{Settled, same, through}
+use Rattle.settled.proofs.Settled.{Same, Settled, same, through}
 use Rattle.settled.proofs.Values.{reached-one}
 use Rattle.calendar.proofs.moments.weekday_of.Reads as weekday-of'
 use Rattle.calendar.proofs.moments.valid_date.Reads as valid-date'
@@ -14,6 +14,8 @@ use Rattle.calendar.proofs.moments.Moment.on_day.Reads as on-day'
 use Rattle.calendar.proofs.moments.Moment.minutes_step.Reads as minutes-step'
 use Rattle.calendar.proofs.moments.Moment.months_step.Reads as months-step'
 use Rattle.calendar.proofs.moments.Moment.years_step.Reads as years-step'
+use Rattle.calendar.proofs.fixed.put_moment.Reads as put-moment'
+use Rattle.calendar.proofs.fixed.moment_in.Reads as moment-in'
 
 pub weekday-of : Settled weekday-of'.Post
 weekday-of = same weekday-of'.Post _ _ (λ κs a z e p. p)
@@ -53,3 +55,9 @@ months-step = through months-step'.Post _ (λ κs. reached-one) (same months-ste
 
 pub years-step : Settled years-step'.Post
 years-step = through years-step'.Post _ (λ κs. reached-one) (same years-step'.Post _ _ (λ κs a z e p. p .0))
+
+pub put-moment : Same put-moment'.Post (λ κs z e. e .0 .now)
+put-moment = same put-moment'.Post _ _ (λ κs a z e p. p)
+
+pub moment-in : Settled moment-in'.Post
+moment-in = same moment-in'.Post _ _ (λ κs a z e p. p)

@@ -1,6 +1,6 @@
 -- The promises of `dates`. Assumes nothing.
 use Rattle.settled.proofs.Settled.{Settled, same, through}
-use Rattle.settled.proofs.Values.{date-one, number-one, specifier-one, time-one, unit-one}
+use Rattle.settled.proofs.Values.{date-one, specifier-one, time-one, unit-one, weekday-one}
 use Rattle.dates.proofs.date.read_date.Reads as read-date'
 use Rattle.dates.proofs.duration.is_sub_daily_unit.Reads as is-sub-daily-unit'
 use Rattle.dates.proofs.duration.read_duration.Reads as read-duration'
@@ -29,7 +29,7 @@ pub read-unit : Settled read-unit'.Post
 read-unit = through read-unit'.Post _ (λ κs. unit-one) (same read-unit'.Post _ _ (λ κs a z e p. p .0))
 
 pub read-weekday : Settled read-weekday'.Post
-read-weekday = through read-weekday'.Post _ (λ κs. number-one) (same read-weekday'.Post _ _ (λ κs a z e p. p .0))
+read-weekday = through read-weekday'.Post _ (λ κs. weekday-one) (same read-weekday'.Post _ _ (λ κs a z e p. p .0))
 
 pub read-specifier : Settled read-specifier'.Post
 read-specifier = through read-specifier'.Post _ (λ κs. specifier-one) (same read-specifier'.Post _ _ (λ κs a z e p. p .0))

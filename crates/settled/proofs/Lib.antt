@@ -1,5 +1,6 @@
 pub mod Settled
 pub mod Values
+pub mod Digits
 pub mod Calendar
 pub mod Lexer
 pub mod Reader

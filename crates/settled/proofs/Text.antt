@@ -1,7 +1,11 @@
 -- The promises of `text`. Assumes nothing.
 use Rattle.settled.proofs.Settled.{Same, Settled, same}
+use Rattle.text.proofs.now.now_of.Reads as now-of'
 use Rattle.text.proofs.stream.answer_piece.Reads as answer-piece'
 use Rattle.text.proofs.stream.write_last.Reads as write-last'
+
+pub now-of : Settled now-of'.Post
+now-of = same now-of'.Post _ _ (λ κs a z e p. p)
 
 pub answer-piece :
     Settled answer-piece'.Post

@@ -4,21 +4,23 @@ use Prim.Native.Nat.{ℕ}
 use Rattle.calendar.specs.Moments.{Outcome, moment, refused, reachedOf}
 use Rattle.calendar.specs.declared.moments.Reached.{Reached}
 use Rattle.calendar.specs.declared.moments.Reached.the-variants.{At, Refused}
-use Rattle.numbers.specs.declared.Found.{Found}
-use Rattle.numbers.specs.declared.Found.the-variants.{Is as IsNumber, Nothing as NoNumber, Overflow as NumberOver}
-use Rattle.dates.specs.Parsed.{Parsed, is, nothing, overflow, parsedNumber}
+use Rattle.dates.specs.Parsed.{Parsed, is, nothing, overflow}
 use Rattle.dates.specs.Dates.{parsedDate}
 use Rattle.dates.specs.Times.{parsedTime}
-use Rattle.dates.specs.Units.{parsedUnit, parsedSpecifier}
+use Rattle.dates.specs.Units.{parsedUnit, parsedWeekday, parsedSpecifier}
 use Rattle.dates.specs.declared.date.DateFound.{DateFound}
 use Rattle.dates.specs.declared.date.DateFound.the-variants.{Is as IsDate, Nothing as NoDate, Overflow as DateOver}
 use Rattle.dates.specs.declared.time.TimeFound.{TimeFound}
 use Rattle.dates.specs.declared.time.TimeFound.the-variants.{Is as IsTime, Nothing as NoTime, Overflow as TimeOver}
 use Rattle.dates.specs.declared.units.UnitFound.{UnitFound}
 use Rattle.dates.specs.declared.units.UnitFound.the-variants.{Is as IsUnit, Nothing as NoUnit}
+use Rattle.dates.specs.declared.units.WeekdayFound.{WeekdayFound}
+use Rattle.dates.specs.declared.units.WeekdayFound.the-variants.{Is as IsWeekday, Nothing as NoWeekday}
 use Rattle.dates.specs.declared.units.SpecifierFound.{SpecifierFound}
 use Rattle.dates.specs.declared.units.SpecifierFound.the-variants.{Is as IsSpecifier, Nothing as NoSpecifier}
-use Rattle.answer.specs.Answer.{Answer, at, refusedAt, answerFrom}
+use Rattle.refusals.specs.Answers.{Answer, given, refused as refusedAnswer}
+use Rattle.calendar.specs.declared.moments.Moment.{Moment}
+use Rattle.answer.specs.Answer.{answerFrom}
 use Rattle.answer.specs.declared.Answered.{Answered}
 use Rattle.answer.specs.declared.Answered.the-variants.{At as AnsweredAt, Refused as AnsweredRefused}
 use Rattle.dates.specs.declared.date.Date.{Date}
@@ -28,19 +30,6 @@ use Rattle.dates.specs.declared.units.RelativeSpecifier.{RelativeSpecifier}
 
 given-back : {A B : Type 0} (value : A → B) (back : B → A) → ((x : A) → back (value x) ≡ x) → (x y : A) → value x ≡ value y → x ≡ y
 given-back value back known x y e = sym (known x) ∙ ap back e ∙ known y
-
-abbrev numberOf : Parsed ℕ → Found
-numberOf (is v t) = IsNumber v t
-numberOf nothing = NoNumber
-numberOf overflow = NumberOver
-
-number-back : (x : Found) → numberOf (parsedNumber x) ≡ x
-number-back (IsNumber v t) = refl
-number-back NoNumber = refl
-number-back NumberOver = refl
-
-pub number-one : (x y : Found) → parsedNumber x ≡ parsedNumber y → x ≡ y
-number-one = given-back parsedNumber numberOf number-back
 
 abbrev dateOf : Parsed Date → DateFound
 dateOf (is d t) = IsDate d t
@@ -80,6 +69,18 @@ unit-back NoUnit = refl
 pub unit-one : (x y : UnitFound) → parsedUnit x ≡ parsedUnit y → x ≡ y
 unit-one = given-back parsedUnit unitOf unit-back
 
+abbrev weekdayOf : Parsed ℕ → WeekdayFound
+weekdayOf (is n t) = IsWeekday n
+weekdayOf nothing = NoWeekday
+weekdayOf overflow = NoWeekday
+
+weekday-back : (x : WeekdayFound) → weekdayOf (parsedWeekday x) ≡ x
+weekday-back (IsWeekday n) = refl
+weekday-back NoWeekday = refl
+
+pub weekday-one : (x y : WeekdayFound) → parsedWeekday x ≡ parsedWeekday y → x ≡ y
+weekday-one = given-back parsedWeekday weekdayOf weekday-back
+
 abbrev specifierOf : Parsed RelativeSpecifier → SpecifierFound
 specifierOf (is s t) = IsSpecifier s
 specifierOf nothing = NoSpecifier
@@ -103,13 +104,13 @@ reached-back (Refused k) = refl
 pub reached-one : (x y : Reached) → reachedOf x ≡ reachedOf y → x ≡ y
 reached-one = given-back reachedOf reached reached-back
 
-abbrev answered : Answer → Answered
-answered (at t) = AnsweredAt t
-answered (refusedAt k a e) = AnsweredRefused k a e
+abbrev answered : Answer Moment → Answered
+answered (given t) = AnsweredAt t
+answered (refusedAnswer r) = AnsweredRefused r
 
 answered-back : (x : Answered) → answered (answerFrom x) ≡ x
 answered-back (AnsweredAt t) = refl
-answered-back (AnsweredRefused k a e) = refl
+answered-back (AnsweredRefused r) = refl
 
 pub answered-one : (x y : Answered) → answerFrom x ≡ answerFrom y → x ≡ y
 answered-one = given-back answerFrom answered answered-back

@@ -1,8 +1,7 @@
 // Prints days, dates and steps of the calendar, one a line. What it must print is made by another calendar (data/expected.py).
+use calendar::fixed::put_moment;
 use calendar::moments::Moment;
 use calendar::moments::Reached;
-ghost use mathlib.Core.Path.{_≡_};
-ghost use Prim.Native.Nat.{_+_, _%_};
 ghost use Rattle.calendar.specs.Moments.{IsMoment};
 
 // Writes bytes.
@@ -10,32 +9,18 @@ fn text(s: &[u8]) {
     io::write_all(1, s);
 }
 
-// The last digit of a number.
-fn digit(n: u32) -> u8
-    ensures { λ r. ⌜ r ≡ 48 + n % 10 ⌝ }
-{
-    (48 + n % 10) as u8
-}
-
-// Writes a mark and two digits.
-fn pair(mark: u8, n: u32) {
-    text(&[mark, digit(n / 10), digit(n)]);
-}
-
-// Writes the date of a moment.
+// Writes the date of a moment: the first ten bytes of its text.
 fn date(t: Moment) {
-    let y = t.year;
-    text(&[digit(y / 1000), digit(y / 100), digit(y / 10), digit(y)]);
-    pair(b'-', t.month);
-    pair(b'-', t.day);
+    let mut out = [0u8; 19];
+    put_moment(&mut out, b' ', t);
+    text(&out[0..10]);
 }
 
 // Writes a moment.
 fn moment(t: Moment) {
-    date(t);
-    pair(b' ', t.hour);
-    pair(b':', t.minute);
-    pair(b':', t.second);
+    let mut out = [0u8; 19];
+    put_moment(&mut out, b' ', t);
+    text(&out);
 }
 
 // Writes the date, the day number and the weekday of a moment.
@@ -47,7 +32,8 @@ fn day_line(t: Moment)
     text(b" is day ");
     io::print_decimal(1, n as u64);
     text(b", weekday ");
-    text(&[digit(calendar::moments::weekday_of(n)), b'\n']);
+    io::print_decimal(1, calendar::moments::weekday_of(n) as u64);
+    text(b"\n");
 }
 
 // Day n: its date, and that date's number and weekday.

@@ -1,4 +1,4 @@
-// What the Rust's Debug prints of a phrase's lexemes and of its reading, on standard output.
+// On standard output: what the Rust's Debug prints of a phrase's lexemes and of its reading, and moments.
 pub mod lexemes;
 mod name;
 pub mod out;

@@ -11,8 +11,8 @@ use dates::duration::Parts;
 use dates::time::Time;
 use dates::units::RelativeSpecifier;
 use expressions::expr::Expr;
-use phrase::reading::Base;
-use phrase::reading::Reading;
+use phrase::chain::Base;
+use phrase::chain::Chain;
 
 // Two numbers behind a name.
 fn two(name: &[u8], a: u32, b: u32) {
@@ -240,7 +240,7 @@ fn open_link(back: bool) {
 }
 
 // `enum DateTime`: the durations, outermost first, around the base, which has its own parts behind theirs.
-pub fn write_reading(r: Reading) {
+pub fn write_reading(r: Chain) {
     let parts = r.parts;
     let m = r.m;
     let mut i: u8 = 0;

@@ -3,72 +3,19 @@
 use answer::Answered;
 use answer::answer;
 use bytes::scan;
+use calendar::fixed::moment_in;
 use calendar::moments::Moment;
 use calendar::moments::Reached;
-use libc::STDOUT_FILENO;
 use ready::make_ready;
 use records::record::encode;
 use records::run::run_ready;
 use steps::plan::Plan;
-ghost use mathlib.Core.Path.{_≡_};
-ghost use Prim.Native.Nat.{_+_, _-_, _%_, _≤_};
+use test_print::out::moment;
+use test_print::out::number;
+use test_print::out::text;
 
 // A now has this many bytes, and a bar stands behind it.
 const NOW: usize = 19;
-
-// Bytes as they are.
-fn text(s: &[u8]) {
-    io::write_all(STDOUT_FILENO, s);
-}
-
-// A number behind a text.
-fn number(s: &[u8], n: u64) {
-    text(s);
-    io::print_decimal(STDOUT_FILENO, n);
-}
-
-// The last digit of a number.
-fn digit(n: u32) -> u8
-    ensures { λ r. ⌜ r ≡ 48 + n % 10 ⌝ }
-{
-    (48 + n % 10) as u8
-}
-
-// A mark and two digits.
-fn pair(mark: u8, n: u32) {
-    text(&[mark, digit(n / 10), digit(n)]);
-}
-
-// A moment, `2026-02-11 09:30:15`.
-fn write_moment(t: Moment) {
-    let y = t.year;
-    text(&[digit(y / 1000), digit(y / 100), digit(y / 10), digit(y)]);
-    pair(b'-', t.month);
-    pair(b'-', t.day);
-    pair(b' ', t.hour);
-    pair(b':', t.minute);
-    pair(b':', t.second);
-}
-
-// The value of a digit.
-fn value(b: u8) -> u32
-    ensures { λ r. ⌜ (r ≡ b - 48) × (r ≤ 207) ⌝ }
-{
-    if b < 48 {
-        return 0;
-    }
-    (b - 48) as u32
-}
-
-// The number of two digits at a place of a now.
-fn two(s: &[u8; 19], at: usize) -> u32
-    ensures { λ r. ⌜ r ≤ 2277 ⌝ }
-{
-    if 17 < at {
-        return 0;
-    }
-    10 * value(s[at]) + value(s[at + 1])
-}
 
 // A refusal with its place and the end of its part.
 fn write_refusal(n: u8, place: usize, end: usize) {
@@ -77,22 +24,11 @@ fn write_refusal(n: u8, place: usize, end: usize) {
     number(b" to ", end as u64);
 }
 
-// The now that stands in 19 bytes.
-fn moment_of(now: &[u8; 19]) -> Moment {
-    Moment::first()
-        .with_date(100 * two(now, 0) + two(now, 2), two(now, 5), two(now, 8))
-        .with_time(two(now, 11), two(now, 14), two(now, 17))
-}
-
 // The answer to a phrase at a now.
 fn write_answer(phrase: &[u8], t: Moment) {
-    match answer(phrase, t.year, t.month, t.day, t.hour, t.minute, t.second) {
-        Answered::At(u) => write_moment(u),
-        Answered::Refused {
-            number: n,
-            place,
-            end,
-        } => write_refusal(n, place, end),
+    match answer(phrase, t) {
+        Answered::At(u) => moment(u),
+        Answered::Refused(r) => write_refusal(r.number, r.place, r.end),
     }
 }
 
@@ -102,7 +38,7 @@ fn write_records(ready: &[u8], size: usize, t: Moment) {
         return;
     }
     match run_ready(&ready[0..size], t) {
-        Reached::At(u) => write_moment(u),
+        Reached::At(u) => moment(u),
         Reached::Refused(k) => write_refusal(k, 0, 0),
     }
 }
@@ -122,27 +58,14 @@ fn write_run(plan: Plan, t: Moment) {
 // The phrase made ready, run at a now, and the count of its steps.
 fn write_ready(phrase: &[u8], t: Moment) {
     let made = make_ready(phrase);
-    if made.number == 0 {
+    let refusal = made.refusal;
+    if refusal.number == 0 {
         let plan = made.plan;
         write_run(plan, t);
     } else {
-        write_refusal(made.number, made.place, made.end);
+        write_refusal(refusal.number, refusal.place, refusal.end);
         text(b"|0");
     }
-}
-
-// The first bytes of a line.
-fn now_of(line: &[u8]) -> [u8; 19] {
-    let mut now = [48u8; 19];
-    let mut i: usize = 0;
-    while i < NOW {
-        if line.len() <= i {
-            return now;
-        }
-        now[i] = line[i];
-        i += 1;
-    }
-    now
 }
 
 // A now, a bar and a phrase.
@@ -150,8 +73,7 @@ fn write_line(line: &[u8]) {
     if line.len() <= NOW {
         return;
     }
-    let now = now_of(line);
-    let t = moment_of(&now);
+    let t = moment_in(line);
     write_answer(&line[20..], t);
     text(b"|");
     write_ready(&line[20..], t);

@@ -1,27 +1,24 @@
 // One line.
 use super::escape::unescape;
-use super::moment::write_moment;
-use super::now::now_of;
 use super::read::write_phrase;
 use answer::Answered;
 use answer::answer;
 use bytes::scan;
+use calendar::moments::Moment;
+use test_print::out::moment;
 use test_print::out::number;
 use test_print::out::text;
+use text::now::now_of;
 
-// What a phrase is read as, and its moment at now's six numbers or its refusal.
-fn write_answer(phrase: &[u8], now: [u32; 6]) {
+// What a phrase is read as, and its moment at a now or its refusal.
+fn write_answer(phrase: &[u8], t: Moment) {
     write_phrase(phrase);
-    match answer(phrase, now[0], now[1], now[2], now[3], now[4], now[5]) {
-        Answered::At(t) => write_moment(t),
-        Answered::Refused {
-            number: n,
-            place,
-            end,
-        } => {
-            number(b"refused ", n as u64);
-            number(b" at ", place as u64);
-            number(b" to ", end as u64);
+    match answer(phrase, t) {
+        Answered::At(u) => moment(u),
+        Answered::Refused(r) => {
+            number(b"refused ", r.number as u64);
+            number(b" at ", r.place as u64);
+            number(b" to ", r.end as u64);
         }
     }
     text(b"\n");

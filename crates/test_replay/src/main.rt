@@ -7,8 +7,6 @@ ghost use lib.ListN.{length};
 
 mod escape;
 mod line;
-mod moment;
-mod now;
 mod read;
 
 // So many bytes of an unfinished line are kept: behind a now and its bar that is more than 256 bytes of a phrase, each in at most four,

@@ -8,18 +8,19 @@ use lib.Dec.{leb, eqb}
 use lib.ListN.{length, length-take, length-append}
 use lib.Seq.{take-all, take-take}
 use borrow.Author.Tests.{leb-true, leb-false, lt-leb}
+use Rattle.digits.specs.Forms.{ofForm}
+use Rattle.digits.proofs.Forms.{form-length}
 use Rattle.lexer.specs.Keywords.{keywords}
 use Rattle.lexer.specs.Lex.{lexed}
 use Rattle.refusals.specs.Table as refusal
 use Rattle.calendar.specs.declared.moments.Moment.{Moment}
 use Rattle.phrase.specs.Read.{readOf}
-use Rattle.text.specs.Answers.{refusedAt, answerOf}
-use Rattle.text.specs.Nows.{ofForm, nowForm, noNow, nowOf}
+use Rattle.text.specs.Answers.{refuse, answerOf}
+use Rattle.text.specs.Nows.{nowForm, noNow, nowOf}
 use Rattle.text.specs.Lines.{feed, wholeFrom, restFrom, lastOf}
 use Rattle.text.specs.Output.{kept, lineText, afterLine, linesText, afterLines}
 use Rattle.text.specs.declared.stream.Known.{Known}
 use Rattle.text.specs.declared.stream.Known.the-variants.{Nothing, Now}
-use Rattle.text.proofs.Forms.{form-length}
 
 -- the same line, or two of more than 256 bytes
 pub data Alike (l m : List ℕ) : Type 0 where
@@ -44,7 +45,7 @@ alike-kept l m e = go (leb (length l) 256) refl
         long many (omega arith)
 
 -- "phrase longer than 256 bytes" is refusal 1 at every now
-pub too-long : (l : List ℕ) (n : Moment) → 256 < length l → answerOf keywords l n ≡ refusedAt refusal.TooLong 0 0
+pub too-long : (l : List ℕ) (n : Moment) → 256 < length l → answerOf keywords l n ≡ refuse refusal.TooLong 0 0
 unfolding answerOf readOf lexed
 too-long l n h = rw (lt-leb (length l) 256 h)
 

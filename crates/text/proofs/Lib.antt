@@ -1,11 +1,6 @@
-pub mod Stores
-pub mod Takes
-pub mod Widths
-pub mod Forms
-pub mod Ends
+pub mod Nows
 pub mod Spelled
 pub mod Cuts
 pub mod Streams
-pub mod Says
 pub mod Alike
 pub mod Pieces

@@ -6,15 +6,15 @@ use mathlib.Core.List.{List, [], _++_}
 use lib.ListN.{length, length-append}
 use lib.Seq.{sets}
 use borrow.Author.Tests.{le-leb, lt-leb}
-use Rattle.lexer.specs.Words.{bytesOf}
+use Rattle.digits.specs.Bytes.{bytesOf}
+use Rattle.digits.specs.Digits.{widthOf, decimalOf}
+use Rattle.digits.proofs.Stores.{sets-append}
+use Rattle.digits.proofs.Widths.{digits-length, width-limit}
 use Rattle.lexer.specs.Keywords.{keywords}
 use Rattle.calendar.specs.declared.moments.Moment.{Moment}
-use Rattle.text.specs.Answers.{Answer, at, refusedAt, answerOf}
-use Rattle.text.specs.Digits.{widthOf, decimalOf}
+use Rattle.text.specs.Answers.{Answer, given, refused, answerOf}
 use Rattle.text.specs.Texts.{refusalText, textOf, fitting}
 use Rattle.text.specs.Output.{answerLine}
-use Rattle.text.proofs.Stores.{sets-append}
-use Rattle.text.proofs.Widths.{digits-length, width-most}
 
 -- "refused ", " at " and two numbers
 pub refusal-length : (k a : ℕ) → length (refusalText k a) ≡ 12 + widthOf k + widthOf a
@@ -23,15 +23,11 @@ refusal-length k a =
     let second : length (decimalOf a) ≡ widthOf a = digits-length (widthOf a) a in
     simp length-append (omega arith)
 
-width-limit : (n : ℕ) → widthOf n ≤ 20
-unfolding widthOf
-width-limit n = width-most 19 n
-
 -- no answer is longer
-pub text-limit : (x : Answer) → length (textOf x) ≤ 52
+pub text-limit : (x : Answer Moment) → length (textOf x) ≤ 52
 unfolding textOf
-text-limit (at t) = omega arith
-text-limit (refusedAt k a e) = omega (arith, refusal-length k a, width-limit k, width-limit a)
+text-limit (given t) = omega arith
+text-limit (refused r) = omega (arith, refusal-length (r .number) (r .place), width-limit (r .number), width-limit (r .place))
 
 -- nor its line
 pub answer-limit : (n : Moment) (p : List ℕ) → length (answerLine n p) ≤ 53

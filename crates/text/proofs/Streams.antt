@@ -6,18 +6,18 @@ use mathlib.Core.Path.{_≡_, refl, sym, _∙_}
 use mathlib.Core.List.{List, [], _∷_, _++_, append-nil, append-assoc}
 use lib.ListN.{length, take, drop, length-take, length-append, length-drop}
 use lib.Seq.{sets, length-sets, length-take-le}
-use Rattle.text.specs.Lines.{feed, wholeOf, restOf, lineAt}
-use Rattle.text.specs.Texts.{Written, Added}
+use Rattle.digits.specs.Stores.{Written, Added}
+use Rattle.digits.proofs.Stores.{sets-append}
+use Rattle.digits.proofs.Takes.{drop-take}
+use Rattle.text.specs.Lines.{wholeOf, restOf, lineAt}
 use Rattle.text.specs.Output.{lineText, afterLine, linesText, afterLines, passedText, passed, Placed, kept, pieceOf, Held, lastText}
 use Rattle.text.specs.declared.line.Line.{Line}
 use Rattle.text.specs.declared.stream.Known.{Known}
 use Rattle.text.specs.declared.stream.Known.the-variants.{Nothing, Now}
 use Rattle.text.specs.declared.stream.Passed.{Passed}
 use Rattle.text.specs.declared.stream.Piece.{Piece}
-use Rattle.text.proofs.Stores.{sets-append}
 use Rattle.text.proofs.Spelled.{answer-limit}
 use Rattle.text.proofs.Cuts.{Open, Next}
-use Rattle.text.proofs.Takes.{drop-take}
 
 -- no bytes behind the last line feed are no line
 pub last-none : (k : Known) (l : List ℕ) → length l ≡ 0 → lastText k l ≡ []

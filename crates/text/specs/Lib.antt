@@ -1,5 +1,4 @@
 pub mod Answers
-pub mod Digits
 pub mod Nows
 pub mod Lines
 pub mod Texts

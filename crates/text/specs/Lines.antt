@@ -1,10 +1,11 @@
 -- The lines of a text: "A line feed ends a line; bytes after the last one, if any, are a line." Assumes nothing.
-use Prim.Native.Nat.{ℕ, suc, _+_}
+use Prim.Native.Nat.{ℕ, _+_}
 use Prim.Native.Char.{code}
 use mathlib.Core.Bool.{cond}
 use mathlib.Core.List.{List, [], _∷_, _++_}
 use lib.Dec.{ltb, eqb}
 use lib.ListN.{length, drop}
+use Rattle.bytes.specs.Bytes.{indexOf}
 use Rattle.text.specs.declared.line.Line.{Line}
 
 -- the byte that ends a line
@@ -38,11 +39,6 @@ lastOf (b ∷ bs) = (b ∷ bs) ∷ []
 abbrev pub linesOf : List ℕ → List (List ℕ)
 linesOf s = wholeOf s ++ lastOf (restOf s)
 
--- how many bytes stand before the first line feed
-abbrev pub ahead : List ℕ → ℕ
-ahead [] = 0
-ahead (b ∷ bs) = cond (eqb b feed) 0 (suc (ahead bs))
-
 -- where the line ends that begins at a, and whether a line feed ends it
 unfoldable pub lineAt : List ℕ → ℕ → Line
-lineAt s a = record { end = a + ahead (drop a s); ended = ltb (a + ahead (drop a s)) (length s) }
+lineAt s a = record { end = a + indexOf feed (drop a s); ended = ltb (a + indexOf feed (drop a s)) (length s) }

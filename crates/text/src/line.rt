@@ -1,4 +1,5 @@
 // The lines of a text.
+use bytes::scan::find;
 ghost use mathlib.Core.Path.{_≡_};
 ghost use Rattle.text.specs.Lines.{lineAt};
 
@@ -12,12 +13,13 @@ pub struct Line {
 pub(crate) fn line_at(s: &[u8], at: usize) -> Line
     ensures { λ r. ⌜ r ≡ lineAt (now (s .entry)) at ⌝ }
 {
-    let mut end = at;
-    while end < s.len() {
-        if s[end] == b'\n' {
-            return Line { end, ended: true };
-        }
-        end += 1;
+    if s.len() < at {
+        return Line {
+            end: at,
+            ended: false,
+        };
     }
-    Line { end, ended: false }
+    let end = find(s, at, s.len(), b'\n');
+    let ended = end < s.len();
+    Line { end, ended }
 }

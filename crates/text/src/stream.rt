@@ -7,7 +7,7 @@ ghost use mathlib.Core.Path.{_≡_};
 ghost use Prim.Native.Nat.{_+_, _*_, _-_, _≤_, min};
 ghost use lib.ListN.{length, drop, take};
 ghost use lib.Seq.{sets};
-ghost use Rattle.text.specs.Texts.{Written, Added};
+ghost use Rattle.digits.specs.Stores.{Written, Added};
 ghost use Rattle.text.specs.Lines.{restOf};
 ghost use Rattle.text.specs.Output.{lineText, afterLine, passedText, passed, Placed, kept, pieceOf, Held, lastText};
 

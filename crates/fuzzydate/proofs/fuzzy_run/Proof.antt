@@ -2,8 +2,7 @@ use native.Mathlib.Omega.{arith}
 use mathlib.Core.Path.{_≡_, ap, sym, _∙_}
 use denote.Ref.{now}
 use Rattle.calendar.specs.declared.moments.Moment.{Moment}
-use Rattle.answer.specs.Answer.{momentOf}
-use Rattle.calendar.specs.Moments.{reachedOf}
+use Rattle.calendar.specs.Moments.{momentOf, reachedOf}
 use Rattle.calendar.specs.declared.moments.Reached.{Reached}
 use Rattle.steps.specs.Running.{runOf}
 use Rattle.records.specs.Records.{decodeOf}
@@ -18,19 +17,9 @@ nowOf c = let a = c .args in momentOf (a .year) (a .month) (a .day) (a .hour) (a
 -- what the ready phrase gives is what the code's answer stands for
 stands :
     (c : tie.After-run-ready) {r : Reached} → c .run-ready .result ≡ r →
-    let start = c .before .before .before .before .before in
+    let start = c .before .before in
     runOf (decodeOf (now (start .args .ready))) (nowOf start) ≡ reachedOf r
-stands c e =
-    sym (sym (ap reachedOf e) ∙ c .run-ready .ensures .0 ∙ rw (c .before .with-time .ensures, c .before .before .with-date .ensures))
-
-first-requires : tie.Need-first-requires
-first-requires c κs = search needs
-
-with-date-requires : tie.Need-with-date-requires
-with-date-requires c κs = search needs
-
-with-time-requires : tie.Need-with-time-requires
-with-time-requires c κs = search needs
+stands c e = sym (c .run-ready .ensures .0) ∙ ap reachedOf e
 
 run-ready-requires : tie.Need-run-ready-requires
 run-ready-requires c κs = search needs
@@ -54,9 +43,6 @@ pub fuzzy-run-spec : {M : Type 1} → statement M
 fuzzy-run-spec =
     tie.close
     (tie.spec
-    first-requires
-    with-date-requires
-    with-time-requires
     run-ready-requires
     enum-known-t
     enum-known-number

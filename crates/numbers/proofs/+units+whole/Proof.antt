@@ -8,15 +8,16 @@ use borrow.Author.Needs.{needs}
 use borrow.Fn.Kinds.{In}
 use borrow.Fn.PlainCycle.{Measures, is, falls, and}
 use Rattle.numbers.specs.Numbers.{tailOf, unitsOf, numStep, numOf}
-use Rattle.numbers.proofs.Laws.{kept, none, found, most, wider, promised}
-use Rattle.numbers.proofs.Bounds.{product, units-read, num-read}
-use Rattle.numbers.proofs.Turns.{num-is}
+use Rattle.numbers.proofs.NumberAnswers.{kept, none, found, most, wider, promised}
+use Rattle.numbers.proofs.NumberBounds.{product, units-read, num-read}
+use Rattle.numbers.proofs.NumStep.{num-is}
 use Rattle.numbers.proofs.whole.Reads as whole
 use Rattle.numbers.proofs.whole.Kinds as whole-kinds
 use Rattle.numbers.proofs.+units+whole.Lts-whole as whole-lts
 use Rattle.numbers.proofs.units.Reads as units
 use Rattle.numbers.proofs.units.Kinds as units-kinds
 use Rattle.numbers.proofs.+units+whole.Lts-units as units-lts
+use Rattle.numbers.proofs.found.Reads as found-reads
 use Rattle.numbers.proofs.literal.Reads as literal-reads
 use Rattle.numbers.proofs.num_triple.Reads as num-triple-reads
 use Rattle.numbers.proofs.num_triple_unit.Reads as num-triple-unit-reads
@@ -48,6 +49,8 @@ module _ (t : ℕ) where
     num-triple-reads.Learnt,
     and 1 units-kinds.ps (falls 1 units-kinds.ps _<_ μ-units t) units.Pre,
     units.Post,
+    found-reads.Asked,
+    found-reads.Learnt,
     literal-reads.Asked,
     literal-reads.Learnt,
   )
@@ -87,8 +90,11 @@ module _ (t : ℕ) where
       (rw (num-is (now (c .before .before .before .before .args .l)), ← (num-triple .ensures .0), ← (units .ensures .0)) (sym (kept _ _ (arm .keys2))))
       (num-read _)
 
+  whole-found-requires : whole-lts.Need-found-requires whole-claims whole-at whole.Post
+  whole-found-requires c κs = search needs
+
   whole-units-requires-2 : whole-lts.Need-units-requires-2 whole-claims whole-at whole.Post
-  whole-units-requires-2 c κs = (omega arith, record { bounds = omega arith })
+  whole-units-requires-2 c κs = (omega arith, rw (c .found .ensures) (record { bounds = omega arith }))
 
   whole-enum-told-2 : whole-lts.Need-enum-told-2 whole-claims whole-at whole.Post
   whole-enum-told-2 c = search needs
@@ -96,17 +102,19 @@ module _ (t : ℕ) where
   whole-returns-2 : whole-lts.Need-returns-2 whole-claims whole-at whole.Post
   unfolding numStep
   whole-returns-2 c =
-      let num-triple = c .before .before .before .before .before .num-triple in
-      let units = c .before .before .before .before .units in
-      let enum-told = c .before .before .enum-told in
+      let num-triple = c .before .before .before .before .before .before .num-triple in
+      let units = c .before .before .before .before .before .units in
+      let enum-told = c .before .before .before .enum-told in
+      let found = c .before .before .found in
       let units2 = c .before .units2 in
       let arm2 = c .match2 in
       promised
       (rw (
-        num-is (now (c .before .before .before .before .before .before .before .args .l)),
+        num-is (now (c .before .before .before .before .before .before .before .before .args .l)),
         ← (num-triple .ensures .0),
         ← (units .ensures .0),
         enum-told .given .1,
+        ← (found .ensures),
         ← (units2 .ensures .0),
       ) (sym (kept _ _ (arm2 .keys2))))
       (num-read _)
@@ -117,18 +125,20 @@ module _ (t : ℕ) where
   whole-returns-3 : whole-lts.Need-returns-3 whole-claims whole-at whole.Post
   unfolding numStep
   whole-returns-3 c =
-      let num-triple = c .before .before .before .before .before .before .before .num-triple in
-      let units = c .before .before .before .before .before .before .units in
-      let enum-told = c .before .before .before .before .enum-told in
+      let num-triple = c .before .before .before .before .before .before .before .before .num-triple in
+      let units = c .before .before .before .before .before .before .before .units in
+      let enum-told = c .before .before .before .before .before .enum-told in
+      let found = c .before .before .before .before .found in
       let units2 = c .before .before .before .units2 in
       let enum-told2 = c .before .enum-told2 in
       let arm3 = c .match3 in
       promised
       (rw (
-        num-is (now (c .before .before .before .before .before .before .before .before .before .args .l)),
+        num-is (now (c .before .before .before .before .before .before .before .before .before .before .args .l)),
         ← (num-triple .ensures .0),
         ← (units .ensures .0),
         enum-told .given .1,
+        ← (found .ensures),
         ← (units2 .ensures .0),
         enum-told2 .given .1,
       ) (sym (kept _ _ (arm3 .keys2))))
@@ -140,19 +150,21 @@ module _ (t : ℕ) where
   whole-returns-4 : whole-lts.Need-returns-4 whole-claims whole-at whole.Post
   unfolding numStep
   whole-returns-4 c =
-      let num-triple = c .before .before .before .before .before .before .before .before .before .num-triple in
-      let units = c .before .before .before .before .before .before .before .before .units in
-      let enum-told = c .before .before .before .before .before .before .enum-told in
+      let num-triple = c .before .before .before .before .before .before .before .before .before .before .num-triple in
+      let units = c .before .before .before .before .before .before .before .before .before .units in
+      let enum-told = c .before .before .before .before .before .before .before .enum-told in
+      let found = c .before .before .before .before .before .before .found in
       let units2 = c .before .before .before .before .before .units2 in
       let enum-told2 = c .before .before .before .enum-told2 in
       let enum-told3 = c .before .enum-told3 in
       let literal = c .literal in
       promised
       (rw (
-        num-is (now (c .before .before .before .before .before .before .before .before .before .before .before .args .l)),
+        num-is (now (c .before .before .before .before .before .before .before .before .before .before .before .before .args .l)),
         ← (num-triple .ensures .0),
         ← (units .ensures .0),
         enum-told .given .1,
+        ← (found .ensures),
         ← (units2 .ensures .0),
         enum-told2 .given .1,
         enum-told3 .given .1,
@@ -200,10 +212,10 @@ module _ (t : ℕ) where
 
   -- what is known where the unit was read behind the triple
   read : (c : units-lts.After-known-told2 units-claims units-at units.Post) →
-      let triple = c .before .before .before .before .before .before .triple .given .0 in
-      let unit = c .before .unit .given .0 in
-      (triple .0 * unit .0 ≤ 999000000000) × (0 < unit .1 .0)
-      × (triple .1 .0 + unit .1 .0 ≤ length (c .before .before .before .before .before .before .before .before .before .args .l .now))
+      let triple = c .before .before .before .before .before .before .triple .given .0 .0 in
+      let unit = c .before .unit .given .0 .0 in
+      (triple .value * unit .value ≤ 999000000000) × (0 < unit .taken)
+      × (triple .taken + unit .taken ≤ length (c .before .before .before .before .before .before .before .before .before .args .l .now))
   read c =
       let behind = c .before .before .before in
       let b = found (behind .before .before .before .triple .given .1) (behind .before .before .before .before .before .before .pre .1) in
@@ -212,10 +224,10 @@ module _ (t : ℕ) where
       omega arith
 
   units-mul-head : units-lts.Need-mul-head units-claims units-at units.Post
-  units-mul-head c = let b = read c in omega arith
+  units-mul-head c = let b = read (c .before .before) in omega arith
 
   units-add-s : units-lts.Need-add-s units-claims units-at units.Post
-  units-add-s c = let b = read c in omega arith
+  units-add-s c = let b = read (c .before .before .before .before) in omega arith
 
   units-is-at-requires : units-lts.Need-is-at-requires units-claims units-at units.Post
   units-is-at-requires c κs = search needs
@@ -224,21 +236,21 @@ module _ (t : ℕ) where
   units-one-if-requires c κs = search needs
 
   units-add-tokens : units-lts.Need-add-tokens units-claims units-at units.Post
-  units-add-tokens c = let b = read (c .before .before) in omega arith
+  units-add-tokens c = let b = read (c .before .before .before .before .before .before) in omega arith
 
   units-rest-requires-2 : units-lts.Need-rest-requires-2 units-claims units-at units.Post
-  units-rest-requires-2 c κs = let b = read (c .before .before) in omega arith
+  units-rest-requires-2 c κs = let b = read (c .before .before .before .before .before .before) in omega arith
 
   units-whole-requires : units-lts.Need-whole-requires units-claims units-at units.Post
-  units-whole-requires c κs = let b = read (c .before .before .before) in (omega arith, tt)
+  units-whole-requires c κs = let b = read (c .before .before .before .before .before .before .before) in (omega arith, tt)
 
   units-sum-requires : units-lts.Need-sum-requires units-claims units-at units.Post
-  units-sum-requires c κs = let b = read (c .before .before .before .before) in let m = most (c .whole .ensures .1) in omega arith
+  units-sum-requires c κs = let b = read (c .before .before .before .before .before .before .before .before) in let m = most (c .whole .ensures .1) in omega arith
 
   units-returns-3 : units-lts.Need-returns-3 units-claims units-at units.Post
   unfolding unitsOf tailOf
   units-returns-3 c =
-      let place = c .before .before .before .before .before in
+      let place = c .before .before .before .before .before .before .before .before .before in
       let behind = place .before .before .before in
       let start = behind .before .before .before in
       promised
@@ -283,6 +295,7 @@ pub +units+whole-spec : {M : Type 1} → statement M
     (whole-units-requires t)
     (whole-enum-told t)
     (whole-returns t)
+    (whole-found-requires t)
     (whole-units-requires-2 t)
     (whole-enum-told-2 t)
     (whole-returns-2 t)

@@ -1,8 +1,8 @@
 use mathlib.Core.Path.{sym, _∙_}
 use denote.Ref.{now}
 use Rattle.numbers.specs.Numbers.{numOf}
-use Rattle.numbers.proofs.Laws.{kept, promised}
-use Rattle.numbers.proofs.Bounds.{num-read}
+use Rattle.numbers.proofs.NumberAnswers.{kept, promised}
+use Rattle.numbers.proofs.NumberBounds.{num-read}
 use Rattle.numbers.proofs.Alone.{alone}
 use borrow.Author.Needs.{needs}
 use Rattle.numbers.proofs.begun.Statement.{statement}

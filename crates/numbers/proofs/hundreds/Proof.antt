@@ -2,9 +2,9 @@ use Prim.Native.Nat.{_≤_, _<_}
 use native.Mathlib.Omega.{arith}
 use lib.ListN.{length}
 use Rattle.numbers.specs.Numbers.{tailOf, hundredsOf}
-use Rattle.numbers.proofs.Laws.{none, found, most, promised}
-use Rattle.numbers.proofs.Places.{there}
-use Rattle.numbers.proofs.Bounds.{hundreds-taken}
+use Rattle.numbers.proofs.NumberAnswers.{none, found, most, promised}
+use Rattle.numbers.proofs.LexemeAt.{there}
+use Rattle.numbers.proofs.NumberBounds.{hundreds-taken}
 use borrow.Author.Needs.{needs}
 use Rattle.numbers.proofs.hundreds.Statement.{statement}
 use Rattle.numbers.proofs.hundreds.Tie as tie
@@ -27,15 +27,15 @@ mul-head c = search needs
 
 -- what is known where `Hundred` was seen behind the ones
 seen : (c : tie.Then1) →
-    let ones = c .before .before .before .ones in
-    (ones .given .0 .0 ≤ 9) × (ones .given .0 .1 .0 < length (c .before .before .before .before .before .before .args .l .now))
+    let ones = c .before .before .before .ones .given .0 .0 in
+    (ones .value ≤ 9) × (ones .taken < length (c .before .before .before .before .before .before .args .l .now))
 seen c =
     let b = found (c .before .before .before .ones .given .1) (c .before .before .before .before .before .before .pre) in
     let room = there (c .before .is-at .ensures .1) (c .if1 .taken) in
     omega arith
 
 add-s : tie.Need-add-s
-add-s c = let b = seen c in omega arith
+add-s c = let b = seen (c .before .before) in omega arith
 
 is-at-requires-2 : tie.Need-is-at-requires-2
 is-at-requires-2 c κs = search needs
@@ -44,21 +44,21 @@ one-if-requires : tie.Need-one-if-requires
 one-if-requires c κs = search needs
 
 add-tokens : tie.Need-add-tokens
-add-tokens c = let b = seen (c .before .before) in omega arith
+add-tokens c = let b = seen (c .before .before .before .before) in omega arith
 
 rest-requires : tie.Need-rest-requires
-rest-requires c κs = let b = seen (c .before .before) in omega arith
+rest-requires c κs = let b = seen (c .before .before .before .before) in omega arith
 
 num-double-requires : tie.Need-num-double-requires
 num-double-requires c κs = search needs
 
 sum-requires : tie.Need-sum-requires
-sum-requires c κs = let b = seen (c .before .before .before .before) in let m = most (c .num-double .ensures .1) in omega arith
+sum-requires c κs = let b = seen (c .before .before .before .before .before .before) in let m = most (c .num-double .ensures .1) in omega arith
 
 returns-2 : tie.Need-returns-2
 unfolding hundredsOf tailOf
 returns-2 c =
-    let then = c .before .before .before .before .before in
+    let then = c .before .before .before .before .before .before .before in
     let is-at2 = c .before .before .before .before .is-at2 in
     let one-if = c .before .before .before .one-if in
     promised

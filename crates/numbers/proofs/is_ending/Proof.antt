@@ -1,6 +1,6 @@
 use borrow.Author.Tests.{eq-eqb, ne-eqb}
 use Rattle.numbers.specs.Numbers.{isEnding}
-use Rattle.numbers.proofs.Bounds.{tested-ending}
+use Rattle.numbers.proofs.NumberBounds.{tested-ending}
 use Rattle.numbers.proofs.is_ending.Statement.{statement}
 use Rattle.numbers.proofs.is_ending.Tie as tie
 

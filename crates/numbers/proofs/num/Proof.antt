@@ -1,6 +1,6 @@
 use mathlib.Core.Path.{sym, _∙_}
-use Rattle.numbers.proofs.Laws.{promised}
-use Rattle.numbers.proofs.Bounds.{num-read}
+use Rattle.numbers.proofs.NumberAnswers.{promised}
+use Rattle.numbers.proofs.NumberBounds.{num-read}
 use Rattle.numbers.proofs.Begins.{no-num}
 use borrow.Author.Needs.{needs}
 use Rattle.numbers.proofs.num.Statement.{statement}

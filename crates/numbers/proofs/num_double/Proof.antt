@@ -1,7 +1,7 @@
 use mathlib.Core.Path.{sym}
 use Rattle.numbers.specs.Numbers.{numDoubleOf}
-use Rattle.numbers.proofs.Laws.{kept, promised}
-use Rattle.numbers.proofs.Bounds.{num-double-taken}
+use Rattle.numbers.proofs.NumberAnswers.{kept, promised}
+use Rattle.numbers.proofs.NumberBounds.{num-double-taken}
 use borrow.Author.Needs.{needs}
 use Rattle.numbers.proofs.num_double.Statement.{statement}
 use Rattle.numbers.proofs.num_double.Tie as tie

@@ -1,8 +1,8 @@
 use mathlib.Core.Path.{sym}
 use native.Mathlib.Omega.{arith}
 use Rattle.numbers.specs.Numbers.{numTripleOf}
-use Rattle.numbers.proofs.Laws.{kept, wider, promised}
-use Rattle.numbers.proofs.Bounds.{num-triple-taken}
+use Rattle.numbers.proofs.NumberAnswers.{kept, wider, promised}
+use Rattle.numbers.proofs.NumberBounds.{num-triple-taken}
 use borrow.Author.Needs.{needs}
 use Rattle.numbers.proofs.num_triple.Statement.{statement}
 use Rattle.numbers.proofs.num_triple.Tie as tie
@@ -24,8 +24,11 @@ returns c =
     let arm = c .match in
     promised (rw (← (ones .ensures .0), ← (hundreds .ensures .0)) (sym (kept _ _ (arm .keys2)))) (num-triple-taken _)
 
+found-requires : tie.Need-found-requires
+found-requires c κs = search needs
+
 hundreds-requires-2 : tie.Need-hundreds-requires-2
-hundreds-requires-2 c κs = search needs
+hundreds-requires-2 c κs = rw (c .found .ensures) (record { bounds = omega arith })
 
 enum-told-2 : tie.Need-enum-told-2
 enum-told-2 c = search needs
@@ -33,13 +36,19 @@ enum-told-2 c = search needs
 returns-2 : tie.Need-returns-2
 unfolding numTripleOf
 returns-2 c =
-    let ones = c .before .before .before .before .before .ones in
-    let hundreds = c .before .before .before .before .hundreds in
-    let enum-told = c .before .before .enum-told in
+    let ones = c .before .before .before .before .before .before .ones in
+    let hundreds = c .before .before .before .before .before .hundreds in
+    let enum-told = c .before .before .before .enum-told in
     let hundreds2 = c .before .hundreds2 in
     let arm2 = c .match2 in
     promised
-    (rw (← (ones .ensures .0), ← (hundreds .ensures .0), enum-told .given .1, ← (hundreds2 .ensures .0)) (sym (kept _ _ (arm2 .keys2))))
+    (rw (
+      ← (ones .ensures .0),
+      ← (hundreds .ensures .0),
+      enum-told .given .1,
+      ← (c .before .before .found .ensures),
+      ← (hundreds2 .ensures .0),
+    ) (sym (kept _ _ (arm2 .keys2))))
     (num-triple-taken _)
 
 num-double-requires : tie.Need-num-double-requires
@@ -51,9 +60,10 @@ enum-told-3 c = search needs
 returns-3 : tie.Need-returns-3
 unfolding numTripleOf
 returns-3 c =
-    let ones = c .before .before .before .before .before .before .before .before .ones in
-    let hundreds = c .before .before .before .before .before .before .before .hundreds in
-    let enum-told = c .before .before .before .before .before .enum-told in
+    let ones = c .before .before .before .before .before .before .before .before .before .ones in
+    let hundreds = c .before .before .before .before .before .before .before .before .hundreds in
+    let enum-told = c .before .before .before .before .before .before .enum-told in
+    let found = c .before .before .before .before .before .found in
     let hundreds2 = c .before .before .before .before .hundreds2 in
     let enum-told2 = c .before .before .enum-told2 in
     let num-double = c .before .num-double in
@@ -62,19 +72,14 @@ returns-3 c =
       ← (ones .ensures .0),
       ← (hundreds .ensures .0),
       enum-told .given .1,
+      ← (found .ensures),
       ← (hundreds2 .ensures .0),
       enum-told2 .given .1,
       ← (num-double .ensures .0),
     ) (sym (kept _ _ (arm3 .keys2)))) (num-triple-taken _)
 
-take-ending-requires : tie.Need-take-ending-requires
-take-ending-requires c κs = search needs
-
-add-literal : tie.Need-add-literal
-add-literal c = search needs
-
-literal-requires : tie.Need-literal-requires
-literal-requires c κs = search needs
+literal-hundreds-requires : tie.Need-literal-hundreds-requires
+literal-hundreds-requires c κs = search needs
 
 returns-4 : tie.Need-returns-4
 unfolding numTripleOf
@@ -82,22 +87,21 @@ returns-4 c =
     let ones = c .before .before .before .before .before .before .before .before .before .before .before .ones in
     let hundreds = c .before .before .before .before .before .before .before .before .before .before .hundreds in
     let enum-told = c .before .before .before .before .before .before .before .before .enum-told in
-    let hundreds2 = c .before .before .before .before .before .before .before .hundreds2 in
-    let enum-told2 = c .before .before .before .before .before .enum-told2 in
-    let num-double = c .before .before .before .before .num-double in
-    let enum-told3 = c .before .before .enum-told3 in
-    let take-ending = c .before .take-ending in
-    let literal = c .literal in
+    let found = c .before .before .before .before .before .before .before .found in
+    let hundreds2 = c .before .before .before .before .before .before .hundreds2 in
+    let enum-told2 = c .before .before .before .before .enum-told2 in
+    let num-double = c .before .before .before .num-double in
+    let enum-told3 = c .before .enum-told3 in
     promised (rw (
       ← (ones .ensures .0),
       ← (hundreds .ensures .0),
       enum-told .given .1,
+      ← (found .ensures),
       ← (hundreds2 .ensures .0),
       enum-told2 .given .1,
       ← (num-double .ensures .0),
       enum-told3 .given .1,
-      ← (take-ending .ensures .0),
-      ← (literal .ensures),
+      ← (c .literal-hundreds .ensures),
     )) (num-triple-taken _)
 
 pub num-triple-spec : {M : Type 1} → statement M
@@ -108,13 +112,12 @@ num-triple-spec =
     hundreds-requires
     enum-told
     returns
+    found-requires
     hundreds-requires-2
     enum-told-2
     returns-2
     num-double-requires
     enum-told-3
     returns-3
-    take-ending-requires
-    add-literal
-    literal-requires
+    literal-hundreds-requires
     returns-4)

@@ -1,6 +1,6 @@
 use Rattle.numbers.specs.Numbers.{onesOf}
-use Rattle.numbers.proofs.Laws.{promised}
-use Rattle.numbers.proofs.Bounds.{ones-taken}
+use Rattle.numbers.proofs.NumberAnswers.{promised}
+use Rattle.numbers.proofs.NumberBounds.{ones-taken}
 use borrow.Author.Needs.{needs}
 use Rattle.numbers.proofs.ones.Statement.{statement}
 use Rattle.numbers.proofs.ones.Tie as tie

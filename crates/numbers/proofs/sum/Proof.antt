@@ -14,7 +14,7 @@ add-fits : tie.Need-add-fits
 add-fits c = search needs
 
 add-fits-2 : tie.Need-add-fits-2
-add-fits-2 c = let room = rw (c .before .num .given .1) at (c .before .before .before .pre .1) in omega arith
+add-fits-2 c = let room = rw (c .before .before .before .num .given .1) at (c .before .before .before .before .before .pre .1) in omega arith
 
 fits-requires : tie.Need-fits-requires
 fits-requires c κs = search needs
@@ -30,7 +30,7 @@ enum-told-2 c = search needs
 
 returns : tie.Need-returns
 unfolding sumOf
-returns c = rw (c .before .before .num .given .1, ← (c .fits2 .ensures))
+returns c = rw (c .before .before .before .before .num .given .1, ← (c .fits2 .ensures))
 
 returns-2 : tie.Need-returns-2
 unfolding sumOf

@@ -1,6 +1,6 @@
 use Rattle.numbers.specs.Numbers.{teensOf}
-use Rattle.numbers.proofs.Laws.{promised}
-use Rattle.numbers.proofs.Bounds.{teens-taken}
+use Rattle.numbers.proofs.NumberAnswers.{promised}
+use Rattle.numbers.proofs.NumberBounds.{teens-taken}
 use borrow.Author.Needs.{needs}
 use Rattle.numbers.proofs.teens.Statement.{statement}
 use Rattle.numbers.proofs.teens.Tie as tie

@@ -1,8 +1,8 @@
 use mathlib.Core.Path.{sym}
 use borrow.Author.Tests.{eq-eqb, ne-eqb}
 use Rattle.numbers.specs.Numbers.{tensOf}
-use Rattle.numbers.proofs.Laws.{passed, promised}
-use Rattle.numbers.proofs.Bounds.{tens-taken}
+use Rattle.numbers.proofs.NumberAnswers.{passed, promised}
+use Rattle.numbers.proofs.NumberBounds.{tens-taken}
 use borrow.Author.Needs.{needs}
 use Rattle.numbers.proofs.tens.Statement.{statement}
 use Rattle.numbers.proofs.tens.Tie as tie
@@ -29,17 +29,17 @@ returns c =
 returns-2 : tie.Need-returns-2
 unfolding tensOf
 returns-2 c =
-    let take-if = c .before .before .before .before .before .take-if in
-    let word = c .before .before .before .before .word in
-    let a = c .before .before .a in
+    let take-if = c .before .before .before .before .before .before .take-if in
+    let word = c .before .before .before .before .before .word in
+    let a = c .before .before .before .a in
     promised (rw (← (take-if .ensures .0), ← (word .ensures), a .given .1, eq-eqb _ _ (c .if1 .taken))) (tens-taken _)
 
 returns-3 : tie.Need-returns-3
 unfolding tensOf
 returns-3 c =
-    let take-if = c .before .before .before .before .before .take-if in
-    let word = c .before .before .before .before .word in
-    let a = c .before .before .a in
+    let take-if = c .before .before .before .before .before .before .take-if in
+    let word = c .before .before .before .before .before .word in
+    let a = c .before .before .before .a in
     promised (rw (← (take-if .ensures .0), ← (word .ensures), a .given .1, ne-eqb _ _ (c .if1 .left))) (tens-taken _)
 
 pub tens-spec : {M : Type 1} → statement M

@@ -1,5 +1,5 @@
 use mathlib.Core.Path.{sym}
-use Rattle.numbers.proofs.Laws.{kept}
+use Rattle.numbers.proofs.NumberAnswers.{kept}
 use borrow.Author.Needs.{needs}
 use Rattle.numbers.proofs.word_or_literal.Statement.{statement}
 use Rattle.numbers.proofs.word_or_literal.Tie as tie

@@ -2,6 +2,7 @@
 use mathlib.Core.Path.{_≡_, refl, ap, _∙_}
 use mathlib.Core.List.{List, map}
 use Prim.Native.Nat.{ℕ, _+_, _-_, _≤_, _<_}
+use native.Mathlib.Nat.{zero-add}
 use native.Mathlib.Omega.{arith}
 use borrow.Author.Needs.{needs}
 use borrow.Author.Tests.{le-leb, lt-leb}
@@ -9,7 +10,7 @@ use lib.ListN.{length, getD, take, set, replicate, length-map}
 use lib.Seq.{take-all, sets}
 use Rattle.lexer.specs.Keywords.{keywords}
 use Rattle.lexer.specs.Lex.{Item, lexed, front, codesOf, startsOf, endedOf}
-use Rattle.lexer.proofs.Lines.{sets-at, sets-take}
+use Rattle.digits.proofs.Stores.{sets-at, sets-take}
 use Rattle.lexer.proofs.Places.{front-most, start-below, placed}
 use Rattle.reader.specs.declared.gather.Gathered.{Gathered}
 use Rattle.reader.specs.Gather.{gatheredOf}
@@ -75,7 +76,7 @@ module _ (c : tie.In-loop Inv-loop μ-loop) where
       → v ≡ getD (map f (front keywords bytes)) i 0 → set b i v ≡ sets a 0 (take (i + 1) (map f (front keywords bytes)))
   copied f a e q =
       let n = length-map (front keywords bytes) f in
-      rw (e, q) (sets-take (map f (front keywords bytes)) a i (omega (arith, below)))
+      rw (e, q) (rw zero-add at (sets-take a 0 (map f (front keywords bytes)) i (omega (arith, below))))
 
 refuse-requires : tie.Need-refuse-requires Inv-loop μ-loop
 refuse-requires c κs = search needs

@@ -1,10 +1,10 @@
 use native.Mathlib.Omega.{arith}
 use lib.ListN.{length}
 use borrow.Author.Tests.{le-leb, lt-leb}
-use Rattle.numbers.proofs.Laws.{found as number-found}
-use Rattle.numbers.proofs.Places.{there}
+use Rattle.numbers.proofs.NumberAnswers.{found as number-found}
+use Rattle.numbers.proofs.LexemeAt.{there}
 use Rattle.dates.specs.Dates.{behindSecondOf}
-use Rattle.dates.proofs.Laws.{number-arm, unread}
+use Rattle.dates.proofs.Parsed.{number-arm, unread}
 use borrow.Author.Needs.{needs}
 use Rattle.dates.proofs.date.behind_second.Statement.{statement}
 use Rattle.dates.proofs.date.behind_second.Tie as tie
@@ -54,30 +54,30 @@ returns-2 c =
 three-numbers-requires : tie.Need-three-numbers-requires
 three-numbers-requires c κs = search needs
 
-add-t13 : tie.Need-add-t13
-add-t13 c = search needs
+add-t12 : tie.Need-add-t12
+add-t12 c = search needs
 
-add-t15 : tie.Need-add-t15
-add-t15 c =
-    let e = number-found (c .before .before .a .given .1) (c .before .before .before .before .num .ensures .1) in
+add-t14 : tie.Need-add-t14
+add-t14 c =
+    let e = number-found (c .before .before .before .a .given .1) (c .before .before .before .before .before .num .ensures .1) in
     omega arith
 
 returns-3 : tie.Need-returns-3
 unfolding behindSecondOf
 returns-3 c =
-    let entry = c .before .before .before .before .before .before .before .before .before .before in
+    let entry = c .before .before .before .before .before .before .before .before .before .before .before in
     let l = entry .args .l .now in
-    let is-at = c .before .before .before .before .before .before .before .is-at in
-    let if2 = c .before .before .before .before .before .before .if2 in
+    let is-at = c .before .before .before .before .before .before .before .before .is-at in
+    let if2 = c .before .before .before .before .before .before .before .if2 in
     let room = there (is-at .ensures .1) (if2 .taken) in
     rw (
       lt-leb (length l) (entry .args .t) (omega arith),
       ← (is-at .ensures .0),
       if2 .taken,
-      ← (c .before .before .before .before .before .rest .ensures .0),
-      ← (c .before .before .before .before .num .ensures .0),
-      c .before .before .a .given .1,
-      ← (c .three-numbers .ensures),
+      ← (c .before .before .before .before .before .before .rest .ensures .0),
+      ← (c .before .before .before .before .before .num .ensures .0),
+      c .before .before .before .a .given .1,
+      ← (c .before .three-numbers .ensures),
     )
 
 two-numbers-requires : tie.Need-two-numbers-requires
@@ -108,8 +108,8 @@ behind-second-spec =
     date-stopped-requires
     returns-2
     three-numbers-requires
-    add-t13
-    add-t15
+    add-t12
+    add-t14
     returns-3
     two-numbers-requires
     returns-4)

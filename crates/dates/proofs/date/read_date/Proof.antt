@@ -1,9 +1,9 @@
 use mathlib.Core.Path.{ap}
 use native.Mathlib.Omega.{arith}
-use Rattle.dates.specs.Parsed.{parsedNumber}
+use Rattle.dates.specs.Units.{parsedMonth}
 use Rattle.dates.specs.Dates.{dateOf}
-use Rattle.dates.proofs.Laws.{number-arm, date-arm, kept, found, promised}
-use Rattle.dates.proofs.Bounds.{month-none, date-took}
+use Rattle.dates.proofs.Parsed.{date-arm, kept, found, promised}
+use Rattle.dates.proofs.LexemesTaken.{date-took}
 use borrow.Author.Needs.{needs}
 use Rattle.dates.proofs.date.read_date.Statement.{statement}
 use Rattle.dates.proofs.date.read_date.Tie as tie
@@ -45,26 +45,28 @@ read-month-requires c κs = search needs
 enum-known-month : tie.Need-enum-known-month
 enum-known-month c = search needs
 
+enum-told-3 : tie.Need-enum-told-3
+enum-told-3 c = search needs
+
 read-delimited-requires : tie.Need-read-delimited-requires
 read-delimited-requires c κs = search needs
 
 returns-3 : tie.Need-returns-3
 unfolding dateOf
 returns-3 c =
-    let read-month = c .before .before .read-month in
     promised (rw (
-      ← (c .before .before .before .before .before .before .before .before .before .read-named-day .ensures),
-      c .before .before .before .before .before .before .before .enum-told .given .1,
-      ← (c .before .before .before .before .before .read-day-month-year .ensures),
-      c .before .before .before .enum-told2 .given .1,
-      ← (read-month .ensures .0),
-      month-none _ (read-month .ensures .0) (number-arm (read-month .result) (c .before .match3 .keys2)),
+      ← (c .before .before .before .before .before .before .before .before .before .before .read-named-day .ensures),
+      c .before .before .before .before .before .before .before .before .enum-told .given .1,
+      ← (c .before .before .before .before .before .before .read-day-month-year .ensures),
+      c .before .before .before .before .enum-told2 .given .1,
+      ← (c .before .before .before .read-month .ensures .0),
+      c .before .enum-told3 .given .1,
       ← (c .read-delimited .ensures),
     )) (date-took _)
 
 read-month-day-requires : tie.Need-read-month-day-requires
 read-month-day-requires c κs =
-    let b = found (ap parsedNumber (c .before .month .given .1)) (c .before .before .before .read-month .ensures .1) in
+    let b = found (ap parsedMonth (c .before .month .given .1)) (c .before .before .before .read-month .ensures .1) in
     omega arith
 
 returns-4 : tie.Need-returns-4
@@ -93,6 +95,7 @@ read-date-spec =
     returns-2
     read-month-requires
     enum-known-month
+    enum-told-3
     read-delimited-requires
     returns-3
     read-month-day-requires

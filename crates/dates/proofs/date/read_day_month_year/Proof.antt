@@ -1,10 +1,9 @@
 use mathlib.Core.Path.{ap}
 use native.Mathlib.Omega.{arith}
-use Rattle.numbers.proofs.Laws.{found as number-found}
-use Rattle.dates.specs.Parsed.{parsedNumber}
+use Rattle.numbers.proofs.NumberAnswers.{found as number-found}
+use Rattle.dates.specs.Units.{parsedMonth}
 use Rattle.dates.specs.Dates.{dayMonthYearOf}
-use Rattle.dates.proofs.Laws.{number-arm, unread, found}
-use Rattle.dates.proofs.Bounds.{month-none}
+use Rattle.dates.proofs.Parsed.{number-arm, unread, found}
 use borrow.Author.Needs.{needs}
 use Rattle.dates.proofs.date.read_day_month_year.Statement.{statement}
 use Rattle.dates.proofs.date.read_day_month_year.Tie as tie
@@ -32,29 +31,29 @@ read-month-requires c κs = search needs
 enum-known-month : tie.Need-enum-known-month
 enum-known-month c = search needs
 
+enum-told : tie.Need-enum-told
+enum-told c = search needs
+
 returns-2 : tie.Need-returns-2
 unfolding dayMonthYearOf
 returns-2 c =
-    let read-month = c .before .read-month in
     rw (
-      ← (c .before .before .before .before .before .before .before .pre .0),
-      c .before .before .before .before .a .given .1,
-      ← (c .before .before .rest .ensures .0),
-      ← (read-month .ensures .0),
-      month-none _ (read-month .ensures .0) (number-arm (read-month .result) (c .match2 .keys2)),
+      ← (c .before .before .before .before .before .before .before .before .pre .0),
+      c .before .before .before .before .before .a .given .1,
+      ← (c .before .before .before .rest .ensures .0),
+      ← (c .before .before .read-month .ensures .0),
+      c .enum-told .given .1,
     )
 
 rest-requires-2 : tie.Need-rest-requires-2
 rest-requires-2 c κs =
-    let entry = c .before .before .before .before .before .before .before .before .before in
-    let e = number-found (c .before .before .before .before .before .before .a .given .1) (entry .pre .1) in
-    let f = found (ap parsedNumber (c .before .month .given .1)) (c .before .before .before .read-month .ensures .1) in
+    let entry = c .before .before .before .before .before .before .before .before .before .before in
+    let e = number-found (c .before .before .before .before .before .before .before .a .given .1) (entry .pre .1) in
+    let f = found (ap parsedMonth (c .before .before .month .given .1)) (c .before .before .before .before .read-month .ensures .1) in
     omega arith
 
-add-rest : tie.Need-add-rest
-add-rest c =
-    let room = rest-requires-2 c (c .before .before .before .before .before .before .before .before .before .κs) in
-    omega arith
+add-t : tie.Need-add-t
+add-t c = let room = rest-requires-2 c (c .before .before .before .before .before .before .before .before .before .before .κs) in omega arith
 
 num-requires : tie.Need-num-requires
 num-requires c κs = search needs
@@ -70,23 +69,20 @@ unfolding dayMonthYearOf
 returns-3 c =
     let num = c .before .before .num in
     rw (
-      ← (c .before .before .before .before .before .before .before .before .before .before .before .before .before .pre .0),
-      c .before .before .before .before .before .before .before .before .before .before .a .given .1,
-      ← (c .before .before .before .before .before .before .before .before .rest .ensures .0),
-      ← (c .before .before .before .before .before .before .before .read-month .ensures .0),
-      c .before .before .before .before .before .month .given .1,
+      ← (c .before .before .before .before .before .before .before .before .before .before .before .before .before .before .pre .0),
+      c .before .before .before .before .before .before .before .before .before .before .before .a .given .1,
+      ← (c .before .before .before .before .before .before .before .before .before .rest .ensures .0),
+      ← (c .before .before .before .before .before .before .before .before .read-month .ensures .0),
+      c .before .before .before .before .before .before .month .given .1,
       ← (c .before .before .before .rest2 .ensures .0),
       ← (num .ensures .0),
     ) (unread _ _ (number-arm (num .result) (c .before .match3 .keys2)) (c .date-stopped2 .ensures))
 
-add-t13 : tie.Need-add-t13
-add-t13 c = search needs
-
-add-t15 : tie.Need-add-t15
-add-t15 c =
-    let entry = c .before .before .before .before .before .before .before .before .before .before .before .before .before .before in
-    let room = rest-requires-2 (c .before .before .before .before .before) (entry .κs) in
-    let e = number-found (c .before .b .given .1) (c .before .before .before .num .ensures .1) in
+add-t12 : tie.Need-add-t12
+add-t12 c =
+    let entry = c .before .before .before .before .before .before .before .before .before .before .before .before .before .before .before .before in
+    let room = rest-requires-2 (c .before .before .before .before .before .before) (entry .κs) in
+    let e = number-found (c .before .before .b .given .1) (c .before .before .before .before .num .ensures .1) in
     let whole = entry .good in
     omega arith
 
@@ -94,14 +90,14 @@ returns-4 : tie.Need-returns-4
 unfolding dayMonthYearOf
 returns-4 c =
     rw (
-      ← (c .before .before .before .before .before .before .before .before .before .before .before .before .before .before .pre .0),
-      c .before .before .before .before .before .before .before .before .before .before .before .a .given .1,
-      ← (c .before .before .before .before .before .before .before .before .before .rest .ensures .0),
-      ← (c .before .before .before .before .before .before .before .before .read-month .ensures .0),
-      c .before .before .before .before .before .before .month .given .1,
-      ← (c .before .before .before .before .rest2 .ensures .0),
-      ← (c .before .before .before .num .ensures .0),
-      c .before .b .given .1,
+      ← (c .before .before .before .before .before .before .before .before .before .before .before .before .before .before .before .before .pre .0),
+      c .before .before .before .before .before .before .before .before .before .before .before .before .before .a .given .1,
+      ← (c .before .before .before .before .before .before .before .before .before .before .before .rest .ensures .0),
+      ← (c .before .before .before .before .before .before .before .before .before .before .read-month .ensures .0),
+      c .before .before .before .before .before .before .before .before .month .given .1,
+      ← (c .before .before .before .before .before .rest2 .ensures .0),
+      ← (c .before .before .before .before .num .ensures .0),
+      c .before .before .b .given .1,
     )
 
 pub read-day-month-year-spec : {M : Type 1} → statement M
@@ -114,13 +110,13 @@ read-day-month-year-spec =
     rest-requires
     read-month-requires
     enum-known-month
+    enum-told
     returns-2
-    add-rest
+    add-t
     rest-requires-2
     num-requires
     enum-known-b
     date-stopped-requires-2
     returns-3
-    add-t13
-    add-t15
+    add-t12
     returns-4)

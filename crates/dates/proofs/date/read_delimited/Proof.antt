@@ -1,8 +1,8 @@
 use native.Mathlib.Omega.{arith}
-use Rattle.numbers.proofs.Laws.{found as number-found}
+use Rattle.numbers.proofs.NumberAnswers.{found as number-found}
 use Rattle.dates.specs.Dates.{delimitedOf}
-use Rattle.dates.proofs.Laws.{number-arm, unread}
-use Rattle.dates.proofs.Bounds.{delim-there}
+use Rattle.dates.proofs.Parsed.{number-arm, unread}
+use Rattle.dates.proofs.LexemesTaken.{delim-there}
 use borrow.Author.Needs.{needs}
 use Rattle.dates.proofs.date.read_delimited.Statement.{statement}
 use Rattle.dates.proofs.date.read_delimited.Tie as tie
@@ -27,13 +27,11 @@ is-delim-requires c κs = search needs
 
 rest-requires : tie.Need-rest-requires
 rest-requires c κs =
-    let room = delim-there _ _ (c .before .before .get .ensures .0) (c .before .is-delim .ensures) (c .if1 .taken) in
+    let room = delim-there _ _ (c .before .before .before .get .ensures .0) (c .before .before .is-delim .ensures) (c .before .if1 .taken) in
     omega arith
 
-add-rest : tie.Need-add-rest
-add-rest c =
-    let room = rest-requires c (c .before .before .before .before .before .before .before .κs) in
-    omega arith
+add-t : tie.Need-add-t
+add-t c = let room = rest-requires c (c .before .before .before .before .before .before .before .before .κs) in omega arith
 
 num-requires : tie.Need-num-requires
 num-requires c κs = search needs
@@ -49,21 +47,18 @@ unfolding delimitedOf
 returns-2 c =
     let num = c .before .before .num in
     rw (
-      ← (c .before .before .before .before .before .before .before .before .before .before .before .pre .0),
-      c .before .before .before .before .before .before .before .before .a .given .1,
-      ← (c .before .before .before .before .before .before .get .ensures .0),
-      ← (c .before .before .before .before .before .is-delim .ensures),
-      c .before .before .before .before .if1 .taken,
+      ← (c .before .before .before .before .before .before .before .before .before .before .before .before .pre .0),
+      c .before .before .before .before .before .before .before .before .before .a .given .1,
+      ← (c .before .before .before .before .before .before .before .get .ensures .0),
+      ← (c .before .before .before .before .before .before .is-delim .ensures),
+      c .before .before .before .before .before .if1 .taken,
       ← (c .before .before .before .rest .ensures .0),
       ← (num .ensures .0),
     ) (unread _ _ (number-arm (num .result) (c .before .match2 .keys2)) (c .date-stopped2 .ensures))
 
 add-behind-second : tie.Need-add-behind-second
-add-behind-second c = search needs
-
-add-behind-second-2 : tie.Need-add-behind-second-2
-add-behind-second-2 c =
-    let e = number-found (c .before .b .given .1) (c .before .before .before .num .ensures .1) in
+add-behind-second c =
+    let e = number-found (c .before .before .b .given .1) (c .before .before .before .before .num .ensures .1) in
     omega arith
 
 behind-second-requires : tie.Need-behind-second-requires
@@ -73,14 +68,14 @@ returns-3 : tie.Need-returns-3
 unfolding delimitedOf
 returns-3 c =
     rw (
-      ← (c .before .before .before .before .before .before .before .before .before .before .before .before .before .pre .0),
-      c .before .before .before .before .before .before .before .before .before .before .a .given .1,
-      ← (c .before .before .before .before .before .before .before .before .get .ensures .0),
-      ← (c .before .before .before .before .before .before .before .is-delim .ensures),
-      c .before .before .before .before .before .before .if1 .taken,
-      ← (c .before .before .before .before .before .rest .ensures .0),
-      ← (c .before .before .before .before .num .ensures .0),
-      c .before .before .b .given .1,
+      ← (c .before .before .before .before .before .before .before .before .before .before .before .before .before .before .before .pre .0),
+      c .before .before .before .before .before .before .before .before .before .before .before .before .a .given .1,
+      ← (c .before .before .before .before .before .before .before .before .before .before .get .ensures .0),
+      ← (c .before .before .before .before .before .before .before .before .before .is-delim .ensures),
+      c .before .before .before .before .before .before .before .before .if1 .taken,
+      ← (c .before .before .before .before .before .before .rest .ensures .0),
+      ← (c .before .before .before .before .before .num .ensures .0),
+      c .before .before .before .b .given .1,
       ← (c .behind-second .ensures),
     )
 
@@ -104,14 +99,13 @@ read-delimited-spec =
     returns
     get-requires
     is-delim-requires
-    add-rest
+    add-t
     rest-requires
     num-requires
     enum-known-b
     date-stopped-requires-2
     returns-2
     add-behind-second
-    add-behind-second-2
     behind-second-requires
     returns-3
     returns-4)

@@ -1,7 +1,7 @@
 use native.Mathlib.Omega.{arith}
-use Rattle.numbers.proofs.Laws.{found as number-found}
+use Rattle.numbers.proofs.NumberAnswers.{found as number-found}
 use Rattle.dates.specs.Dates.{monthDayOf}
-use Rattle.dates.proofs.Laws.{number-arm, unread}
+use Rattle.dates.proofs.Parsed.{number-arm, unread}
 use borrow.Author.Needs.{needs}
 use Rattle.dates.proofs.date.read_month_day.Statement.{statement}
 use Rattle.dates.proofs.date.read_month_day.Tie as tie
@@ -27,13 +27,11 @@ returns c =
 
 rest-requires-2 : tie.Need-rest-requires-2
 rest-requires-2 c κs =
-    let e = number-found (c .before .a .given .1) (c .before .before .before .num .ensures .1) in
+    let e = number-found (c .before .before .a .given .1) (c .before .before .before .before .num .ensures .1) in
     omega arith
 
-add-rest : tie.Need-add-rest
-add-rest c =
-    let room = rest-requires-2 c (c .before .before .before .before .before .before .κs) in
-    omega arith
+add-t : tie.Need-add-t
+add-t c = let room = rest-requires-2 c (c .before .before .before .before .before .before .before .κs) in omega arith
 
 num-requires-2 : tie.Need-num-requires-2
 num-requires-2 c κs = search needs
@@ -41,21 +39,14 @@ num-requires-2 c κs = search needs
 enum-known-year : tie.Need-enum-known-year
 enum-known-year c = search needs
 
-add-t14 : tie.Need-add-t14
-add-t14 c = search needs
-
-add-t15 : tie.Need-add-t15
-add-t15 c =
-    let entry = c .before .before .before .before .before .before .before .before .before .before .before in
-    let room = rest-requires-2 (c .before .before .before .before .before) (entry .κs) in
-    let e = number-found (c .before .year .given .1) (c .before .before .before .num2 .ensures .1) in
+add-t12 : tie.Need-add-t12
+add-t12 c =
+    let room = rest-requires-2 (c .before .before .before .before .before .before) (c .before .before .before .before .before .before .before .before .before .before .before .before .before .κs) in
+    let e = number-found (c .before .before .year .given .1) (c .before .before .before .before .num2 .ensures .1) in
     omega arith
 
 enum-told : tie.Need-enum-told
 enum-told c = search needs
-
-add-t17 : tie.Need-add-t17
-add-t17 c = search needs
 
 enum-told-2 : tie.Need-enum-told-2
 enum-told-2 c = search needs
@@ -64,21 +55,21 @@ returns-2 : tie.Need-returns-2
 unfolding monthDayOf
 returns-2 c =
     rw (
-      ← (c .before .before .before .before .before .before .before .before .before .rest .ensures .0),
-      ← (c .before .before .before .before .before .before .before .before .num .ensures .0),
-      c .before .before .before .before .before .before .a .given .1,
-      ← (c .before .before .before .before .rest2 .ensures .0),
-      ← (c .before .before .before .num2 .ensures .0),
-      c .before .year .given .1,
+      ← (c .before .before .before .before .before .before .before .before .before .before .before .rest .ensures .0),
+      ← (c .before .before .before .before .before .before .before .before .before .before .num .ensures .0),
+      c .before .before .before .before .before .before .before .before .a .given .1,
+      ← (c .before .before .before .before .before .rest2 .ensures .0),
+      ← (c .before .before .before .before .num2 .ensures .0),
+      c .before .before .year .given .1,
     )
 
 returns-3 : tie.Need-returns-3
 unfolding monthDayOf
 returns-3 c =
     rw (
-      ← (c .before .before .before .before .before .before .before .before .rest .ensures .0),
-      ← (c .before .before .before .before .before .before .before .num .ensures .0),
-      c .before .before .before .before .before .a .given .1,
+      ← (c .before .before .before .before .before .before .before .before .before .rest .ensures .0),
+      ← (c .before .before .before .before .before .before .before .before .num .ensures .0),
+      c .before .before .before .before .before .before .a .given .1,
       ← (c .before .before .before .rest2 .ensures .0),
       ← (c .before .before .num2 .ensures .0),
       c .enum-told .given .1,
@@ -88,9 +79,9 @@ returns-4 : tie.Need-returns-4
 unfolding monthDayOf
 returns-4 c =
     rw (
-      ← (c .before .before .before .before .before .before .before .before .rest .ensures .0),
-      ← (c .before .before .before .before .before .before .before .num .ensures .0),
-      c .before .before .before .before .before .a .given .1,
+      ← (c .before .before .before .before .before .before .before .before .before .rest .ensures .0),
+      ← (c .before .before .before .before .before .before .before .before .num .ensures .0),
+      c .before .before .before .before .before .before .a .given .1,
       ← (c .before .before .before .rest2 .ensures .0),
       ← (c .before .before .num2 .ensures .0),
       c .enum-told2 .given .1,
@@ -105,14 +96,12 @@ read-month-day-spec =
     enum-known-a
     date-stopped-requires
     returns
-    add-rest
+    add-t
     rest-requires-2
     num-requires-2
     enum-known-year
-    add-t14
-    add-t15
+    add-t12
     enum-told
-    add-t17
     enum-told-2
     returns-2
     returns-3

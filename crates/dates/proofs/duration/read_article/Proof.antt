@@ -1,6 +1,6 @@
 use native.Mathlib.Omega.{arith}
 use Rattle.dates.specs.Durations.{articleOf}
-use Rattle.dates.proofs.Laws.{promised}
+use Rattle.dates.proofs.Parsed.{promised}
 use Rattle.dates.proofs.Durations.{article-took}
 use borrow.Author.Needs.{needs}
 use Rattle.dates.proofs.duration.read_article.Statement.{statement}

@@ -1,5 +1,5 @@
 use Rattle.dates.specs.Durations.{concreteOf}
-use Rattle.dates.proofs.Laws.{kept, promised}
+use Rattle.dates.proofs.Parsed.{kept, promised}
 use Rattle.dates.proofs.Durations.{part-arm, concrete-took}
 use borrow.Author.Needs.{needs}
 use Rattle.dates.proofs.duration.read_concrete.Statement.{statement}

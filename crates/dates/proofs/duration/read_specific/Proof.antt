@@ -1,7 +1,7 @@
 use native.Mathlib.Omega.{arith}
 use Rattle.dates.specs.Durations.{specificOf}
-use Rattle.numbers.proofs.Laws.{found}
-use Rattle.dates.proofs.Laws.{number-arm, unread, promised}
+use Rattle.numbers.proofs.NumberAnswers.{found}
+use Rattle.dates.proofs.Parsed.{number-arm, unread, promised}
 use Rattle.dates.proofs.Durations.{specific-took}
 use borrow.Author.Needs.{needs}
 use Rattle.dates.proofs.duration.read_specific.Statement.{statement}
@@ -47,17 +47,17 @@ returns-2 c =
     (rw (← (num .ensures .0), a .given .1, ← (rest .ensures .0), ← (read-unit .ensures .0), c .enum-told .given .1))
     (specific-took _)
 
-add-t9 : tie.Need-add-t9
-add-t9 c = search needs
+add-t8 : tie.Need-add-t8
+add-t8 c = search needs
 
 returns-3 : tie.Need-returns-3
 unfolding specificOf
 returns-3 c =
-    let num = c .before .before .before .before .before .before .before .before .num in
-    let a = c .before .before .before .before .before .before .a in
-    let rest = c .before .before .before .before .rest in
-    let read-unit = c .before .before .before .read-unit in
-    let u = c .before .u in
+    let num = c .before .before .before .before .before .before .before .before .before .num in
+    let a = c .before .before .before .before .before .before .before .a in
+    let rest = c .before .before .before .before .before .rest in
+    let read-unit = c .before .before .before .before .read-unit in
+    let u = c .before .before .u in
     promised (rw (← (num .ensures .0), a .given .1, ← (rest .ensures .0), ← (read-unit .ensures .0), u .given .1)) (specific-took _)
 
 pub read-specific-spec : {M : Type 1} → statement M
@@ -73,5 +73,5 @@ read-specific-spec =
     enum-known-u
     enum-told
     returns-2
-    add-t9
+    add-t8
     returns-3)

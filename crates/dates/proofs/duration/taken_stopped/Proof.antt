@@ -1,4 +1,4 @@
-use Rattle.dates.proofs.Laws.{dropped}
+use Rattle.dates.proofs.Parsed.{dropped}
 use Rattle.dates.proofs.Durations.{part-arm}
 use borrow.Author.Needs.{needs}
 use Rattle.dates.proofs.duration.taken_stopped.Statement.{statement}

@@ -4,9 +4,9 @@ use mathlib.Core.Path.{sym, ap}
 use lib.ListN.{length}
 use denote.Ref.{now}
 use borrow.Author.Needs.{needs}
-use Rattle.numbers.proofs.Places.{there}
+use Rattle.numbers.proofs.LexemeAt.{there}
 use Rattle.dates.specs.Durations.{parsedPart, durationOf, rowed}
-use Rattle.dates.proofs.Laws.{found}
+use Rattle.dates.proofs.Parsed.{found}
 use Rattle.dates.proofs.Durations.{rowKept, Looking, row-looking, part-learnt, and-behind, no-and}
 use Rattle.dates.proofs.duration.with_parts.Statement.{statement}
 use Rattle.dates.proofs.duration.with_parts.Tie as tie

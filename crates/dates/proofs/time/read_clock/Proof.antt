@@ -1,9 +1,8 @@
 use mathlib.Core.Path.{ap}
 use native.Mathlib.Omega.{arith}
-use Rattle.numbers.proofs.Laws.{found as number-found}
-use Rattle.dates.specs.Parsed.{parsedNumber}
-use Rattle.dates.specs.Times.{clockOf}
-use Rattle.dates.proofs.Laws.{number-arm, unread, found}
+use Rattle.numbers.proofs.NumberAnswers.{found as number-found}
+use Rattle.dates.specs.Times.{clockOf, parsedMinute}
+use Rattle.dates.proofs.Parsed.{number-arm, unread, found}
 use borrow.Author.Needs.{needs}
 use Rattle.dates.proofs.time.read_clock.Statement.{statement}
 use Rattle.dates.proofs.time.read_clock.Tie as tie
@@ -31,28 +30,28 @@ rest-requires c κs =
 read-minute-requires : tie.Need-read-minute-requires
 read-minute-requires c κs = search needs
 
-enum-known-b : tie.Need-enum-known-b
-enum-known-b c = search needs
+enum-known-minute : tie.Need-enum-known-minute
+enum-known-minute c = search needs
 
-time-stopped-requires-2 : tie.Need-time-stopped-requires-2
-time-stopped-requires-2 c κs = search needs
+enum-told : tie.Need-enum-told
+enum-told c = search needs
 
 returns-2 : tie.Need-returns-2
 unfolding clockOf
 returns-2 c =
-    let read-minute = c .before .before .read-minute in
     rw (
       ← (c .before .before .before .before .before .before .before .num .ensures .0),
       c .before .before .before .before .before .a .given .1,
       ← (c .before .before .before .rest .ensures .0),
-      ← (read-minute .ensures .0),
-    ) (unread _ _ (number-arm (read-minute .result) (c .before .match2 .keys2)) (c .time-stopped2 .ensures))
+      ← (c .before .before .read-minute .ensures .0),
+      c .enum-told .given .1,
+    )
 
 add-read-half : tie.Need-add-read-half
 add-read-half c =
-    let num = c .before .before .before .before .before .before .before .before .num in
-    let d = number-found (c .before .before .before .before .before .before .a .given .1) (num .ensures .1) in
-    let e = found (ap parsedNumber (c .before .b .given .1)) (c .before .before .before .read-minute .ensures .1) in
+    let num = c .before .before .before .before .before .before .before .before .before .num in
+    let d = number-found (c .before .before .before .before .before .before .before .a .given .1) (num .ensures .1) in
+    let e = found (ap parsedMinute (c .before .before .minute .given .1)) (c .before .before .before .before .read-minute .ensures .1) in
     omega arith
 
 read-half-requires : tie.Need-read-half-requires
@@ -62,11 +61,11 @@ returns-3 : tie.Need-returns-3
 unfolding clockOf
 returns-3 c =
     rw (
-      ← (c .before .before .before .before .before .before .before .before .before .num .ensures .0),
-      c .before .before .before .before .before .before .before .a .given .1,
-      ← (c .before .before .before .before .before .rest .ensures .0),
-      ← (c .before .before .before .before .read-minute .ensures .0),
-      c .before .before .b .given .1,
+      ← (c .before .before .before .before .before .before .before .before .before .before .num .ensures .0),
+      c .before .before .before .before .before .before .before .before .a .given .1,
+      ← (c .before .before .before .before .before .before .rest .ensures .0),
+      ← (c .before .before .before .before .before .read-minute .ensures .0),
+      c .before .before .before .minute .given .1,
       ← (c .read-half .ensures),
     )
 
@@ -80,8 +79,8 @@ read-clock-spec =
     returns
     rest-requires
     read-minute-requires
-    enum-known-b
-    time-stopped-requires-2
+    enum-known-minute
+    enum-told
     returns-2
     add-read-half
     read-half-requires

@@ -1,5 +1,5 @@
 use native.Mathlib.Omega.{arith}
-use Rattle.numbers.proofs.Places.{there}
+use Rattle.numbers.proofs.LexemeAt.{there}
 use Rattle.dates.specs.Times.{halfOf}
 use borrow.Author.Needs.{needs}
 use Rattle.dates.proofs.time.read_half.Statement.{statement}

@@ -1,9 +1,9 @@
 use native.Mathlib.Omega.{arith}
-use Rattle.numbers.proofs.Laws.{found as number-found}
-use Rattle.numbers.proofs.Places.{there}
+use Rattle.numbers.proofs.NumberAnswers.{found as number-found}
+use Rattle.numbers.proofs.LexemeAt.{there}
 use Rattle.dates.specs.Times.{minuteOf}
-use Rattle.dates.proofs.Laws.{promised}
-use Rattle.dates.proofs.Bounds.{minute-took}
+use Rattle.dates.proofs.Parsed.{promised}
+use Rattle.dates.proofs.LexemesTaken.{minute-took}
 use borrow.Author.Needs.{needs}
 use Rattle.dates.proofs.time.read_minute.Statement.{statement}
 use Rattle.dates.proofs.time.read_minute.Tie as tie
@@ -19,23 +19,23 @@ rest-requires c κs =
 num-requires : tie.Need-num-requires
 num-requires c κs = search needs
 
-enum-known-min : tie.Need-enum-known-min
-enum-known-min c = search needs
+enum-known-minute : tie.Need-enum-known-minute
+enum-known-minute c = search needs
 
-add-t7 : tie.Need-add-t7
-add-t7 c =
-    let b = number-found (c .before .min .given .1) (c .before .before .before .num .ensures .1) in
+add-t6 : tie.Need-add-t6
+add-t6 c =
+    let b = number-found (c .before .before .minute .given .1) (c .before .before .before .before .num .ensures .1) in
     omega arith
 
 returns : tie.Need-returns
 unfolding minuteOf
 returns c =
     promised (rw (
-      ← (c .before .before .before .before .before .before .is-at .ensures .0),
-      c .before .before .before .before .before .if1 .taken,
-      ← (c .before .before .before .before .rest .ensures .0),
-      ← (c .before .before .before .num .ensures .0),
-      c .before .min .given .1,
+      ← (c .before .before .before .before .before .before .before .is-at .ensures .0),
+      c .before .before .before .before .before .before .if1 .taken,
+      ← (c .before .before .before .before .before .rest .ensures .0),
+      ← (c .before .before .before .before .num .ensures .0),
+      c .before .before .minute .given .1,
     )) (minute-took _)
 
 enum-told : tie.Need-enum-told
@@ -77,8 +77,8 @@ read-minute-spec =
     is-at-requires
     rest-requires
     num-requires
-    enum-known-min
-    add-t7
+    enum-known-minute
+    add-t6
     returns
     enum-told
     returns-2

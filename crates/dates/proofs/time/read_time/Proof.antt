@@ -1,6 +1,6 @@
 use Rattle.dates.specs.Times.{timeOf}
-use Rattle.dates.proofs.Laws.{promised}
-use Rattle.dates.proofs.Bounds.{time-took, time-none}
+use Rattle.dates.proofs.Parsed.{promised}
+use Rattle.dates.proofs.LexemesTaken.{time-took, time-none}
 use borrow.Author.Needs.{needs}
 use Rattle.dates.proofs.time.read_time.Statement.{statement}
 use Rattle.dates.proofs.time.read_time.Tie as tie

@@ -1,6 +1,6 @@
 use borrow.Author.Tests.{eq-eqb, ne-eqb}
 use Rattle.dates.specs.Units.{isArticle}
-use Rattle.dates.proofs.Bounds.{tested-article}
+use Rattle.dates.proofs.LexemesTaken.{tested-article}
 use borrow.Author.Needs.{needs}
 use Rattle.dates.proofs.units.is_article.Statement.{statement}
 use Rattle.dates.proofs.units.is_article.Tie as tie

@@ -1,8 +1,8 @@
 use native.Mathlib.Omega.{arith}
-use Rattle.numbers.proofs.Places.{within-bounds}
+use Rattle.numbers.proofs.LexemeAt.{within-bounds}
 use Rattle.dates.specs.Units.{monthOf}
-use Rattle.dates.proofs.Laws.{promised}
-use Rattle.dates.proofs.Bounds.{month-took}
+use Rattle.dates.proofs.Parsed.{promised}
+use Rattle.dates.proofs.LexemesTaken.{month-took}
 use borrow.Author.Needs.{needs}
 use Rattle.dates.proofs.units.read_month.Statement.{statement}
 use Rattle.dates.proofs.units.read_month.Tie as tie

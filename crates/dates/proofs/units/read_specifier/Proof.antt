@@ -1,7 +1,7 @@
 use borrow.Author.Tests.{ne-eqb}
 use Rattle.dates.specs.Units.{relativeSpecifierOf}
-use Rattle.dates.proofs.Laws.{promised}
-use Rattle.dates.proofs.Bounds.{specifier-took}
+use Rattle.dates.proofs.Parsed.{promised}
+use Rattle.dates.proofs.LexemesTaken.{specifier-took}
 use borrow.Author.Needs.{needs}
 use Rattle.dates.proofs.units.read_specifier.Statement.{statement}
 use Rattle.dates.proofs.units.read_specifier.Tie as tie

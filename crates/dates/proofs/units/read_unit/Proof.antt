@@ -1,7 +1,7 @@
 use borrow.Author.Tests.{ne-eqb}
 use Rattle.dates.specs.Units.{unitOf}
-use Rattle.dates.proofs.Laws.{promised}
-use Rattle.dates.proofs.Bounds.{unit-took}
+use Rattle.dates.proofs.Parsed.{promised}
+use Rattle.dates.proofs.LexemesTaken.{unit-took}
 use borrow.Author.Needs.{needs}
 use Rattle.dates.proofs.units.read_unit.Statement.{statement}
 use Rattle.dates.proofs.units.read_unit.Tie as tie

@@ -1,8 +1,8 @@
 use native.Mathlib.Omega.{arith}
-use Rattle.numbers.proofs.Places.{within-bounds}
+use Rattle.numbers.proofs.LexemeAt.{within-bounds}
 use Rattle.dates.specs.Units.{weekdayOf}
-use Rattle.dates.proofs.Laws.{promised}
-use Rattle.dates.proofs.Bounds.{weekday-took}
+use Rattle.dates.proofs.Parsed.{promised}
+use Rattle.dates.proofs.LexemesTaken.{weekday-took}
 use borrow.Author.Needs.{needs}
 use Rattle.dates.proofs.units.read_weekday.Statement.{statement}
 use Rattle.dates.proofs.units.read_weekday.Tie as tie

@@ -5,7 +5,7 @@ use lib.ListN.{length, length-map}
 use lib.Seq.{slice}
 use borrow.Author.Needs.{needs}
 use Rattle.calendar.specs.Moments.{IsMoment, Outcome, moment, reachedOf}
-use Rattle.phrase.specs.Flat.{rowDuration}
+use Rattle.phrase.specs.Chains.{rowDuration}
 use Rattle.evaluation.specs.Steps.{durationStep}
 use Rattle.calendar.specs.declared.moments.Reached.{Reached}
 use Rattle.calendar.proofs.Outcomes.{at-moment, moment-valid, refused-valid}

@@ -1,7 +1,8 @@
-use mathlib.Core.Path.{ap}
+use mathlib.Core.Path.{ap, refl, _∙_}
 use native.Mathlib.Omega.{arith}
 use Rattle.dates.specs.Dates.{parsedDate}
-use Rattle.dates.proofs.Laws.{found}
+use Rattle.dates.proofs.Parsed.{date-arm, unread, found}
+use Rattle.expressions.specs.ExprAnswers.{answerAt}
 use borrow.Author.Needs.{needs}
 use Rattle.expressions.proofs.expr.read_after.Statement.{statement}
 use Rattle.expressions.proofs.expr.read_after.Tie as tie
@@ -12,46 +13,27 @@ rest-requires c κs = search needs
 read-date-requires : tie.Need-read-date-requires
 read-date-requires c κs = search needs
 
-enum-known-d : tie.Need-enum-known-d
-enum-known-d c = search needs
+enum-known-a : tie.Need-enum-known-a
+enum-known-a c = search needs
 
-add-t9 : tie.Need-add-t9
-add-t9 c =
-    let b = found (ap parsedDate (c .before .d .given .1)) (c .before .before .before .read-date .ensures .1) in
-    omega arith
-
-enum-told : tie.Need-enum-told
-enum-told c = search needs
-
-enum-told-2 : tie.Need-enum-told-2
-enum-told-2 c = search needs
+expr-stopped-requires : tie.Need-expr-stopped-requires
+expr-stopped-requires c κs = search needs
 
 returns : tie.Need-returns
 returns c =
-    λ dur. rw (
-      ← (c .before .before .before .before .rest .ensures .0),
-      ← (c .before .before .before .read-date .ensures .0),
-      c .before .d .given .1,
-    )
+    let read-date = c .before .before .read-date in
+    λ dur. rw (← (c .before .before .before .rest .ensures .0), ← (read-date .ensures .0))
+    (c .expr-stopped .ensures ∙ ap (answerAt 0) (unread _ _ (date-arm (read-date .result) (c .before .match .keys2)) refl))
+
+add-t8 : tie.Need-add-t8
+add-t8 c =
+    let b = found (ap parsedDate (c .before .a .given .1)) (c .before .before .before .read-date .ensures .1) in
+    omega arith
 
 returns-2 : tie.Need-returns-2
 returns-2 c =
-    λ dur. rw (← (c .before .before .before .rest .ensures .0), ← (c .before .before .read-date .ensures .0), c .enum-told .given .1)
-
-returns-3 : tie.Need-returns-3
-returns-3 c =
-    λ dur. rw (← (c .before .before .before .rest .ensures .0), ← (c .before .before .read-date .ensures .0), c .enum-told2 .given .1)
+    λ dur. rw (← (c .before .before .before .before .rest .ensures .0), ← (c .before .before .before .read-date .ensures .0), c .before .a .given .1)
 
 pub read-after-spec : {M : Type 1} → statement M
 read-after-spec =
-    tie.close
-    (tie.spec
-    rest-requires
-    read-date-requires
-    enum-known-d
-    add-t9
-    enum-told
-    enum-told-2
-    returns
-    returns-2
-    returns-3)
+    tie.close (tie.spec rest-requires read-date-requires enum-known-a expr-stopped-requires returns add-t8 returns-2)

@@ -2,9 +2,9 @@ use mathlib.Core.Path.{ap}
 use native.Mathlib.Omega.{arith}
 use denote.Ref.{now}
 use Rattle.dates.specs.Dates.{parsedDate}
-use Rattle.dates.proofs.Laws.{found}
+use Rattle.dates.proofs.Parsed.{found}
 use Rattle.expressions.specs.DateExprs.{dateExprOf}
-use Rattle.expressions.proofs.Own.{expr-promised}
+use Rattle.expressions.proofs.ExprAnswers.{expr-promised}
 use borrow.Author.Needs.{needs}
 use Rattle.expressions.proofs.expr.read_expr.Statement.{statement}
 use Rattle.expressions.proofs.expr.read_expr.Tie as tie

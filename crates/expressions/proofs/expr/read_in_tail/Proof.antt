@@ -2,7 +2,7 @@ use Prim.Native.Nat.{_+_}
 use mathlib.Core.Path.{_∙_}
 use native.Mathlib.Omega.{arith}
 use denote.Ref.{now}
-use Rattle.numbers.proofs.Places.{there}
+use Rattle.numbers.proofs.LexemeAt.{there}
 use Rattle.dates.specs.Durations.{durationOf}
 use Rattle.dates.proofs.Durations.{taken-found, taken-read, taken-none, taken-overflow}
 use Rattle.expressions.specs.DateExprs.{inTailOf}

@@ -1,10 +1,8 @@
 use mathlib.Core.Path.{ap}
 use native.Mathlib.Omega.{arith}
 use Rattle.dates.specs.Units.{parsedSpecifier}
-use Rattle.dates.specs.Parsed.{parsedNumber}
-use Rattle.dates.proofs.Laws.{found, number-arm}
+use Rattle.dates.proofs.Parsed.{found}
 use Rattle.expressions.specs.DateExprs.{relativeExprOf}
-use Rattle.expressions.proofs.Own.{weekday-none}
 use borrow.Author.Needs.{needs}
 use Rattle.expressions.proofs.expr.read_relative.Statement.{statement}
 use Rattle.expressions.proofs.expr.read_relative.Tie as tie
@@ -33,50 +31,43 @@ read-weekday-requires c κs = search needs
 enum-known-w : tie.Need-enum-known-w
 enum-known-w c = search needs
 
+enum-told-2 : tie.Need-enum-told-2
+enum-told-2 c = search needs
+
 read-unit-requires : tie.Need-read-unit-requires
 read-unit-requires c κs = search needs
 
 enum-known-unit : tie.Need-enum-known-unit
 enum-known-unit c = search needs
 
-enum-told-2 : tie.Need-enum-told-2
-enum-told-2 c = search needs
+enum-told-3 : tie.Need-enum-told-3
+enum-told-3 c = search needs
 
 returns-2 : tie.Need-returns-2
 unfolding relativeExprOf
 returns-2 c =
-    let read-weekday = c .before .before .before .before .read-weekday in
-    let none = weekday-none _ (read-weekday .ensures .0) (number-arm (read-weekday .result) (c .before .before .before .match2 .keys2)) in
     rw (
-      ← (c .before .before .before .before .before .before .before .before .before .read-specifier .ensures .0),
-      c .before .before .before .before .before .before .before .spec .given .1,
-      ← (c .before .before .before .before .before .rest .ensures .0),
-      ← (read-weekday .ensures .0),
-      none,
+      ← (c .before .before .before .before .before .before .before .before .before .before .read-specifier .ensures .0),
+      c .before .before .before .before .before .before .before .before .spec .given .1,
+      ← (c .before .before .before .before .before .before .rest .ensures .0),
+      ← (c .before .before .before .before .before .read-weekday .ensures .0),
+      c .before .before .before .enum-told2 .given .1,
       ← (c .before .before .read-unit .ensures .0),
-      c .enum-told2 .given .1,
+      c .enum-told3 .given .1,
     )
 
 returns-3 : tie.Need-returns-3
 unfolding relativeExprOf
 returns-3 c =
-    let read-weekday = c .before .before .before .before .before .read-weekday in
-    let arm = number-arm (read-weekday .result) (c .before .before .before .before .match2 .keys2) in
-    let none = weekday-none _ (read-weekday .ensures .0) arm in
     rw (
-      ← (c .before .before .before .before .before .before .before .before .before .before .read-specifier .ensures .0),
-      c .before .before .before .before .before .before .before .before .spec .given .1,
-      ← (c .before .before .before .before .before .before .rest .ensures .0),
-      ← (read-weekday .ensures .0),
-      none,
+      ← (c .before .before .before .before .before .before .before .before .before .before .before .read-specifier .ensures .0),
+      c .before .before .before .before .before .before .before .before .before .spec .given .1,
+      ← (c .before .before .before .before .before .before .before .rest .ensures .0),
+      ← (c .before .before .before .before .before .before .read-weekday .ensures .0),
+      c .before .before .before .before .enum-told2 .given .1,
       ← (c .before .before .before .read-unit .ensures .0),
       c .before .unit .given .1,
     )
-
-add-t12 : tie.Need-add-t12
-add-t12 c =
-    let b = found (ap parsedNumber (c .before .w .given .1)) (c .before .before .before .read-weekday .ensures .1) in
-    omega arith
 
 returns-4 : tie.Need-returns-4
 unfolding relativeExprOf
@@ -100,10 +91,10 @@ read-relative-spec =
     rest-requires
     read-weekday-requires
     enum-known-w
+    enum-told-2
     read-unit-requires
     enum-known-unit
-    enum-told-2
+    enum-told-3
     returns-2
     returns-3
-    add-t12
     returns-4)

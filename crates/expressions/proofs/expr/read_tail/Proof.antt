@@ -1,7 +1,7 @@
 use native.Mathlib.Omega.{arith}
 use denote.Ref.{now}
 use Rattle.expressions.specs.DateExprs.{tailOf}
-use Rattle.expressions.proofs.Own.{tail-none}
+use Rattle.expressions.proofs.ExprAnswers.{tail-none}
 use borrow.Author.Needs.{needs}
 use Rattle.expressions.proofs.expr.read_tail.Statement.{statement}
 use Rattle.expressions.proofs.expr.read_tail.Tie as tie

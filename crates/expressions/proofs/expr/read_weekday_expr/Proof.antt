@@ -1,10 +1,9 @@
 use native.Mathlib.Nat.{add-zero}
 use mathlib.Core.Path.{ap}
 use native.Mathlib.Omega.{arith}
-use Rattle.dates.specs.Parsed.{parsedNumber}
-use Rattle.dates.proofs.Laws.{found, number-arm}
+use Rattle.dates.specs.Units.{parsedWeekday}
+use Rattle.dates.proofs.Parsed.{found}
 use Rattle.expressions.specs.DateExprs.{weekdayExprOf}
-use Rattle.expressions.proofs.Own.{weekday-none}
 use borrow.Author.Needs.{needs}
 use Rattle.expressions.proofs.expr.read_weekday_expr.Statement.{statement}
 use Rattle.expressions.proofs.expr.read_weekday_expr.Tie as tie
@@ -15,19 +14,19 @@ read-weekday-requires c κs = search needs
 enum-known-w : tie.Need-enum-known-w
 enum-known-w c = search needs
 
+enum-told : tie.Need-enum-told
+enum-told c = search needs
+
 read-relative-requires : tie.Need-read-relative-requires
 read-relative-requires c κs = search needs
 
 returns : tie.Need-returns
 unfolding weekdayExprOf
-returns c =
-    let read-weekday = c .before .before .read-weekday in
-    let none = weekday-none _ (read-weekday .ensures .0) (number-arm (read-weekday .result) (c .before .match .keys2)) in
-    rw (← (read-weekday .ensures .0), none) (c .read-relative .ensures)
+returns c = rw (← (c .before .before .before .read-weekday .ensures .0), c .before .enum-told .given .1) (c .read-relative .ensures)
 
 read-tail-requires : tie.Need-read-tail-requires
 read-tail-requires c κs =
-    let b = found (ap parsedNumber (c .before .w .given .1)) (c .before .before .before .read-weekday .ensures .1) in
+    let b = found (ap parsedWeekday (c .before .w .given .1)) (c .before .before .before .read-weekday .ensures .1) in
     omega arith
 
 returns-2 : tie.Need-returns-2
@@ -42,6 +41,7 @@ read-weekday-expr-spec =
     (tie.spec
     read-weekday-requires
     enum-known-w
+    enum-told
     read-relative-requires
     returns
     read-tail-requires

@@ -1,6 +1,6 @@
 use mathlib.Core.Path.{_∙_}
 use native.Mathlib.Omega.{arith}
-use Rattle.numbers.proofs.Places.{there}
+use Rattle.numbers.proofs.LexemeAt.{there}
 use Rattle.expressions.specs.DateExprs.{withDurationOf}
 use borrow.Author.Needs.{needs}
 use Rattle.expressions.proofs.expr.with_duration.Statement.{statement}

@@ -6,8 +6,8 @@ use Prim.Native.Nat.{ℕ, _<_}
 use native.Mathlib.Omega.{arith}
 use borrow.Author.Tests.{ne-eqb}
 use lib.Dec.{eqb}
+use Rattle.digits.proofs.Tabled.{steady}
 use Rattle.lexer.specs.Classes.{classOf, markOf, Letter, Digit, Mark, Stray}
-use Rattle.lexer.proofs.Tabled.{steady}
 use Rattle.lexer.proofs.class.class.Statement.{statement}
 use Rattle.lexer.proofs.class.class.Tie as tie
 

@@ -6,12 +6,13 @@ use Prim.Native.Nat.{ℕ, _+_, _-_, _/_, _≤_, _<_}
 use native.Mathlib.Omega.{arith}
 use borrow.Author.Needs.{needs}
 use lib.ListN.{length}
+use Rattle.digits.proofs.Order.{Tri, below, equal, above, tri}
 use Rattle.lexer.specs.Keywords.{keywords}
 use Rattle.lexer.specs.Words.{ordered}
 use Rattle.lexer.specs.Table.{sorted, spellingAt, Stands}
 use Rattle.lexer.specs.declared.find.Order.the-variants.{Less, Same, More}
 use Rattle.lexer.specs.declared.find.Found.the-variants.{Lexeme}
-use Rattle.lexer.proofs.Order.{Tri, below, equal, above, tri, clash}
+use Rattle.lexer.proofs.Order.{clash}
 use Rattle.lexer.proofs.Sorting.{meaning-sorted}
 use Rattle.lexer.proofs.Halves.{all-less, all-more, none-before, absent, present}
 use Rattle.lexer.proofs.Keys.{stands-ordered}

@@ -5,9 +5,10 @@ use native.Mathlib.Omega.{arith}
 use borrow.Author.Needs.{needs}
 use borrow.Author.Tests.{le-leb, lt-leb}
 use lib.ListN.{length, drop}
-use Rattle.lexer.specs.Lex.{valueFrom, numberOf}
+use Rattle.digits.specs.Digits.{valueFrom}
+use Rattle.digits.proofs.Says.{value-step, value-over, value-least}
+use Rattle.lexer.specs.Lex.{numberOf}
 use Rattle.lexer.specs.declared.lex.Digits.the-variants.{Value}
-use Rattle.lexer.proofs.Runs.{value-step, value-over, value-least}
 use Rattle.lexer.proofs.lex.digits_value.Statement.{statement}
 use Rattle.lexer.proofs.lex.digits_value.Tie as tie
 

@@ -125,32 +125,27 @@ returns-2 c =
 enum-known-t : tie.Need-enum-known-t Inv-loop μ-loop
 enum-known-t c = search needs
 
-refuse-requires-2 : tie.Need-refuse-requires-2 Inv-loop μ-loop
-refuse-requires-2 c κs = search needs
-
 returns-3 : tie.Need-returns-3 Inv-loop μ-loop
 returns-3 c =
-    let d = c .before .before in
+    let d = c .before in
     let at = d .before .before .before .before in
     let l = at .loop in
     let g = d .t .given in
-    let e : tokenAt keywords (phrase at) (l .at) ≡ Refused (g .0 .0) (g .0 .1 .0) (g .0 .1 .1 .0) =
-    sym (d .before .before .token-in .ensures) ∙ g .1 in
-    stopped (phrase at) (codes₀ at) (starts₀ at) (l .inv)
-    (lex-refused keywords (phrase at) (l .at) (64 - l .n) (g .0 .0) (g .0 .1 .0) (g .0 .1 .1 .0) e) (c .refuse2 .ensures)
+    let e : tokenAt keywords (phrase at) (l .at) ≡ Refused (g .0 .0) = sym (d .before .before .token-in .ensures) ∙ g .1 in
+    stopped (phrase at) (codes₀ at) (starts₀ at) (l .inv) (lex-refused keywords (phrase at) (l .at) (64 - l .n) (g .0 .0) e) refl
 
 enum-known-t-2 : tie.Need-enum-known-t-2 Inv-loop μ-loop
 enum-known-t-2 c = search needs
 
-refuse-requires-3 : tie.Need-refuse-requires-3 Inv-loop μ-loop
-refuse-requires-3 c κs = search needs
+refuse-requires-2 : tie.Need-refuse-requires-2 Inv-loop μ-loop
+refuse-requires-2 c κs = search needs
 
 returns-4 : tie.Need-returns-4 Inv-loop μ-loop
 returns-4 c =
     let d = c .before .before .before in
     let l = at d .loop in
     stopped (phrase (at d)) (codes₀ (at d)) (starts₀ (at d)) (l .inv)
-    (lex-full keywords (phrase (at d)) (l .at) (64 - l .n) (code d) (start d) (end d) (omega arith) (taken d)) (c .refuse3 .ensures)
+    (lex-full keywords (phrase (at d)) (l .at) (64 - l .n) (code d) (start d) (end d) (omega arith) (taken d)) (c .refuse2 .ensures)
 
 mul-codes : tie.Need-mul-codes Inv-loop μ-loop
 mul-codes c = omega arith
@@ -207,10 +202,9 @@ lex-spec =
     enum-told
     returns-2
     enum-known-t
-    refuse-requires-2
     returns-3
     enum-known-t-2
-    refuse-requires-3
+    refuse-requires-2
     returns-4
     mul-codes
     element-write-codes

@@ -3,7 +3,8 @@ use mathlib.Core.Path.{sym, _∙_}
 use native.Mathlib.Omega.{arith}
 use borrow.Author.Needs.{needs}
 use Rattle.lexer.specs.Classes.{Digit}
-use Rattle.lexer.specs.Lex.{between, numberAt}
+use Rattle.refusals.specs.Answers.{between}
+use Rattle.lexer.specs.Lex.{numberAt}
 use Rattle.lexer.proofs.Runs.{run-within, value-most}
 use Rattle.lexer.proofs.lex.number_at.Statement.{statement}
 use Rattle.lexer.proofs.lex.number_at.Tie as tie
@@ -37,8 +38,8 @@ returns c =
     let d = c .before .before in
     rw (← (d .before .before .run-end .ensures), ← (d .digits-value .ensures), c .enum-told .given .1)
 
-add-t10 : tie.Need-add-t10
-add-t10 c =
+add-t11 : tie.Need-add-t11
+add-t11 c =
     let d = c .before .before .before in
     let st = d .before .before .before .before in
     let e = d .before .before .run-end .result in
@@ -63,5 +64,5 @@ number-at-spec =
     enum-known-d
     enum-told
     returns
-    add-t10
+    add-t11
     returns-2)

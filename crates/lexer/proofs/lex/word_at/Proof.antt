@@ -7,6 +7,7 @@ use Rattle.lexer.specs.Keywords.{keywords}
 use Rattle.lexer.specs.Words.{meaning}
 use Rattle.lexer.specs.Classes.{Letter}
 use Rattle.refusals.specs.Table as refusal
+use Rattle.refusals.specs.Answers.{refusalAt}
 use Rattle.lexer.specs.Lex.{runEnd, wordFrom, wordAt}
 use Rattle.lexer.specs.declared.lex.Token.{Token}
 use Rattle.lexer.specs.declared.lex.Token.the-variants.{Taken, Refused}
@@ -52,7 +53,7 @@ returns : tie.Need-returns
 unfolding wordAt
 returns c =
     let d = c .before .before in
-    rw (← (found d), c .enum-told .given .1) (ends d (λ (e : ℕ). Refused refusal.Unknown (a d) e))
+    rw (← (found d), c .enum-told .given .1) (ends d (λ (e : ℕ). Refused (refusalAt refusal.Unknown (a d) e)))
 
 returns-2 : tie.Need-returns-2
 unfolding wordAt

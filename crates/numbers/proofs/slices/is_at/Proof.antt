@@ -1,6 +1,6 @@
 use borrow.Author.Tests.{lt-ltb, le-ltb}
 use Rattle.numbers.specs.Slices.{isAt}
-use Rattle.numbers.proofs.Places.{tested-at}
+use Rattle.numbers.proofs.LexemeAt.{tested-at}
 use borrow.Author.Needs.{needs}
 use Rattle.numbers.proofs.slices.is_at.Statement.{statement}
 use Rattle.numbers.proofs.slices.is_at.Tie as tie

@@ -4,7 +4,7 @@ use native.Mathlib.Omega.{arith}
 use lib.ListN.{length}
 use denote.Ref.{now}
 use borrow.Author.Needs.{needs}
-use Rattle.phrase.proofs.Turns.{Turning, unlinked, turn-learnt}
+use Rattle.phrase.proofs.Outlining.{Turning, unlinked, turn-learnt}
 use Rattle.phrase.proofs.date_time.read_date_time.Statement.{statement}
 use Rattle.phrase.proofs.date_time.read_date_time.Tie as tie
 

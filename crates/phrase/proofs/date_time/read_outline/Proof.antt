@@ -2,7 +2,7 @@ use mathlib.Core.Path.{sym, _∙_}
 use denote.Ref.{now}
 use borrow.Author.Needs.{needs}
 use Rattle.phrase.specs.DateTimes.{dateTimeOf}
-use Rattle.phrase.proofs.Turns.{counted, kept-left, kept-all, kept-none}
+use Rattle.phrase.proofs.Outlining.{counted, kept-left, kept-all, kept-none}
 use Rattle.phrase.proofs.date_time.read_outline.Statement.{statement}
 use Rattle.phrase.proofs.date_time.read_outline.Tie as tie
 

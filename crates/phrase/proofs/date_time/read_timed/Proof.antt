@@ -2,9 +2,9 @@ use native.Mathlib.Omega.{arith}
 use mathlib.Core.Path.{ap, _∙_}
 use denote.Ref.{now}
 use Rattle.dates.specs.Times.{parsedTime}
-use Rattle.dates.proofs.Laws.{found}
+use Rattle.dates.proofs.Parsed.{found}
 use Rattle.phrase.specs.DateTimes.{timedTurnOf}
-use Rattle.phrase.proofs.Turns.{time-unread, timed-turn}
+use Rattle.phrase.proofs.Outlining.{time-unread, timed-turn}
 use borrow.Author.Needs.{needs}
 use Rattle.phrase.proofs.date_time.read_timed.Statement.{statement}
 use Rattle.phrase.proofs.date_time.read_timed.Tie as tie

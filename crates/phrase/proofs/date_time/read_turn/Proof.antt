@@ -2,7 +2,7 @@ use native.Mathlib.Omega.{arith}
 use mathlib.Core.Path.{_∙_}
 use denote.Ref.{now}
 use Rattle.phrase.specs.DateTimes.{turnOf}
-use Rattle.phrase.proofs.Turns.{time-stopped, dated-turn}
+use Rattle.phrase.proofs.Outlining.{time-stopped, dated-turn}
 use borrow.Author.Needs.{needs}
 use Rattle.phrase.proofs.date_time.read_turn.Statement.{statement}
 use Rattle.phrase.proofs.date_time.read_turn.Tie as tie

@@ -1,5 +1,5 @@
 use native.Mathlib.Omega.{arith}
-use Rattle.numbers.proofs.Places.{there}
+use Rattle.numbers.proofs.LexemeAt.{there}
 use borrow.Author.Needs.{needs}
 use Rattle.phrase.proofs.date_time.take_comma_or.Statement.{statement}
 use Rattle.phrase.proofs.date_time.take_comma_or.Tie as tie

@@ -1,5 +1,5 @@
 use native.Mathlib.Omega.{arith}
-use Rattle.dates.proofs.Laws.{found}
+use Rattle.dates.proofs.Parsed.{found}
 use Rattle.dates.specs.Times.{parsedTime}
 use mathlib.Core.Path.{ap}
 use Rattle.phrase.specs.DateTimes.{timeBehindOf}

@@ -1,4 +1,4 @@
-use Rattle.phrase.proofs.Turns.{time-dropped}
+use Rattle.phrase.proofs.Outlining.{time-dropped}
 use borrow.Author.Needs.{needs}
 use Rattle.phrase.proofs.date_time.turn_stopped.Statement.{statement}
 use Rattle.phrase.proofs.date_time.turn_stopped.Tie as tie

@@ -1,5 +1,5 @@
 use native.Mathlib.Omega.{arith}
-use Rattle.numbers.proofs.Places.{there}
+use Rattle.numbers.proofs.LexemeAt.{there}
 use Rattle.phrase.specs.DateTimes.{withDurationOf}
 use borrow.Author.Needs.{needs}
 use Rattle.phrase.proofs.date_time.with_duration.Statement.{statement}

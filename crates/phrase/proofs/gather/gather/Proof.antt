@@ -3,7 +3,7 @@ use native.Mathlib.Omega.{arith}
 use denote.Ref.{now}
 use borrow.Author.Needs.{needs}
 use Rattle.phrase.specs.DateTimes.{dateTimeOf}
-use Rattle.phrase.specs.Flat.{flat}
+use Rattle.phrase.specs.Chains.{chainOf}
 use Rattle.phrase.specs.Outlines.{countOf, treeIn, kept}
 use Rattle.phrase.proofs.Gathering.{Gathering, begin, one-link, base-left, all-gathered}
 use Rattle.phrase.proofs.gather.gather.Statement.{statement}
@@ -11,7 +11,7 @@ use Rattle.phrase.proofs.gather.gather.Tie as tie
 
 abbrev Inv-loop : tie.InvT-loop
 Inv-loop l n o parts₀ links₀ m i₀ at₀ parts links i at =
-    let w = kept n (dateTimeOf l) in Gathering l (countOf w) o (flat (treeIn w)) parts links i at
+    let w = kept n (dateTimeOf l) in Gathering l (countOf w) o (chainOf (treeIn w)) parts links i at
 
 abbrev μ-loop : tie.MeasureT-loop
 μ-loop l n o parts₀ links₀ m i₀ at₀ parts links i at = m - i

@@ -29,10 +29,11 @@ judged-requires c κs = search needs
 
 returns : tie.Need-returns
 returns c =
-    let args = c .before .before .before .before .before .before .before .before .before .args in
-    let lex = c .before .before .before .before .before .lex in
-    read-answered (now (args .phrase)) (lex .ensures .0) (lex .ensures .1 .0) (lex .ensures .1 .1 .0) (c .before .before .before .gather .ensures)
-    (c .judged .ensures)
+    let d = c .before in
+    let args = d .before .before .before .before .before .before .before .before .before .args in
+    let lex = d .before .before .before .before .before .lex in
+    read-answered (now (args .phrase)) (lex .ensures .0) (lex .ensures .1 .0) (lex .ensures .1 .1 .0) (d .before .before .before .gather .ensures)
+    (d .judged .ensures)
 
 pub read-spec : {M : Type 1} → statement M
 read-spec =

@@ -13,17 +13,14 @@ stopped-requires c κs = search needs
 enum-known-t : tie.Need-enum-known-t
 enum-known-t c = search needs
 
-refuse-requires : tie.Need-refuse-requires
-refuse-requires c κs = search needs
-
 stopped-requires-2 : tie.Need-stopped-requires-2
 stopped-requires-2 c κs = search needs
 
 enum-known-t-2 : tie.Need-enum-known-t-2
 enum-known-t-2 c = search needs
 
-refuse-requires-2 : tie.Need-refuse-requires-2
-refuse-requires-2 c κs = search needs
+refuse-requires : tie.Need-refuse-requires
+refuse-requires c κs = search needs
 
 stopped-requires-3 : tie.Need-stopped-requires-3
 stopped-requires-3 c κs = search needs
@@ -34,7 +31,7 @@ returns c =
       c .before .before .before .before .t2 .given .1,
       le-leb _ _ (c .before .before .if1 .taken),
       c .stopped3 .ensures,
-      c .before .refuse2 .ensures,
+      c .before .refuse .ensures,
     )
 
 mul-codes : tie.Need-mul-codes
@@ -49,14 +46,14 @@ mul-starts c = search needs
 array-write-starts : tie.Need-array-write-starts
 array-write-starts c = search needs
 
-add-t18 : tie.Need-add-t18
-add-t18 c = search needs
+add-t17 : tie.Need-add-t17
+add-t17 c = search needs
 
 returns-2 : tie.Need-returns-2
 returns-2 c = rw (c .before .enum-told .given .1, c .stopped .ensures)
 
 returns-3 : tie.Need-returns-3
-returns-3 c = rw (c .before .before .before .t .given .1, c .stopped2 .ensures, c .before .refuse .ensures)
+returns-3 c = rw (c .before .before .t .given .1, c .stopped2 .ensures)
 
 returns-4 : tie.Need-returns-4
 returns-4 c = rw (c .before .before .before .before .before .t2 .given .1, lt-leb _ _ (c .before .before .before .if1 .left))
@@ -68,17 +65,16 @@ joined-spec =
     enum-told
     stopped-requires
     enum-known-t
-    refuse-requires
     stopped-requires-2
     enum-known-t-2
-    refuse-requires-2
+    refuse-requires
     stopped-requires-3
     returns
     mul-codes
     array-write-codes
     mul-starts
     array-write-starts
-    add-t18
+    add-t17
     returns-2
     returns-3
     returns-4)

@@ -6,7 +6,7 @@ use native.Mathlib.Omega.{arith}
 use lib.ListN.{length, drop, length-drop, drop-of-length-le}
 use lib.Seq.{take-all}
 use borrow.Author.Needs.{needs}
-use Rattle.lexer.specs.Lex.{between}
+use Rattle.refusals.specs.Answers.{between}
 use Rattle.reader.proofs.place.rest_from.Statement.{statement}
 use Rattle.reader.proofs.place.rest_from.Tie as tie
 

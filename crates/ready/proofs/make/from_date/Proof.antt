@@ -3,7 +3,7 @@ use native.Mathlib.Omega.{arith}
 use mathlib.Core.Path.{_≡_, ap, _∙_}
 use lib.ListN.{length, length-map}
 use lib.Seq.{slice}
-use Rattle.phrase.specs.Flat.{rowDuration}
+use Rattle.phrase.specs.Chains.{rowDuration}
 use Rattle.steps.specs.Plans.{begun}
 use Rattle.steps.specs.declared.plan.Plan.{Plan}
 use Rattle.steps.specs.declared.plan.Start.the-variants.{OnDate}

@@ -2,8 +2,7 @@ use Prim.Native.Nat.{ℕ, _+_, _-_, _≤_}
 use native.Mathlib.Omega.{arith}
 use mathlib.Core.Path.{_≡_, sym, _∙_}
 use lib.ListN.{length, length-map}
-use Rattle.phrase.specs.Flat.{sizeTree}
-use Rattle.evaluation.specs.Formed.{baseOf}
+use Rattle.phrase.specs.Chains.{baseOf, sizeTree}
 use Rattle.evaluation.proofs.Links.{linkAt, no-link}
 use Rattle.ready.specs.Bounds.{Within}
 use Rattle.ready.proofs.Rows.{row-size}

@@ -4,7 +4,7 @@ use native.Mathlib.Nat.{add-zero, sub-zero}
 use mathlib.Core.Path.{_≡_, refl, sym, _∙_}
 use lib.ListN.{length, length-set}
 use lib.Seq.{sets}
-use Rattle.records.specs.Bytes.{bytesOf}
+use Rattle.records.specs.Bytes.{lowFirst}
 use Rattle.records.proofs.Numbers.{put-more}
 use borrow.Author.Needs.{needs}
 use Rattle.records.proofs.endian.put.Statement.{statement}
@@ -12,7 +12,7 @@ use Rattle.records.proofs.endian.put.Tie as tie
 
 -- what is still to be put makes the rest
 abbrev Inv-loop : tie.InvT-loop
-Inv-loop b₀ at k x v₀ i₀ b v i = (length b ≡ length b₀) × (i ≤ k) × (sets b (at + i) (bytesOf (k - i) v) ≡ sets b₀ at (bytesOf k x))
+Inv-loop b₀ at k x v₀ i₀ b v i = (length b ≡ length b₀) × (i ≤ k) × (sets b (at + i) (lowFirst (k - i) v) ≡ sets b₀ at (lowFirst k x))
 
 abbrev μ-loop : tie.MeasureT-loop
 μ-loop b₀ at k x v₀ i₀ b v i = k - i

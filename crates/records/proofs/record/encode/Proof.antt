@@ -4,11 +4,11 @@ use mathlib.Core.Path.{_≡_, refl}
 use mathlib.Core.List.{List}
 use lib.ListN.{length, length-map}
 use lib.Seq.{sets}
+use Rattle.digits.proofs.Stores.{sets-append}
 use Rattle.steps.specs.declared.plan.Plan.{Plan}
 use Rattle.steps.proofs.Listed.{stepsFrom, stepAt, no-step, next-step}
 use Rattle.records.specs.Words.{wordsOf}
 use Rattle.records.specs.Records.{bytesOfWords, encodeOf}
-use Rattle.records.proofs.Numbers.{sets-append}
 use borrow.Author.Needs.{needs}
 use Rattle.records.proofs.record.encode.Statement.{statement}
 use Rattle.records.proofs.record.encode.Tie as tie
@@ -63,7 +63,7 @@ loop-again c =
     let next = next-step p (l .i) (w .before .before .before .loop-test .taken) (within s) in
     let place : 16 * (l .i + 1) ≡ 16 * l .i + 16 = omega arith in
     let step = stepAt p (l .i) in
-    let turn = sets-append (l .b) (16 * l .i) (bytesOfWords (wordsOf step)) (encodeOf (stepsFrom p (l .i + 1))) in
+    let turn = sets-append (bytesOfWords (wordsOf step)) (encodeOf (stepsFrom p (l .i + 1))) (l .b) (16 * l .i) in
     record {
       size = search needs;
       part = search needs;

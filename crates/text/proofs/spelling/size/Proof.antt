@@ -34,8 +34,8 @@ returns c = rw (c .enum-told .given .1)
 returns-2 : tie.Need-returns-2
 unfolding textOf
 returns-2 c =
-    let told = c .before .before .before .a .given in
-    rw (told .1) (omega (arith, refusal-length (told .0 .0) (told .0 .1 .0), c .before .width .ensures .0, c .width2 .ensures .0))
+    let told = c .before .before .before .before .a .given in
+    rw (told .1) (omega (arith, refusal-length (told .0 .0 .number) (told .0 .0 .place), c .before .width .ensures .0, c .width2 .ensures .0))
 
 pub size-spec : {M : Type 1} → statement M
 size-spec =

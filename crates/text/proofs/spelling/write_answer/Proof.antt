@@ -7,9 +7,10 @@ use denote.Ref.{now}
 use lib.ListN.{length}
 use lib.Seq.{sets}
 use borrow.Author.Needs.{needs}
+use Rattle.digits.specs.Digits.{widthOf}
+use Rattle.digits.specs.Stores.{Written}
 use Rattle.text.specs.Answers.{answerFrom}
-use Rattle.text.specs.Digits.{widthOf}
-use Rattle.text.specs.Texts.{textOf, fitting, Written}
+use Rattle.text.specs.Texts.{textOf, fitting}
 use Rattle.text.proofs.Spelled.{refusal-length, fits, passes}
 use Rattle.text.proofs.spelling.write_answer.Statement.{statement}
 use Rattle.text.proofs.spelling.write_answer.Tie as tie
@@ -27,7 +28,7 @@ moment-room c = rw (c .a .given .1) at (has-room (c .before .before))
 -- for a refusal
 refusal-room :
     (c : tie.After-a2) →
-    12 + widthOf (c .a2 .given .0 .0) + widthOf (c .a2 .given .0 .1 .0) ≤ length (now (c .before .before .before .before .before .args .out))
+    12 + widthOf (c .a2 .given .0 .0 .number) + widthOf (c .a2 .given .0 .0 .place) ≤ length (now (c .before .before .before .before .before .args .out))
 unfolding textOf
 refusal-room c = rw (c .a2 .given .1, refusal-length) at (has-room (c .before .before))
 
@@ -51,12 +52,8 @@ returns c =
 enum-known-a : tie.Need-enum-known-a
 enum-known-a c = search needs
 
-put-date-requires : tie.Need-put-date-requires
-put-date-requires c κs = omega (arith, moment-room (c .before .before))
-
-put-time-requires : tie.Need-put-time-requires
-put-time-requires c κs =
-    omega (arith, moment-room (c .before .before .before .before .before .before), c .before .before .before .put-date .kept .0)
+put-moment-requires : tie.Need-put-moment-requires
+put-moment-requires c κs = moment-room (c .before .before)
 
 enum-known-a-2 : tie.Need-enum-known-a-2
 enum-known-a-2 c = search needs
@@ -65,7 +62,7 @@ cast-put-refusal : tie.Need-cast-put-refusal
 cast-put-refusal c = search needs
 
 put-refusal-requires : tie.Need-put-refusal-requires
-put-refusal-requires c κs = refusal-room (c .before .before)
+put-refusal-requires c κs = refusal-room (c .before .before .before)
 
 same-length : tie.Need-same-length
 same-length c = search needs
@@ -73,9 +70,8 @@ same-length c = search needs
 returns-2 : tie.Need-returns-2
 unfolding textOf
 returns-2 c =
-    let date = c .before .before .before .before .before .before in
-    let told = date .before .before .before in
-    whole (told .before .before) (rw (c .before .before .put-time .ensures, date .put-date .ensures, told .a .given .1))
+    let told = c .before .before .before .before .before in
+    whole (told .before .before) (rw (c .before .before .put-moment .ensures, told .a .given .1))
 
 same-length-2 : tie.Need-same-length-2
 same-length-2 c = search needs
@@ -83,7 +79,7 @@ same-length-2 c = search needs
 returns-3 : tie.Need-returns-3
 unfolding textOf
 returns-3 c =
-    let told = c .before .before .before .before .before in
+    let told = c .before .before .before .before .before .before in
     whole (told .before .before) (rw (c .before .before .put-refusal .ensures, told .a2 .given .1))
 
 pub write-answer-spec : {M : Type 1} → statement M
@@ -93,8 +89,7 @@ write-answer-spec =
     size-requires
     returns
     enum-known-a
-    put-date-requires
-    put-time-requires
+    put-moment-requires
     enum-known-a-2
     cast-put-refusal
     put-refusal-requires

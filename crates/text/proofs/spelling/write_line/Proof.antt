@@ -6,11 +6,12 @@ use native.Mathlib.Omega.{arith}
 use denote.Ref.{now}
 use lib.ListN.{length, length-append}
 use borrow.Author.Needs.{needs}
+use Rattle.digits.specs.Stores.{Written}
+use Rattle.digits.proofs.Stores.{sets-append}
 use Rattle.lexer.specs.Keywords.{keywords}
 use Rattle.text.specs.Answers.{answerOf}
 use Rattle.text.specs.Lines.{feed}
-use Rattle.text.specs.Texts.{textOf, Written}
-use Rattle.text.proofs.Stores.{sets-append}
+use Rattle.text.specs.Texts.{textOf}
 use Rattle.text.proofs.Spelled.{text-limit, fits}
 use Rattle.text.proofs.spelling.write_line.Statement.{statement}
 use Rattle.text.proofs.spelling.write_line.Tie as tie

@@ -6,8 +6,8 @@ use borrow.Author.Needs.{needs}
 use denote.Ref.{now}
 use lib.ListN.{length, take, drop, length-take, length-drop}
 use lib.Seq.{sets, length-sets}
-use Rattle.text.proofs.Stores.{moved}
-use Rattle.text.proofs.Takes.{take-least}
+use Rattle.digits.proofs.Stores.{moved}
+use Rattle.digits.proofs.Takes.{take-least}
 use Rattle.text.proofs.stream.keep.Statement.{statement}
 use Rattle.text.proofs.stream.keep.Tie as tie
 

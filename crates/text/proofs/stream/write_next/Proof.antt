@@ -4,8 +4,8 @@ use native.Mathlib.Nat.{add-zero}
 use native.Mathlib.Omega.{arith}
 use denote.Ref.{now}
 use borrow.Author.Needs.{needs}
+use Rattle.digits.proofs.Stores.{lent-part}
 use Rattle.text.specs.Output.{answerLine}
-use Rattle.text.proofs.Stores.{lent-part}
 use Rattle.text.proofs.Spelled.{answer-limit}
 use Rattle.text.proofs.stream.write_next.Statement.{statement}
 use Rattle.text.proofs.stream.write_next.Tie as tie

@@ -1,0 +1,254 @@
+-- Turn after turn: `dateTimeOf` is what it says it is, and what one turn of the code says of the outline.
+use Prim.Native.Nat.{ℕ, _+_, _≤_, _<_}
+use native.Mathlib.Omega.{arith}
+use mathlib.Core.Path.{_≡_, refl, ap, sym, _∙_}
+use mathlib.Core.Bool.{Bool, true, false, _||_}
+use mathlib.Core.List.{List, [], _∷_}
+use lib.ListN.{length, drop, length-drop}
+use lib.Seq.{drop-drop}
+use types.Run.{OneOf}
+use denote.Enum.Declared.{tagOf}
+use Rattle.lexer.specs.Lexemes as lexeme
+use Rattle.numbers.specs.Slices.{isAt, oneIf}
+use Rattle.numbers.proofs.Again.{again-is}
+use Rattle.numbers.proofs.NumberAnswers.{neither}
+use Rattle.dates.specs.Parsed.{Parsed, is, nothing, overflow, ifLet, andThen, stopped}
+use Rattle.dates.specs.Durations.{Duration}
+use Rattle.dates.specs.Times.{timeOf, parsedTime}
+use Rattle.dates.specs.declared.time.Time.{Time}
+use Rattle.dates.specs.declared.time.Time.the-variants.{Empty}
+use Rattle.dates.specs.declared.time.TimeFound.{TimeFound}
+use Rattle.dates.specs.declared.time.TimeFound.the-variants.{Is as IsTime, Nothing as NoTime, Overflow as TimeOverflow}
+use Rattle.dates.proofs.time.TimeFound.{the-type as time-type}
+use borrow.Author.Tests.{eqb-false, lt-ltb, le-ltb}
+use Rattle.dates.proofs.Parsed.{Arm, unread, dropped}
+use Rattle.expressions.specs.Tree.{DateExpr, empty}
+use Rattle.expressions.specs.DateExprs.{dateExprOf}
+use Rattle.expressions.specs.Shapes.{shape}
+use Rattle.expressions.specs.ExprAnswers.{ownPlace, exprAnswer}
+use Rattle.expressions.specs.declared.expr.Expr.{Expr}
+use Rattle.expressions.specs.declared.expr.Expr.the-variants.{Empty as NoDate}
+use Rattle.expressions.specs.declared.expr.ExprTaken.{ExprTaken}
+use Rattle.expressions.specs.declared.expr.ExprTaken.the-variants.{Is as IsExpr, Nothing as NoExpr, Overflow as ExprOverflow}
+use Rattle.phrase.specs.Tree.{DateTime, dateTime, timeDate, durationAfter, durationBefore, now, around}
+use Rattle.phrase.specs.DateTimes.{Turn, whole, ago, link, commaOr, timeBehindOf, timedTurnOf, undatedTurnOf, turnOf}
+use Rattle.phrase.specs.DateTimes.{againOf, dateTimeStep, dateTimeOf}
+use Rattle.phrase.specs.Outlines.{linkTaken, outline, countOf, treeIn, outlineAnswer, turnAnswer, kept}
+use Rattle.phrase.specs.declared.chain.Base.the-variants.{Now, DateTime as Dated, TimeDate as Timed}
+use Rattle.phrase.specs.declared.date_time.Count.{Count}
+use Rattle.phrase.specs.declared.date_time.Count.the-variants.{Is, Nothing, Overflow}
+use Rattle.phrase.specs.declared.date_time.Outline.{Outline}
+use Rattle.phrase.specs.declared.date_time.TurnTaken.{TurnTaken}
+use Rattle.phrase.specs.declared.date_time.TurnTaken.the-variants.{Whole, Ago, Link, Nothing as NoTurn, Overflow as TurnOverflow}
+use Rattle.phrase.proofs.date_time.Count.{the-type as count-type}
+use Rattle.dates.proofs.Each.{Each}
+use Rattle.phrase.proofs.Stands.{TurnHolds, Bare, turn-holds, link-taken}
+
+step-agree : (D E : List ℕ → Parsed DateTime) (l : List ℕ) → ((m : List ℕ) → length m < length l → D m ≡ E m) → dateTimeStep D l ≡ dateTimeStep E l
+unfolding dateTimeStep
+step-agree D E l agree = go (turnOf l) (turn-holds l)
+  where
+    go : (w : Parsed Turn) → Each (TurnHolds l) w → andThen w (againOf D l) ≡ andThen w (againOf E l)
+    go (is (whole x) t) h = refl
+    go (is (ago dur) t) h = refl
+    go (is (link back dur) t) h = let b = h .bounds in let left = length-drop t l in rw (agree (drop t l) (omega arith))
+    go nothing h = refl
+    go overflow h = refl
+
+-- `DateTime::parse` calls itself
+pub date-time-is : (l : List ℕ) → dateTimeOf l ≡ dateTimeStep dateTimeOf l
+unfolding dateTimeOf
+date-time-is l = again-is nothing dateTimeStep step-agree l
+
+-- the outline of what is read at l, behind m links of at lexemes
+abbrev pub linked : ℕ → ℕ → List ℕ → Parsed DateTime → Outline
+linked m at l (is x u) = outline (Is (at + u)) m l x
+linked m at l nothing = outline Nothing 0 l now
+linked m at l overflow = outline Overflow 0 l now
+
+-- m links of at lexemes are passed
+pub record Turning (l : List ℕ) (at m : ℕ) : Type 0 where
+  pub outlined : outlineAnswer l (dateTimeOf l) ≡ linked m at (drop at l) (dateTimeOf (drop at l))
+  pub within : at ≤ length l
+  pub few : m ≤ at
+
+-- none yet
+pub unlinked : (l : List ℕ) → Turning l 0 0
+unlinked l = record { outlined = go (dateTimeOf l); within = omega arith; few = omega arith }
+  where
+    go : (w : Parsed DateTime) → outlineAnswer l w ≡ linked 0 0 l w
+    go (is x t) = let e : 0 + t ≡ t = omega arith in rw e
+    go nothing = refl
+    go overflow = refl
+
+-- a base is the same with other links and another count
+whole-outline : (x : DateTime) → Bare x → (l : List ℕ) (k j : Count) (m n : ℕ) →
+    outline k m l x ≡ record { taken = k; base = outline j n l x .base; time = outline j n l x .time; own = outline j n l x .own; m = m }
+whole-outline (dateTime e t) h l k j m n = refl
+whole-outline (timeDate t e) h l k j m n = refl
+whole-outline (durationAfter dur x) h l k j m n = absurd h
+whole-outline (durationBefore dur x) h l k j m n = absurd h
+whole-outline now h l k j m n = refl
+
+pub around-outline : (back : Bool) (dur : Duration) (x : DateTime) (k : Count) (m : ℕ) (l : List ℕ) →
+    outline k m l (around back dur x) ≡ outline k (m + 1) (drop (linkTaken l) l) x
+around-outline true dur x k m l = refl
+around-outline false dur x k m l = refl
+
+-- what the code's answer for a turn says of the outline
+abbrev Said : List ℕ → ℕ → ℕ → TurnTaken → Type 0
+Said l at m (Whole b time own t) =
+    (outlineAnswer l (dateTimeOf l) ≡ record { taken = Is (at + t); base = b; time = time; own = own; m = m }) × (at + t ≤ length l)
+Said l at m (Ago t) =
+    (outlineAnswer l (dateTimeOf l) ≡ record { taken = Is (at + t); base = Now; time = Empty; own = 0; m = m + 1 })
+    × (at + t ≤ length l)
+    × (m < at + t)
+Said l at m (Link t) = Turning l (at + t) (m + 1)
+Said l at m NoTurn = outlineAnswer l (dateTimeOf l) ≡ outline Nothing 0 [] now
+Said l at m TurnOverflow = outlineAnswer l (dateTimeOf l) ≡ outline Overflow 0 [] now
+
+module _ {l : List ℕ} {at m : ℕ} (g : Turning l at m) where
+  abbrev left : List ℕ
+  left = drop at l
+
+  behind : (back : Bool) (dur : Duration) (t : ℕ) → linkTaken left ≡ t → (w : Parsed DateTime) →
+      linked m at left (andThen w (λ x u. is (around back dur x) (t + u))) ≡ linked (m + 1) (at + t) (drop t left) w
+  behind back dur t e (is x u) =
+      let same : at + (t + u) ≡ at + t + u = omega arith in
+      rw (around-outline back dur x (Is (at + (t + u))) m left, e, same)
+  behind back dur t e nothing = refl
+  behind back dur t e overflow = refl
+
+  turn-said : (w : Parsed Turn) → Each (TurnHolds left) w →
+      outlineAnswer l (dateTimeOf l) ≡ linked m at left (andThen w (againOf dateTimeOf left)) → Said l at m (turnAnswer left w)
+  turn-said (is x t) h e = go x (h .bounds) e
+    where
+      go : (x : Turn) → TurnHolds left x t → outlineAnswer l (dateTimeOf l) ≡ linked m at left (againOf dateTimeOf left x t) →
+          Said l at m (turnAnswer left (is x t))
+      go (whole x) h e =
+          let all = length-drop at l in
+          (e ∙ whole-outline x (h .stands .1) left (Is (at + t)) (Is t) m 0, omega arith)
+      go (ago dur) h e = let all = length-drop at l in (e, omega arith, omega arith)
+      go (link back dur) h e =
+          let all = length-drop at l in
+          let more = e ∙ behind back dur t (link-taken (h .stands)) (dateTimeOf (drop t left)) in
+          record { outlined = rw (drop-drop t at l) at more; within = omega arith; few = omega arith }
+  turn-said nothing h e = e
+  turn-said overflow h e = e
+
+  -- what a turn that the code took apart says
+  pub turn-learnt : {n : List ℕ} {r z : TurnTaken} → n ≡ drop at l → r ≡ turnAnswer n (turnOf n) → r ≡ z → Said l at m z
+  unfolding dateTimeStep
+  turn-learnt same answer e =
+      rw (← e, answer, same) (turn-said (turnOf left) (turn-holds left) (g .outlined ∙ ap (linked m at left) (date-time-is left)))
+
+-- an outline has the count of what was read
+outline-count : (x : DateTime) (k : Count) (m : ℕ) (l : List ℕ) → outline k m l x .taken ≡ k
+outline-count (dateTime e t) k m l = refl
+outline-count (timeDate t e) k m l = refl
+outline-count (durationAfter dur x) k m l = outline-count x k (m + 1) (drop (linkTaken l) l)
+outline-count (durationBefore dur x) k m l = outline-count x k (m + 1) (drop (linkTaken l) l)
+outline-count now k m l = refl
+
+pub counted : (l : List ℕ) (w : Parsed DateTime) {o : Outline} → o ≡ outlineAnswer l w → o .taken ≡ countOf w
+counted l w answer = rw answer (outline-count (treeIn w) (countOf w) 0 l)
+
+-- with lexemes left, only the count is kept
+pub kept-left : (l : List ℕ) (w : Parsed DateTime) (n : ℕ) {t : ℕ} → countOf w ≡ Is t → t < n → outline (Is t) 0 [] now ≡ outlineAnswer l (kept n w)
+kept-left l (is x u) n {t} e h = let same : u ≡ t = cc in rw (same, lt-ltb t n h)
+kept-left l nothing n e h = let z : _≡_ {A = ℕ} 0 1 = cc in absurd (omega arith)
+kept-left l overflow n e h = let z : _≡_ {A = ℕ} 0 1 = cc in absurd (omega arith)
+
+-- with none left, and where nothing is read, all is kept
+pub kept-all : (w : Parsed DateTime) (n : ℕ) {t : ℕ} → countOf w ≡ Is t → n ≤ t → kept n w ≡ w
+kept-all (is x u) n {t} e h = let same : u ≡ t = cc in rw (same, le-ltb t n h)
+kept-all nothing n e h = refl
+kept-all overflow n e h = refl
+
+pub kept-none : (w : Parsed DateTime) (n : ℕ) → OneOf (1 ∷ 2 ∷ []) (tagOf count-type (countOf w)) → kept n w ≡ w
+kept-none (is x t) n k = neither 0 1 2 (eqb-false 0 1 refl) (eqb-false 0 2 refl) k
+kept-none nothing n k = refl
+kept-none overflow n k = refl
+
+-- the arm of a time's answer
+time-arm : {ks : List ℕ} (w : TimeFound) → OneOf ks (tagOf time-type w) → Arm ks (parsedTime w)
+time-arm (IsTime time t) k = record { tags = k }
+time-arm NoTime k = record { tags = k }
+time-arm TimeOverflow k = record { tags = k }
+
+-- where no overflow stopped a time, nothing is left to say
+pub time-dropped : (w : TimeFound) → OneOf (0 ∷ 1 ∷ []) (tagOf time-type w) → NoTurn ≡ turnAnswer [] (stopped (parsedTime w))
+time-dropped w k = rw (dropped (time-arm w k))
+
+-- where no time is found, what would follow is not read
+pub time-unread : (l : List ℕ) (w : TimeFound) (f : Time → ℕ → Parsed Turn) → OneOf (1 ∷ 2 ∷ []) (tagOf time-type w) →
+    turnAnswer [] (stopped (parsedTime w)) ≡ turnAnswer l (andThen (parsedTime w) f)
+time-unread l w f k = go (parsedTime w) ∙ ap (turnAnswer l) (unread (parsedTime w) f (time-arm w k) refl)
+  where
+    go : (p : Parsed Time) → turnAnswer [] (stopped p) ≡ turnAnswer l (stopped p)
+    go (is time t) = refl
+    go nothing = refl
+    go overflow = refl
+
+-- a time and s lexemes with it, and the date expression behind them
+abbrev timedAnswer : Time → ℕ → ExprTaken → TurnTaken
+timedAnswer time s (IsExpr x u p) = Whole (Timed x) time (s + p) (s + u)
+timedAnswer time s NoExpr = Whole (Timed NoDate) time s s
+timedAnswer time s ExprOverflow = TurnOverflow
+
+timed-is : (l m : List ℕ) {time : Time} {t : ℕ} → timeOf l ≡ is time t → m ≡ drop (commaOr l t lexeme.On) l →
+    turnAnswer l (timedTurnOf l) ≡ timedAnswer time (commaOr l t lexeme.On) (exprAnswer m (dateExprOf m))
+unfolding timedTurnOf
+timed-is l m {time} {t} e same = rw (same, e) (go (dateExprOf (drop (commaOr l t lexeme.On) l)))
+  where
+    go : (w : Parsed DateExpr) →
+        turnAnswer l (ifLet w (λ x u. is (whole (timeDate time x)) (commaOr l t lexeme.On + u)) (is (whole (timeDate time empty)) (commaOr l t lexeme.On)))
+        ≡ timedAnswer time (commaOr l t lexeme.On) (exprAnswer (drop (commaOr l t lexeme.On) l) w)
+    go (is x u) = rw e
+    go nothing = let z : commaOr l t lexeme.On + 0 ≡ commaOr l t lexeme.On = omega arith in rw (e, z)
+    go overflow = refl
+
+-- the same by what the code learns on its way
+pub timed-turn : (l : List ℕ) {w : TimeFound} {time : Time} {t c : ℕ} {m : List ℕ} {r z : ExprTaken} →
+    parsedTime w ≡ timeOf l → w ≡ IsTime time t → c ≡ oneIf (isAt l t lexeme.Comma || isAt l t lexeme.On) → m ≡ drop (t + c) l →
+    r ≡ exprAnswer m (dateExprOf m) → r ≡ z → timedAnswer time (t + c) z ≡ turnAnswer l (timedTurnOf l)
+timed-turn l {m = m} answer e comma here expr f =
+    let time = rw (e) at (sym answer) in
+    rw (← f, expr, comma) (sym (timed-is l m time (rw comma at here)))
+
+-- a date expression at the place p, and the time behind it
+abbrev timeAnswer : Expr → ℕ → Parsed Time → TurnTaken
+timeAnswer x p (is time n) = Whole (Dated x) time p n
+timeAnswer x p nothing = NoTurn
+timeAnswer x p overflow = TurnOverflow
+
+pub time-stopped : (x : Expr) (p : ℕ) (w : TimeFound) {v : Parsed Time} → OneOf (1 ∷ 2 ∷ []) (tagOf time-type w) → parsedTime w ≡ v →
+    turnAnswer [] (stopped (parsedTime w)) ≡ timeAnswer x p v
+time-stopped x p w k e = rw (← e) (go w k)
+  where
+    go : (w : TimeFound) → OneOf (1 ∷ 2 ∷ []) (tagOf time-type w) → turnAnswer [] (stopped (parsedTime w)) ≡ timeAnswer x p (parsedTime w)
+    go (IsTime time t) k = neither 0 1 2 (eqb-false 0 1 refl) (eqb-false 0 2 refl) k
+    go NoTime k = refl
+    go TimeOverflow k = refl
+
+abbrev datedAnswer : List ℕ → ExprTaken → TurnTaken
+datedAnswer l (IsExpr x t p) = timeAnswer x p (timeBehindOf t l)
+datedAnswer l NoExpr = turnAnswer l (undatedTurnOf l)
+datedAnswer l ExprOverflow = TurnOverflow
+
+pub dated-turn : (l : List ℕ) {b : Bool} {r z : ExprTaken} → b ≡ isAt l 0 lexeme.Now → b ≡ false → r ≡ exprAnswer l (dateExprOf l) →
+    r ≡ z → datedAnswer l z ≡ turnAnswer l (turnOf l)
+unfolding turnOf
+dated-turn l test e expr f = rw (← f, expr, ← test, e) (sym (go (dateExprOf l)))
+  where
+    dated : (x : DateExpr) (w : Parsed Time) → turnAnswer l (andThen w (λ time n. is (whole (dateTime x time)) n)) ≡ timeAnswer (shape x) (ownPlace l x) w
+    dated x (is time n) = refl
+    dated x nothing = refl
+    dated x overflow = refl
+
+    go : (w : Parsed DateExpr) →
+        turnAnswer l (ifLet w (λ x t. andThen (timeBehindOf t l) (λ time n. is (whole (dateTime x time)) n)) (undatedTurnOf l))
+        ≡ datedAnswer l (exprAnswer l w)
+    go (is x t) = dated x (timeBehindOf t l)
+    go nothing = refl
+    go overflow = refl

@@ -1,0 +1,23 @@
+-- What a first line says of now. Assumes nothing.
+use Prim.Native.Nat.{ℕ}
+use Prim.Native.Char.{code}
+use mathlib.Core.Path.{_≡_}
+use mathlib.Core.Bool.{false}
+use mathlib.Core.List.{List, []}
+use Rattle.digits.specs.Forms.{ofForm}
+use Rattle.calendar.specs.Moments.{IsMoment, isDate, isMoment}
+use Rattle.calendar.specs.declared.moments.Moment.{Moment}
+use Rattle.calendar.proofs.ReadBack.{moment-fits, moment-back}
+use Rattle.text.specs.Answers.{given}
+use Rattle.text.specs.Nows.{nowForm, nowOf}
+use Rattle.text.specs.Texts.{textOf}
+
+-- "A first line in another form is an invalid now", so that refusal 8 follows
+pub other-form : (s : List ℕ) → ofForm nowForm s ≡ false → isMoment (nowOf s) ≡ false
+unfolding nowOf isMoment isDate
+other-form s h = rw h
+
+-- the text of a moment is a now's line, and says that moment
+pub moment-says : (t : Moment) → IsMoment t → nowOf (textOf (given t)) ≡ t
+unfolding nowOf textOf
+moment-says t m = rw (moment-fits (code " ") t) (moment-back (code " ") t [] m)
