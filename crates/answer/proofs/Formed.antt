@@ -7,7 +7,7 @@ use mathlib.Core.Bool.{Bool, true, false}
 use mathlib.Core.List.{List}
 use lib.ListN.{length, getD, set, length-set}
 use lib.Seq.{getD-set-same, getD-set-other}
-use Rattle.calendar.proofs.Below.{le-or-lt}
+use Rattle.digits.proofs.Order.{le-or-lt}
 use Rattle.dates.specs.Durations.{Duration, into, size}
 use Rattle.dates.proofs.Durations.{into-n}
 use Rattle.dates.specs.declared.duration.Parts.{Parts}

@@ -6,8 +6,8 @@ use Prim.Native.Nat.{ℕ, _+_, _-_, _≤_, _<_}
 use native.Mathlib.Omega.{arith}
 use native.Mathlib.Nat.{add-assoc, sub-add-eq}
 use borrow.Author.Tests.{leb-true, leb-false, ltb-true, ltb-false, le-leb, lt-leb, le-ltb}
+use Rattle.digits.proofs.Order.{le-or-lt}
 use Rattle.calendar.specs.Moments.{moved, hasRoom, movedWithin}
-use Rattle.calendar.proofs.Below.{le-or-lt}
 
 -- k is more than the places behind n, or reaches past those in front of it
 abbrev pub Past : Bool → ℕ → ℕ → ℕ → Type 0
