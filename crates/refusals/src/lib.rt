@@ -1,4 +1,18 @@
-// The paper's refusal numbers, in the order in which they are tested, under the names of include/fuzzy.h.
+// The paper's refusal numbers, in the order in which they are tested, under the names of include/fuzzy.h; and a refusal's place.
+
+// A refusal: its number, its place in the phrase and the end of its part. Number 0: nothing is refused.
+pub struct Refusal {
+    pub number: u8,
+    pub place: usize,
+    pub end: usize,
+}
+
+// Nothing is refused.
+pub const NONE: Refusal = Refusal {
+    number: 0,
+    place: 0,
+    end: 0,
+};
 
 // The phrase is longer than 256 bytes.
 pub const TOO_LONG: u8 = 1;
