@@ -7,6 +7,7 @@ use mathlib.Core.Bool.{Bool, true, false}
 use mathlib.Core.List.{List, _++_}
 use lib.Dec.{eqb}
 use borrow.Author.Tests.{eq-eqb, eqb-true}
+use Rattle.digits.specs.Bytes.{capitalOf}
 use Rattle.digits.specs.Forms.{inPlace, ofForm}
 use Rattle.digits.proofs.Says.{digit-is, two, four}
 use Rattle.calendar.specs.Gregorian.{leapYear}
@@ -21,7 +22,7 @@ own-place m = go (eqb m (code "0")) refl
   where
     go : (b : Bool) → eqb m (code "0") ≡ b → inPlace m m ≡ true
     go true e = rw (eqb-true m (code "0") e)
-    go false e = rw (e, eq-eqb m m refl)
+    go false e = rw (e, eq-eqb (capitalOf m) (capitalOf m) refl)
 
 -- what is written fits the form
 pub moment-fits : (m : ℕ) (t : Moment) → ofForm (momentForm m) (momentText m t) ≡ true
