@@ -1,60 +1,81 @@
 -- A stamp: a civil moment as written, with its offset; how a text is read as one, and one is written. Assumes nothing.
 use Prim.Native.Nat.{ℕ, _+_, _*_, _/_, _%_}
 use Prim.Native.Char.{code}
-use mathlib.Core.Bool.{Bool, true, false, _&&_, cond}
-use mathlib.Core.List.{List, [], _∷_, _++_}
+use mathlib.Core.Bool.{Bool, true, _&&_, cond}
+use mathlib.Core.List.{List, [], _∷_, _++_, map}
 use lib.Dec.{eqb, leb, ltb}
-use lib.ListN.{length, getD}
+use lib.ListN.{length, getD, take, drop}
+use lib.Seq.{sets}
 use Rattle.refusals.specs.Table.{NoNow, Outside, NoStamp, NoRoom}
-use Rattle.refusals.specs.Answers.{Answer, given, refuse}
-use Rattle.digits.specs.Digits.{digitsOf, twoAt}
+use Rattle.refusals.specs.Answers.{Answer, given, refused, refuse}
+use Rattle.digits.specs.Bytes.{bytesOf, capitalOf}
+use Rattle.digits.specs.Digits.{marked, twoAt}
 use Rattle.calendar.specs.Moments.{isDayOfMonth, isTime, isMoment}
 use Rattle.calendar.specs.Fixed.{momentText, momentIn}
 use Rattle.calendar.specs.declared.moments.Moment.{Moment}
 use Rattle.stamp.specs.Grammar.{date-time, isOf}
 use Rattle.stamp.specs.declared.Offset.{Offset}
 use Rattle.stamp.specs.declared.Stamp.{Stamp}
+use Rattle.stamp.specs.declared.read.StampRead.{StampRead}
+use Rattle.stamp.specs.declared.read.StampRead.the-variants.{Is, Refused}
+use Rattle.stamp.specs.declared.write.Wrote.{Wrote}
 
 -- "Z" and "+00:00": the offset is zero
 abbrev pub zulu : Offset
 zulu = record { west = 0; minutes = 0 }
 
--- an hour and a minute as minutes
-abbrev pub minutesOf : ℕ → ℕ → ℕ
-minutesOf h m = 60 * h + m
+-- a text of the grammar has 20 bytes with "Z", and 25 with a `time-numoffset`
+abbrev pub hasNumoffset : List ℕ → Bool
+hasNumoffset s = leb 25 (length s)
 
--- "time-offset", from place 19 on: "Z", or a sign, hours and minutes. "-00:00" is (1, 0), apart from "Z" (section 4.3)
+-- "-" is west
+abbrev pub westOf : ℕ → ℕ
+westOf b = cond (eqb b (code "-")) 1 0
+
+-- `time-offset`, from place 19 on: "Z", or a sign, hours and minutes. "-00:00" is (1, 0), apart from "Z" (section 4.3)
 abbrev pub offsetIn : List ℕ → Offset
-offsetIn s =
-    cond (ltb 20 (length s))
-    (record { west = cond (eqb (getD s 19 0) (code "-")) 1 0; minutes = minutesOf (twoAt s 20) (twoAt s 23) })
-    zulu
+offsetIn s = cond (hasNumoffset s) (record { west = westOf (getD s 19 0); minutes = 60 * twoAt s 20 + twoAt s 23 }) zulu
 
--- "time-hour ; 00-23", "time-minute ; 00-59", of the offset; "Z" has none
+-- the stamp whose numbers stand in their places
+abbrev pub stampIn : List ℕ → Stamp
+stampIn s = record { moment = momentIn s; offset = offsetIn s }
+
+-- "time-hour ; 00-23", "time-minute ; 00-59" of the offset; "Z" has none
 abbrev pub offsetExists : List ℕ → Bool
-offsetExists s = cond (ltb 20 (length s)) (isTime (twoAt s 20) (twoAt s 23) 0) true
+offsetExists s = cond (hasNumoffset s) (isTime (twoAt s 20) (twoAt s 23) 0) true
 
 -- section 5.7: the month has the day, by the leap rule, and the time of day exists; "A second of 60 isn't taken"
-abbrev pub exists : Moment → Bool
-exists t = isDayOfMonth (t .year) (t .month) (t .day) && isTime (t .hour) (t .minute) (t .second)
+abbrev pub momentExists : Moment → Bool
+momentExists t = isDayOfMonth (t .year) (t .month) (t .day) && isTime (t .hour) (t .minute) (t .second)
 
 -- "then 12 for year 0000"
 abbrev pub inYears : Stamp → Answer Stamp
 inYears st = cond (eqb (st .moment .year) 0) (refuse Outside 0 0) (given st)
 
--- "14 for any other form or an impossible date, time or offset"
-unfoldable pub stampOf : List ℕ → Answer Stamp
-stampOf s =
-    cond (isOf date-time s && (exists (momentIn s) && offsetExists s))
-    (inYears (record { moment = momentIn s; offset = offsetIn s }))
-    (refuse NoStamp 0 0)
+-- what a text of the grammar says: 14 for "an impossible date, time or offset"
+abbrev pub judged : List ℕ → Answer Stamp
+judged s = cond (momentExists (momentIn s) && offsetExists s) (inYears (stampIn s)) (refuse NoStamp 0 0)
 
--- "Z" for offset zero, else a sign, two digits, a colon and two digits
+-- "14 for any other form"
+unfoldable pub stampOf : List ℕ → Answer Stamp
+stampOf s = cond (isOf date-time s) (judged s) (refuse NoStamp 0 0)
+
+-- the code's answer
+abbrev pub stampAnswer : StampRead → Answer Stamp
+stampAnswer (Is st) = given st
+stampAnswer (Refused k) = refuse k 0 0
+
+-- offset zero, and not the unknown one
+abbrev pub isZulu : Offset → Bool
+isZulu o = eqb (o .west) 0 && eqb (o .minutes) 0
+
+-- "+" for east, "-" for west
+abbrev pub signOf : ℕ → ℕ
+signOf w = cond (eqb w 0) (code "+") (code "-")
+
+-- `"Z" for offset zero`, else a sign, two digits, a colon and two digits
 abbrev pub offsetText : Offset → List ℕ
-offsetText o =
-    cond (eqb (o .west) 0 && eqb (o .minutes) 0)
-    (code "Z" ∷ [])
-    (cond (eqb (o .west) 0) (code "+") (code "-") ∷ digitsOf 2 (o .minutes / 60) ++ code ":" ∷ digitsOf 2 (o .minutes % 60))
+offsetText o = cond (isZulu o) (bytesOf "Z") (marked (signOf (o .west)) (o .minutes / 60) ++ marked (code ":") (o .minutes % 60))
 
 -- "The writer uses capitals"
 abbrev pub stampText : Stamp → List ℕ
@@ -72,3 +93,13 @@ writtenOf st room =
     (cond (leb (length (stampText st)) room) (given (stampText st)) (refuse NoRoom 0 0))
     (refuse NoStamp 0 0))
     (refuse NoNow 0 0)
+
+-- the code's answer: number 0 and the text's length, or a refusal's number and no byte
+abbrev pub wroteOf : Answer (List ℕ) → Wrote
+wroteOf (given text) = record { number = 0; count = length text }
+wroteOf (refused r) = record { number = r .number; count = 0 }
+
+-- the lent buffer: the text at its front and all else as before, or, refused, "nothing written"
+abbrev pub bufferOf : List ℕ → Answer (List ℕ) → List ℕ
+bufferOf before (given text) = sets before 0 text
+bufferOf before (refused r) = before
