@@ -1,14 +1,14 @@
 -- A stamp: a civil moment as written, with its offset; how a text is read as one, and one is written. Assumes nothing.
-use Prim.Native.Nat.{ℕ, _+_, _*_, _/_, _%_}
+use Prim.Native.Nat.{ℕ, _+_, _*_, _/_, _%_, _≤_, _<_}
 use Prim.Native.Char.{code}
 use mathlib.Core.Bool.{Bool, true, _&&_, cond}
-use mathlib.Core.List.{List, [], _∷_, _++_, map}
+use mathlib.Core.List.{List, _++_, map}
 use lib.Dec.{eqb, leb, ltb}
 use lib.ListN.{length, getD, take, drop}
 use lib.Seq.{sets}
 use Rattle.refusals.specs.Table.{NoNow, Outside, NoStamp, NoRoom}
 use Rattle.refusals.specs.Answers.{Answer, given, refused, refuse}
-use Rattle.digits.specs.Bytes.{bytesOf, capitalOf}
+use Rattle.digits.specs.Bytes.{bytesOf, capitalOf, same}
 use Rattle.digits.specs.Digits.{marked, twoAt}
 use Rattle.calendar.specs.Moments.{isDayOfMonth, isTime, isMoment}
 use Rattle.calendar.specs.Fixed.{momentText, momentIn}
@@ -82,6 +82,11 @@ abbrev pub stampText : Stamp → List ℕ
 stampText st = momentText (code "T") (st .moment) ++ offsetText (st .offset)
 
 -- "a numeric offset up to 23:59", east or west
+pub record IsOffset (o : Offset) : Type 0 where
+  pub west : o .west ≤ 1
+  pub minutes : o .minutes < 1440
+
+-- `IsOffset` as a test
 abbrev pub isOffset : Offset → Bool
 isOffset o = leb (o .west) 1 && ltb (o .minutes) 1440
 
@@ -93,6 +98,14 @@ writtenOf st room =
     (cond (leb (length (stampText st)) room) (given (stampText st)) (refuse NoRoom 0 0))
     (refuse NoStamp 0 0))
     (refuse NoNow 0 0)
+
+-- an offset's text as the writer has it: "Z" for "+00:00", and capitals
+abbrev pub plainOffset : List ℕ → List ℕ
+plainOffset u = cond (same u (bytesOf "+00:00")) (bytesOf "Z") (map capitalOf u)
+
+-- a stamp's text as the writer has it
+abbrev pub plain : List ℕ → List ℕ
+plain s = map capitalOf (take 19 s) ++ plainOffset (drop 19 s)
 
 -- the code's answer: number 0 and the text's length, or a refusal's number and no byte
 abbrev pub wroteOf : Answer (List ℕ) → Wrote
