@@ -18,6 +18,11 @@ use Rattle.dates.specs.declared.units.UnitFound.{UnitFound}
 use Rattle.dates.specs.declared.units.UnitFound.the-variants.{Is as IsUnit, Nothing as NoUnit}
 use Rattle.dates.specs.declared.units.SpecifierFound.{SpecifierFound}
 use Rattle.dates.specs.declared.units.SpecifierFound.the-variants.{Is as IsSpecifier, Nothing as NoSpecifier}
+use Rattle.refusals.specs.Answers.{Answer as StampAnswer, given, refused as refusedWith}
+use Rattle.stamp.specs.Stamps.{stampAnswer}
+use Rattle.stamp.specs.declared.Stamp.{Stamp}
+use Rattle.stamp.specs.declared.read.StampRead.{StampRead}
+use Rattle.stamp.specs.declared.read.StampRead.the-variants.{Is as IsStamp, Refused as StampRefused}
 use Rattle.answer.specs.Answer.{Answer, at, refusedAt, answerFrom}
 use Rattle.answer.specs.declared.Answered.{Answered}
 use Rattle.answer.specs.declared.Answered.the-variants.{At as AnsweredAt, Refused as AnsweredRefused}
@@ -113,3 +118,14 @@ answered-back (AnsweredRefused k a e) = refl
 
 pub answered-one : (x y : Answered) → answerFrom x ≡ answerFrom y → x ≡ y
 answered-one = given-back answerFrom answered answered-back
+
+abbrev stampRead : StampAnswer Stamp → StampRead
+stampRead (given st) = IsStamp st
+stampRead (refusedWith r) = StampRefused (r .number)
+
+stamp-back : (x : StampRead) → stampRead (stampAnswer x) ≡ x
+stamp-back (IsStamp st) = refl
+stamp-back (StampRefused k) = refl
+
+pub stamp-one : (x y : StampRead) → stampAnswer x ≡ stampAnswer y → x ≡ y
+stamp-one = given-back stampAnswer stampRead stamp-back

@@ -61,21 +61,22 @@ abbrev minutesIn : List ℕ → ℕ
 minutesIn u = 60 * twoAt u 1 + twoAt u 4
 
 -- they are the digits of the minutes that they say
-module _ (sign : ℕ) (u : List ℕ) (n : Numbers sign u) where
-  numbers-plain : sign < 97 → twoAt u 4 < 60 → marked sign (minutesIn u / 60) ++ marked (code ":") (minutesIn u % 60) ≡ map capitalOf u
-  numbers-plain l few =
-      let hour : minutesIn u / 60 ≡ twoAt u 1 = omega arith in
-      let minute : minutesIn u % 60 ≡ twoAt u 4 = omega arith in
-      rw (hour, minute, n .hours .tens, n .hours .ones, n .minutes .tens, n .minutes .ones, listed u 6 (n .size))
-      (rw (
-        n .signed,
-        n .colon,
-        capital-before sign l,
-        capital-before (getD u 1 0) (omega (arith, n .hours)),
-        capital-before (getD u 2 0) (omega (arith, n .hours)),
-        capital-before (getD u 4 0) (omega (arith, n .minutes)),
-        capital-before (getD u 5 0) (omega (arith, n .minutes)),
-      ))
+numbers-plain :
+    {sign : ℕ} {u : List ℕ} → Numbers sign u → sign < 97 → twoAt u 4 < 60 →
+    marked sign (minutesIn u / 60) ++ marked (code ":") (minutesIn u % 60) ≡ map capitalOf u
+numbers-plain {sign} {u} n l few =
+    let hour : minutesIn u / 60 ≡ twoAt u 1 = omega arith in
+    let minute : minutesIn u % 60 ≡ twoAt u 4 = omega arith in
+    rw (hour, minute, n .hours .tens, n .hours .ones, n .minutes .tens, n .minutes .ones, listed u 6 (n .size))
+    (rw (
+      n .signed,
+      n .colon,
+      capital-before sign l,
+      capital-before (getD u 1 0) (omega (arith, n .hours)),
+      capital-before (getD u 2 0) (omega (arith, n .hours)),
+      capital-before (getD u 4 0) (omega (arith, n .minutes)),
+      capital-before (getD u 5 0) (omega (arith, n .minutes)),
+    ))
 
 -- no minutes are spelled by zeros
 no-minutes : (u : List ℕ) → Numbers (code "+") u → minutesIn u ≡ 0 → same u (bytesOf "+00:00") ≡ true
@@ -106,7 +107,7 @@ module _ (t : List ℕ) (size : length t ≡ 19) where
   west-plain u n exists =
       let other : same u (bytesOf "+00:00") ≡ false = rw (listed u 6 (n .size)) (rw (n .signed)) in
       ap offsetText (offset-at u (n .size))
-      ∙ rw (n .signed, other) (numbers-plain (code "-") u n (omega arith) (few u (n .size) exists))
+      ∙ rw (n .signed, other) (numbers-plain n (omega arith) (few u (n .size) exists))
 
   east-plain :
       (u : List ℕ) → Numbers (code "+") u → offsetExists (t ++ u) ≡ true → (b : Bool) → same u (bytesOf "+00:00") ≡ b →
@@ -115,7 +116,7 @@ module _ (t : List ℕ) (size : length t ≡ 19) where
   east-plain u n exists false e =
       let some : eqb (minutesIn u) 0 ≡ false = ne-eqb _ _ (λ none. eqb-false 0 0 (cc (no-minutes u n none)) refl) in
       ap offsetText (offset-at u (n .size))
-      ∙ rw (n .signed, some, e) (numbers-plain (code "+") u n (omega arith) (few u (n .size) exists))
+      ∙ rw (n .signed, some, e) (numbers-plain n (omega arith) (few u (n .size) exists))
 
   offset-plain : (u : List ℕ) → OffsetForm u → offsetExists (t ++ u) ≡ true → offsetText (offsetIn (t ++ u)) ≡ plainOffset u
   offset-plain u (zulu-form h) exists = zulu-plain u h
