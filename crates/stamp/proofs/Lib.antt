@@ -1,0 +1,5 @@
+pub mod Grammar
+pub mod Offsets
+pub mod WrittenReads
+pub mod Readings
+pub mod ReadWrites
