@@ -43,7 +43,7 @@ enum fuzzy_refusal {
     FUZZY_NOTHING = 5,         /* nothing that can be read */
     FUZZY_LARGE_SUM = 6,       /* a number in words passes 4,294,967,295 */
     FUZZY_LEFT_OVER = 7,       /* something is left behind what was read */
-    FUZZY_NO_NOW = 8,          /* the now is no date and time of the years 1 to 9999 */
+    FUZZY_NO_NOW = 8,          /* the now, or the moment to be written, is no date and time of the years 1 to 9999 */
     FUZZY_NO_SENSE = 9,        /* the phrase, or the ready phrase, has no sense */
     FUZZY_NO_DATE = 10,        /* no such month or day */
     FUZZY_NO_TIME = 11,        /* no such time of day */
@@ -95,7 +95,7 @@ static inline const char *fuzzy_word(unsigned number) {
     case FUZZY_NOTHING: return "no date or time in it";
     case FUZZY_LARGE_SUM: return "number in words too large";
     case FUZZY_LEFT_OVER: return "not part of the date or time";
-    case FUZZY_NO_NOW: return "the now is no date and time";
+    case FUZZY_NO_NOW: return "the moment given is no date and time";
     case FUZZY_NO_SENSE: return "has no sense";
     case FUZZY_NO_DATE: return "no such month or day";
     case FUZZY_NO_TIME: return "no such time of day";

@@ -123,7 +123,7 @@ pub enum Reason {
     LargeSum = 6,
     /// Something is left behind what was read.
     LeftOver = 7,
-    /// The now is no date and time of the years 1 to 9999.
+    /// The now, or the moment to be written, is no date and time of the years 1 to 9999.
     NoNow = 8,
     /// The phrase, or the ready phrase, has no sense.
     NoSense = 9,
@@ -181,7 +181,7 @@ impl Reason {
             Reason::Nothing => "there is no date or time in the phrase",
             Reason::LargeSum => "a number in the phrase is too large",
             Reason::LeftOver => "is not part of the date or time before it",
-            Reason::NoNow => "the now is no date and time of the years 1 to 9999",
+            Reason::NoNow => "the moment given is no date and time of the years 1 to 9999",
             Reason::NoSense => "the phrase has no sense",
             Reason::NoDate => "there is no such month or day",
             Reason::NoTime => "there is no such time of day",

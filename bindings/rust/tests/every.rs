@@ -120,5 +120,5 @@ fn refuses_what_is_no_stamp() {
     }
     assert_eq!(Stamp { moment: NO_NOW, offset: Offset::East(1440) }.text().unwrap_err().reason(), Reason::NoNow);
     assert_eq!(Stamp { moment: NOW, offset: Offset::West(1440) }.text().unwrap_err().reason(), Reason::NoStamp);
-    assert_eq!(Stamp { moment: NO_NOW, offset: Offset::East(0) }.to_string(), "the now is no date and time of the years 1 to 9999");
+    assert_eq!(Stamp { moment: NO_NOW, offset: Offset::East(0) }.to_string(), "the moment given is no date and time of the years 1 to 9999");
 }
