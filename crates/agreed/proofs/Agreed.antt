@@ -17,7 +17,7 @@ use Rattle.answer.proofs.PhraseAtNow.{settled}
 use Rattle.steps.specs.Running.{runOf}
 use Rattle.steps.specs.declared.plan.Step.{Step}
 use Rattle.ready.specs.Ready.{ReadyPhrase, readyOf}
-use Rattle.ready.proofs.MadeReady.{ready-answers, made-ready}
+use Rattle.ready.proofs.ReadyPhrases.{ready-answers, made-ready}
 use Rattle.ready.proofs.Settles.{run-settled}
 use Rattle.records.specs.Records.{encodeOf, decodeOf}
 use Rattle.records.proofs.Lists.{length-encoded}

@@ -25,7 +25,7 @@ use Rattle.dates.specs.declared.duration.Taken.the-variants.{Is, Nothing
 use Rattle.dates.specs.declared.duration.Rowed.{Rowed}
 use Rattle.dates.specs.Durations.{Duration, part, concat, isSubDaily, isSubDailyPart, takenAnswer, TakenCounted}
 use Rattle.dates.specs.Durations.{specificOf, articleOf, concreteOf, parsedPart}
-use Rattle.dates.specs.Durations.{durationStep, durationOf, pushed, into, size, rowed}
+use Rattle.dates.specs.Durations.{durationTurn, durationOf, pushed, into, size, rowed}
 use Rattle.dates.proofs.duration.PartFound.{the-type as part-type}
 use Rattle.dates.proofs.Each.{Each, pick-each, then-each, if-let-each}
 use Rattle.dates.proofs.Parsed.{Arm, found, nothing-took, pick-took, or-took, then-took}
@@ -65,24 +65,24 @@ unfolding concreteOf
 concrete-took l = or-took _ _ (specific-took l) (article-took l)
 
 step-agree : (D E : List ℕ → Parsed Duration) (l : List ℕ) → ((m : List ℕ) → length m < length l → D m ≡ E m)
-    → durationStep D l ≡ durationStep E l
-unfolding durationStep
+    → durationTurn D l ≡ durationTurn E l
+unfolding durationTurn
 step-agree D E l agree =
     then-same (concreteOf l) _ _ (concrete-took l) (λ p t a b.
     rw (agree (drop (t + 1) l) (let left = length-drop (t + 1) l in omega arith)))
 
 -- `Duration::parse` calls itself
-pub duration-is : (l : List ℕ) → durationOf l ≡ durationStep durationOf l
+pub duration-is : (l : List ℕ) → durationOf l ≡ durationTurn durationOf l
 unfolding durationOf
-duration-is l = again-is nothing durationStep step-agree l
+duration-is l = again-is nothing durationTurn step-agree l
 
 -- at least two and at most n lexemes, and three for each part but for the last one's connection
 abbrev Sizes : ℕ → Duration → ℕ → Type 0
 Sizes n d t = (2 ≤ t) × (t ≤ n) × (3 * size d ≤ t + 1)
 
 step-sized : (D : List ℕ → Parsed Duration) → ((m : List ℕ) → Each (Sizes (length m)) (D m)) → (l : List ℕ)
-    → Each (Sizes (length l)) (durationStep D l)
-unfolding durationStep
+    → Each (Sizes (length l)) (durationTurn D l)
+unfolding durationTurn
 step-sized D sized l =
     then-each (concreteOf l) _ (λ p t e. let b = found e (concrete-took l) in
     pick-each (isAt l t lexeme.And)
@@ -94,7 +94,7 @@ step-sized D sized l =
 
 duration-sized : (l : List ℕ) → Each (Sizes (length l)) (durationOf l)
 unfolding durationOf
-duration-sized l = again-keeps nothing durationStep (λ m w. Each (Sizes (length m)) w) (λ m. record { bounds = tt }) step-sized l
+duration-sized l = again-keeps nothing durationTurn (λ m w. Each (Sizes (length m)) w) (λ m. record { bounds = tt }) step-sized l
 
 -- the bounds of a duration
 pub duration-bounds : (l : List ℕ) {d : Duration} {t : ℕ} → durationOf l ≡ is d t → (2 ≤ t) × (t ≤ length l) × (3 * size d ≤ t + 1)
@@ -180,7 +180,7 @@ module _ {A R : Type 0} (k : Passing A R) where
 
   part-passed : (l : List ℕ) (at : ℕ) (a : A) (none : R) {p : Part} {t : ℕ} → concreteOf (drop at l) ≡ is p t →
       onward (durationOf (drop at l)) at a none ≡ joined l (at + t) (k .add a p)
-  unfolding durationStep
+  unfolding durationTurn
   part-passed l at a none {p} {t} e =
       let same : at + (t + 1) ≡ at + t + 1 = omega arith in
       rw (duration-is (drop at l), e, at-drop l at t lexeme.And, drop-drop (t + 1) at l, same)
@@ -211,7 +211,7 @@ module _ {A R : Type 0} (k : Passing A R) where
 
   pub part-learnt : {r none : R} {l m : List ℕ} {at : ℕ} {a : A} {w z : PartFound} → Looking r l at a none →
       m ≡ drop at l → parsedPart w ≡ concreteOf m → w ≡ z → Said r l at a none z
-  unfolding durationStep
+  unfolding durationTurn
   part-learnt {r} {none} {l} {m} {at} {a} {w} {z} g here answer e = go z (rw (← here, ← answer, e))
     where
       go : (z : PartFound) → concreteOf (drop at l) ≡ parsedPart z → Said r l at a none z

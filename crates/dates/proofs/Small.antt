@@ -20,7 +20,7 @@ use Rattle.dates.specs.Units.{isArticle, unitOf, monthOf, weekdayOf}
 use Rattle.dates.specs.Dates.{namedDayOf, dayMonthYearOf, monthDayOf, isDelim, pickDate, threeNumbersOf, twoNumbersOf, behindSecondOf}
 use Rattle.dates.specs.Dates.{delimitedOf, dateOf}
 use Rattle.dates.specs.Times.{minuteOf, halfOf, clockOf, timeOf}
-use Rattle.dates.specs.Durations.{Duration, part, concat, specificOf, articleOf, concreteOf, durationStep, durationOf}
+use Rattle.dates.specs.Durations.{Duration, part, concat, specificOf, articleOf, concreteOf, durationTurn, durationOf}
 use Rattle.dates.proofs.Each.{Gives, nothing-gives, is-gives, pick-each, pick-gives, or-gives, then-each, then-gives, if-let-gives}
 use Rattle.dates.specs.declared.date.Date.{Date}
 use Rattle.dates.specs.declared.date.Date.the-variants.{YearMonthNumDay, MonthNumDayYear, DayMonthYear, MonthDayYear}
@@ -164,8 +164,8 @@ part-small l =
     (pick-gives (isArticle l) (then-each (unitOf (drop 1 l)) _ (λ u k e. is-gives tt)) nothing-gives)
 
 step-small : (D : List ℕ → Parsed Duration) → ((m : List ℕ) → Gives SmallDuration (D m)) → (l : List ℕ)
-    → Gives SmallDuration (durationStep D l)
-unfolding durationStep
+    → Gives SmallDuration (durationTurn D l)
+unfolding durationTurn
 step-small D small l =
     then-gives _ (part-small l) (λ d t a.
     pick-gives (isAt l t lexeme.And)
@@ -175,4 +175,4 @@ step-small D small l =
 -- a duration
 pub duration-small : (l : List ℕ) → Gives SmallDuration (durationOf l)
 unfolding durationOf
-duration-small l = again-keeps nothing durationStep (λ m w. Gives SmallDuration w) (λ m. nothing-gives) step-small l
+duration-small l = again-keeps nothing durationTurn (λ m w. Gives SmallDuration w) (λ m. nothing-gives) step-small l

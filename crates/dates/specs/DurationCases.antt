@@ -10,7 +10,7 @@ use Rattle.dates.specs.Parsed.{is, nothing, overflow}
 use Rattle.dates.specs.Units.{isArticle, unitOf}
 use Rattle.dates.specs.declared.units.Unit.the-variants.{Day, Week, Hour, Minute, Month, Year}
 use Rattle.dates.specs.declared.duration.Part.the-variants.{Article, Specific}
-use Rattle.dates.specs.Durations.{Duration, part, concat, specificOf, articleOf, concreteOf, durationStep, durationOf}
+use Rattle.dates.specs.Durations.{Duration, part, concat, specificOf, articleOf, concreteOf, durationTurn, durationOf}
 use Rattle.numbers.specs.Again.{turns, again}
 use Rattle.dates.specs.Rows.{Row, row, Num}
 
@@ -55,5 +55,5 @@ cases =
 pub read-as-listed : map (λ c. durationOf (c .lexemes)) cases ≡ map (λ c. c .reading) cases
 unfolding cases get isAt within isEnding wordOf literalOf onesOf teensOf tensOf tensOnesOf numDoubleOf sumOf tailOf hundredsOf
     numTripleOf numTripleUnitOf fitsOf unitsOf numStep turns again numOf
-    isArticle unitOf specificOf articleOf concreteOf durationStep durationOf
+    isArticle unitOf specificOf articleOf concreteOf durationTurn durationOf
 read-as-listed = refl

@@ -57,16 +57,16 @@ unfoldable pub concreteOf : List ℕ → Parsed Part
 concreteOf l = orElse (specificOf l) (articleOf l)
 
 -- `Duration::parse`, with D for the duration behind an "and"; an "and" with none behind it is not taken
-unfoldable pub durationStep : (List ℕ → Parsed Duration) → List ℕ → Parsed Duration
-durationStep D l =
+unfoldable pub durationTurn : (List ℕ → Parsed Duration) → List ℕ → Parsed Duration
+durationTurn D l =
     andThen (concreteOf l) (λ d t.
     pick (isAt l t lexeme.And)
     (ifLet (D (drop (t + 1) l)) (λ dur2 u. is (concat d dur2) (t + 1 + u)) (is (part d) t))
     (is (part d) t))
 
--- `Duration::parse`, which calls itself behind an "and" (`duration-is`: durationOf l ≡ durationStep durationOf l)
+-- `Duration::parse`, which calls itself behind an "and" (`duration-is`: durationOf l ≡ durationTurn durationOf l)
 unfoldable pub durationOf : List ℕ → Parsed Duration
-durationOf l = again nothing durationStep l
+durationOf l = again nothing durationTurn l
 
 -- the code's answer for one part
 abbrev pub parsedPart : PartFound → Parsed Part

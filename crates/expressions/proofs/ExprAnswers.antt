@@ -9,7 +9,7 @@ use Rattle.numbers.specs.Numbers.{beginsNumber}
 use Rattle.numbers.proofs.Begins.{no-num}
 use Rattle.dates.specs.Parsed.{Parsed, is, nothing, overflow}
 use Rattle.dates.specs.Units.{isArticle, relativeSpecifierOf}
-use Rattle.dates.specs.Durations.{specificOf, articleOf, concreteOf, durationStep, durationOf}
+use Rattle.dates.specs.Durations.{specificOf, articleOf, concreteOf, durationTurn, durationOf}
 use Rattle.dates.proofs.Each.{Each}
 use Rattle.expressions.specs.Tree.{DateExpr}
 use Rattle.expressions.specs.DateExprs.{inTailOf, durationTailOf, tailOf, dateExprOf}
@@ -29,6 +29,6 @@ expr-promised l e = (e, rw e (counted l (exprPlace l) (dateExprOf l) (expr-few l
 
 -- behind the last lexeme stands no tail
 pub tail-none : (l : List ℕ) (t : ℕ) → length l ≤ t → tailOf (drop t l) ≡ nothing
-unfolding get isAt within beginsNumber isArticle relativeSpecifierOf specificOf articleOf concreteOf turns again durationStep durationOf
+unfolding get isAt within beginsNumber isArticle relativeSpecifierOf specificOf articleOf concreteOf turns again durationTurn durationOf
     inTailOf durationTailOf tailOf
 tail-none l t h = rw (drop-of-length-le l h, no-num [] refl)

@@ -10,7 +10,7 @@ use Rattle.dates.specs.Parsed.{is, nothing, overflow}
 use Rattle.dates.specs.Rows.{Row, row, Num}
 use Rattle.dates.specs.Units.{isArticle, unitOf, monthOf, weekdayOf, relativeSpecifierOf}
 use Rattle.numbers.specs.Again.{turns, again}
-use Rattle.dates.specs.Durations.{Duration, part, specificOf, articleOf, concreteOf, durationStep, durationOf}
+use Rattle.dates.specs.Durations.{Duration, part, specificOf, articleOf, concreteOf, durationTurn, durationOf}
 use Rattle.dates.specs.Dates.{namedDayOf, dayMonthYearOf, monthDayOf, isDelim}
 use Rattle.dates.specs.Dates.{threeNumbersOf, twoNumbersOf, behindSecondOf, delimitedOf, dateOf}
 use Rattle.dates.specs.declared.units.Unit.{Unit}
@@ -85,6 +85,6 @@ pub read-as-listed : map (λ c. dateExprOf (c .lexemes)) cases ≡ map (λ c. c 
 unfolding cases get isAt within fitsOf number.isEnding number.wordOf number.literalOf number.onesOf number.teensOf number.tensOf
     number.tensOnesOf number.numDoubleOf number.sumOf number.tailOf number.hundredsOf number.numTripleOf number.numTripleUnitOf
     number.unitsOf number.numStep turns again number.numOf isArticle unitOf monthOf weekdayOf relativeSpecifierOf specificOf articleOf
-    concreteOf durationStep durationOf namedDayOf dayMonthYearOf monthDayOf isDelim threeNumbersOf twoNumbersOf behindSecondOf
+    concreteOf durationTurn durationOf namedDayOf dayMonthYearOf monthDayOf isDelim threeNumbersOf twoNumbersOf behindSecondOf
     delimitedOf dateOf inTailOf durationTailOf tailOf withDurationOf relativeExprOf weekdayExprOf undatedOf dateExprOf
 read-as-listed = refl

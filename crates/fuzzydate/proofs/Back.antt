@@ -9,7 +9,7 @@ use Rattle.steps.specs.declared.plan.Step.{Step}
 use Rattle.refusals.specs.Answers.{given}
 use Rattle.refusals.proofs.Holds.{given-holds}
 use Rattle.ready.specs.Ready.{readyOf}
-use Rattle.ready.proofs.MadeReady.{made-ready}
+use Rattle.ready.proofs.ReadyPhrases.{made-ready}
 use Rattle.records.specs.Records.{encodeOf, decodeOf}
 use Rattle.records.proofs.Lists.{decoded-back}
 

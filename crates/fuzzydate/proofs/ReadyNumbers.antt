@@ -12,7 +12,7 @@ use Rattle.steps.specs.declared.plan.Step.{Step}
 use Rattle.steps.proofs.Planned.{steps-in}
 use Rattle.ready.specs.Ready.{readyOf, readyAnswer}
 use Rattle.ready.specs.declared.Ready.{Ready}
-use Rattle.ready.proofs.MadeReady.{made-ready}
+use Rattle.ready.proofs.ReadyPhrases.{made-ready}
 
 -- the steps that a struct holds
 pub record ListMade (s : List ℕ) (r : Ready) : Type 0 where

@@ -15,7 +15,7 @@ use Rattle.numbers.specs.Numbers.{isEnding, wordOf, literalOf, onesOf, teensOf,
 use Rattle.numbers.specs.Numbers.{tailOf as numTailOf, numTripleOf, numTripleUnitOf, unitsOf, numStep, numOf}
 use Rattle.dates.specs.Units.{isArticle, unitOf, monthOf, weekdayOf, relativeSpecifierOf}
 use Rattle.numbers.specs.Again.{turns, again}
-use Rattle.dates.specs.Durations.{part, specificOf, articleOf, concreteOf, durationStep, durationOf}
+use Rattle.dates.specs.Durations.{part, specificOf, articleOf, concreteOf, durationTurn, durationOf}
 use Rattle.dates.specs.Dates.{namedDayOf, dayMonthYearOf, monthDayOf, isDelim, threeNumbersOf, twoNumbersOf, behindSecondOf, delimitedOf}
 use Rattle.dates.specs.Dates.{dateOf}
 use Rattle.dates.specs.Times.{minuteOf, halfOf, clockOf, timeOf}
@@ -79,7 +79,7 @@ cases =
 pub read-as-listed : map (λ c. readOf keywords (c .phrase)) cases ≡ map (λ c. c .reading) cases
 unfolding cases keywords classOf markOf numberOf wordAt numberAt tokenAt lexed get isAt within isEnding wordOf literalOf onesOf teensOf
     tensOf tensOnesOf numDoubleOf sumOf numTailOf hundredsOf numTripleOf numTripleUnitOf fitsOf unitsOf numStep turns again numOf
-    isArticle unitOf monthOf weekdayOf relativeSpecifierOf specificOf articleOf concreteOf durationStep durationOf namedDayOf
+    isArticle unitOf monthOf weekdayOf relativeSpecifierOf specificOf articleOf concreteOf durationTurn durationOf namedDayOf
     dayMonthYearOf monthDayOf isDelim threeNumbersOf twoNumbersOf behindSecondOf delimitedOf dateOf minuteOf halfOf clockOf timeOf
     inTailOf durationTailOf tailOf withDurationOf relativeExprOf weekdayExprOf undatedOf dateExprOf timeBehindOf durationTurnOf
     timedTurnOf undatedTurnOf turnOf dateTimeStep dateTimeOf readOf

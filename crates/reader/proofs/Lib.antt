@@ -1,5 +1,5 @@
 pub mod Taken
-pub mod Turns
+pub mod Underway
 pub mod Walks
 pub mod Held
 pub mod Thin

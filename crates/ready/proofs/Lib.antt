@@ -2,7 +2,7 @@ pub mod Runs
 pub mod Forms
 pub mod Made
 pub mod Small
-pub mod MadeReady
+pub mod ReadyPhrases
 pub mod Settles
 pub mod Rows
 pub mod Within

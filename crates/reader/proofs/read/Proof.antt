@@ -1,6 +1,6 @@
 -- `reader::read` meets its contract: a walk of its MIR, by hand. A reader is made, and each turn of the loop takes its next token and goes on
 -- behind it. All that the proof knows of the functions that are called is that each meets its contract; what the turns add up to is
--- proofs/Turns.antt. Assumes nothing.
+-- proofs/Underway.antt. Assumes nothing.
 use mathlib.Core.Path.{_≡_, refl, ap, subst}
 use mathlib.Core.Bool.{Bool, true, false}
 use mathlib.Core.List.{List, [], _∷_}
@@ -50,7 +50,7 @@ use Rattle.reader.specs.declared.Lexer.{Lexer}
 use Rattle.reader.specs.declared.gather.Gathered.{Gathered}
 use Rattle.reader.specs.Read.{newOf, nextOf, behindOf, taken}
 use Rattle.reader.specs.Gather.{nothing, joinedTo, gatheredOf}
-use Rattle.reader.proofs.Turns.{Underway, begins, turned, stopped}
+use Rattle.reader.proofs.Underway.{Underway, begins, turned, stopped}
 use Rattle.reader.proofs.Walks.{Promise, meets, brings, told}
 use Rattle.reader.proofs.Held.{Phrase, α, Held, phrase-goes}
 use Rattle.reader.proofs.Lexer as T

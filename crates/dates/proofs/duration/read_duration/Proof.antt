@@ -5,7 +5,7 @@ use lib.ListN.{length}
 use denote.Ref.{now}
 use borrow.Author.Needs.{needs}
 use Rattle.numbers.proofs.LexemeAt.{there}
-use Rattle.dates.specs.Durations.{parsedPart, durationStep, durationOf, takenAnswer}
+use Rattle.dates.specs.Durations.{parsedPart, durationTurn, durationOf, takenAnswer}
 use Rattle.dates.proofs.Parsed.{unread, found}
 use Rattle.dates.proofs.Durations.{part-arm, duration-is, subDailyKept, Joined, taken-looking, taken-promised}
 use Rattle.dates.proofs.Durations.{part-learnt, and-behind, no-and}
@@ -29,7 +29,7 @@ taken-stopped-requires : tie.Need-taken-stopped-requires Inv-loop μ-loop
 taken-stopped-requires c κs = search needs
 
 returns : tie.Need-returns Inv-loop μ-loop
-unfolding durationStep
+unfolding durationTurn
 returns c =
     let read-concrete = c .before .before .read-concrete in
     let l = now (c .before .before .before .before .args .l) in
