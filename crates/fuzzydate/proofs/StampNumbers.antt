@@ -20,6 +20,6 @@ pub record Coded (w : Answer (List ℕ)) (r : Wrote) : Type 0 where
 pub coded : (st : Stamp) (room : ℕ) {r : Wrote} → r ≡ wroteOf (writtenOf st room) → Coded (writtenOf st room) r
 coded st room e = rw e (go (writing st room))
   where
-    go : {w : Answer (List ℕ)} → Holds (TextOf st) (Bounded 8 17 0) w → Coded w (wroteOf w)
+    go : {w : Answer (List ℕ)} → Holds (TextOf st room) (Bounded 8 17 0) w → Coded w (wroteOf w)
     go (of-given text) = record { few = rw (← (text .is)) (text-short st); small = omega arith; says = omega arith }
     go (of-refusal part) = record { few = omega arith; small = part .most; says = omega (arith, part) }
