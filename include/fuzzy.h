@@ -6,7 +6,7 @@
  * 0 still needs a pointer that is not null.
  *
  * An answer is one number. 0 says that a moment was written. Else its parts are, by the helpers below:
- *   fuzzy_number   which refusal it is, 1 to 13
+ *   fuzzy_number   which refusal it is, by its number below
  *   fuzzy_place    where in the phrase, counted in bytes
  *   fuzzy_length   how long the offending part of the phrase is; 0 where the refusal has none
  * On a refusal nothing that was lent has been written.
@@ -27,6 +27,13 @@ extern "C" {
 /* The room that any ready phrase needs, in bytes. */
 #define FUZZY_READY_SIZE 384
 
+/* A stamp: a moment's six numbers, then west and offset. The offset is 0 to 1439 minutes, east of UTC where west is 0 and west of it where west
+ * is 1. West 1 with offset 0 is "-00:00", the offset that is not known. */
+#define FUZZY_STAMP_NUMBERS 8
+
+/* The room that any stamp's text needs, in bytes; one with offset zero needs 20. */
+#define FUZZY_STAMP_SIZE 25
+
 /* Why a phrase or a ready phrase is refused. They are tested in this order. */
 enum fuzzy_refusal {
     FUZZY_TOO_LONG = 1,        /* the phrase has more than 256 bytes */
@@ -36,12 +43,14 @@ enum fuzzy_refusal {
     FUZZY_NOTHING = 5,         /* nothing that can be read */
     FUZZY_LARGE_SUM = 6,       /* a number in words passes 4,294,967,295 */
     FUZZY_LEFT_OVER = 7,       /* something is left behind what was read */
-    FUZZY_NO_NOW = 8,          /* the now is no date and time of the years 1 to 9999 */
+    FUZZY_NO_NOW = 8,          /* the now, or the moment to be written, is no date and time of the years 1 to 9999 */
     FUZZY_NO_SENSE = 9,        /* the phrase, or the ready phrase, has no sense */
     FUZZY_NO_DATE = 10,        /* no such month or day */
     FUZZY_NO_TIME = 11,        /* no such time of day */
     FUZZY_OUTSIDE = 12,        /* outside the years 1 to 9999 */
-    FUZZY_NO_LEAP_DAY = 13     /* a year step from 29 February into a common year */
+    FUZZY_NO_LEAP_DAY = 13,    /* a year step from 29 February into a common year */
+    FUZZY_NO_STAMP = 14,       /* no RFC 3339 stamp: another form, or no such date, time or offset */
+    FUZZY_NO_ROOM = 17         /* the lent text is too short */
 };
 
 /* A phrase at a now. 0: the moment's six numbers are in `moment`. Else a refusal. */
@@ -56,13 +65,23 @@ uint64_t fuzzy_make_ready(const uint8_t *phrase, size_t phrase_length, uint8_t r
 uint64_t fuzzy_run(const uint8_t *ready, size_t ready_length, uint32_t year, uint32_t month, uint32_t day, uint32_t hour, uint32_t minute,
                    uint32_t second, uint32_t moment[FUZZY_MOMENT_NUMBERS]);
 
+/* A text as an RFC 3339 stamp, all of it: "2026-02-11T09:30:15Z", or with an offset as in "2026-02-11T09:30:15+05:30"; letters in either case,
+ * no fraction. 0: its eight numbers are in `stamp`, the civil moment as it is written and the offset. Else 14; or 12 for a stamp of year 0. */
+uint64_t fuzzy_read_stamp(const uint8_t *text, size_t text_length, uint32_t stamp[FUZZY_STAMP_NUMBERS]);
+
+/* A stamp as text, in capitals, with "Z" for offset zero, at the front of `text`; what stands behind it stays. fuzzy_number 0: the text has
+ * fuzzy_length bytes, and reads back as the same stamp. Else 8 for no moment, 14 for a west above 1 or an offset above 1439, 17 for a text
+ * too short, in this order. */
+uint64_t fuzzy_write_stamp(uint32_t year, uint32_t month, uint32_t day, uint32_t hour, uint32_t minute, uint32_t second, uint32_t west,
+                           uint32_t offset, uint8_t *text, size_t text_length);
+
 /* Which refusal an answer is; 0 where it is none. */
 static inline unsigned fuzzy_number(uint64_t answer) { return (unsigned)(answer & 0xffffu); }
 
 /* The place of a refusal in its phrase. */
 static inline size_t fuzzy_place(uint64_t answer) { return (size_t)((answer >> 16) & 0xffffu); }
 
-/* The length of a refusal's part; of fuzzy_make_ready's answer without a refusal, the length of the ready phrase. */
+/* The length of a refusal's part; without a refusal, how many bytes fuzzy_make_ready or fuzzy_write_stamp wrote. */
 static inline size_t fuzzy_length(uint64_t answer) { return (size_t)(answer >> 32); }
 
 /* A word for each refusal, to be shown to people; "done" for 0. */
@@ -76,12 +95,14 @@ static inline const char *fuzzy_word(unsigned number) {
     case FUZZY_NOTHING: return "no date or time in it";
     case FUZZY_LARGE_SUM: return "number in words too large";
     case FUZZY_LEFT_OVER: return "not part of the date or time";
-    case FUZZY_NO_NOW: return "the now is no date and time";
+    case FUZZY_NO_NOW: return "the moment given is no date and time";
     case FUZZY_NO_SENSE: return "has no sense";
     case FUZZY_NO_DATE: return "no such month or day";
     case FUZZY_NO_TIME: return "no such time of day";
     case FUZZY_OUTSIDE: return "outside the years 1 to 9999";
     case FUZZY_NO_LEAP_DAY: return "29 February is not in that year";
+    case FUZZY_NO_STAMP: return "no RFC 3339 date and time";
+    case FUZZY_NO_ROOM: return "no room for the text";
     default: return "no answer of this library";
     }
 }

@@ -22,6 +22,8 @@ struct lent {
     union {
         uint32_t moment[FUZZY_MOMENT_NUMBERS];
         uint8_t ready[FUZZY_READY_SIZE];
+        uint32_t stamp[FUZZY_STAMP_NUMBERS];
+        uint8_t text[2 * FUZZY_STAMP_SIZE];
     } in;
     uint8_t after[GUARD];
 };
@@ -90,6 +92,68 @@ static void given(const char *phrase, uint32_t y, uint32_t mo, uint32_t d, uint3
     expect(kept_from(&m, 0), "nothing written for a damaged ready phrase");
 }
 
+static uint64_t write_with_room(const uint32_t s[FUZZY_STAMP_NUMBERS], struct lent *l, size_t room) {
+    return fuzzy_write_stamp(s[0], s[1], s[2], s[3], s[4], s[5], s[6], s[7], l->in.text, room);
+}
+
+/* a text with its eight numbers, which are written as `written`: with room for exactly that, and not with a byte less */
+static void stamped(const char *text, const char *written, uint32_t y, uint32_t mo, uint32_t d, uint32_t h, uint32_t mi, uint32_t s, uint32_t west,
+                    uint32_t offset) {
+    const uint32_t wanted[FUZZY_STAMP_NUMBERS] = {y, mo, d, h, mi, s, west, offset};
+    size_t n = strlen(written);
+    struct lent l = fresh();
+    uint64_t answer;
+    expect(fuzzy_read_stamp((const uint8_t *)text, strlen(text), l.in.stamp) == 0, "a stamp that is read");
+    expect(memcmp(l.in.stamp, wanted, sizeof wanted) == 0, "its numbers");
+    expect(kept_from(&l, sizeof wanted), "nothing written but the stamp");
+    l = fresh();
+    answer = write_with_room(wanted, &l, n);
+    expect(fuzzy_number(answer) == 0 && fuzzy_place(answer) == 0 && fuzzy_length(answer) == n, "a stamp that is written");
+    expect(memcmp(l.in.text, written, n) == 0, "its text");
+    expect(kept_from(&l, n), "nothing written but the text");
+    l = fresh();
+    expect(write_with_room(wanted, &l, n - 1) == FUZZY_NO_ROOM, "a text too short");
+    expect(kept_from(&l, 0), "nothing written where there is no room");
+}
+
+/* a text that is no stamp, and nothing written */
+static void unstamped(const char *text, size_t n, unsigned number) {
+    struct lent l = fresh();
+    expect(fuzzy_read_stamp((const uint8_t *)text, n, l.in.stamp) == number, "a text that is no stamp");
+    expect(kept_from(&l, 0), "nothing written for a text that is no stamp");
+}
+
+/* numbers that are no stamp, and nothing written */
+static void unwritten(uint32_t mo, uint32_t west, uint32_t offset, size_t room, unsigned number) {
+    const uint32_t s[FUZZY_STAMP_NUMBERS] = {2026, mo, 11, 9, 30, 15, west, offset};
+    struct lent l = fresh();
+    expect(write_with_room(s, &l, room) == number, "numbers that are no stamp");
+    expect(kept_from(&l, 0), "nothing written for numbers that are no stamp");
+}
+
+static void stamps(void) {
+    stamped("2024-02-29t23:59:59z", "2024-02-29T23:59:59Z", 2024, 2, 29, 23, 59, 59, 0, 0);
+    stamped("2026-02-11T09:30:15+00:00", "2026-02-11T09:30:15Z", 2026, 2, 11, 9, 30, 15, 0, 0);
+    stamped("2026-02-11T09:30:15-00:00", "2026-02-11T09:30:15-00:00", 2026, 2, 11, 9, 30, 15, 1, 0);
+    stamped("0001-01-01T00:00:00+23:59", "0001-01-01T00:00:00+23:59", 1, 1, 1, 0, 0, 0, 0, 1439);
+    stamped("9999-12-31T23:59:59-23:59", "9999-12-31T23:59:59-23:59", 9999, 12, 31, 23, 59, 59, 1, 1439);
+    unstamped("0000-02-29T00:00:00Z", 20, FUZZY_OUTSIDE);
+    unstamped("0000-02-30T00:00:00Z", 20, FUZZY_NO_STAMP);
+    unstamped("2026-02-29T00:00:00Z", 20, FUZZY_NO_STAMP);
+    unstamped("2026-02-11T09:30:60Z", 20, FUZZY_NO_STAMP);
+    unstamped("2026-02-11 09:30:15Z", 20, FUZZY_NO_STAMP);
+    unstamped("2026-02-11T09:30:15.5Z", 22, FUZZY_NO_STAMP);
+    unstamped("2026-02-11T09:30:15+24:00", 25, FUZZY_NO_STAMP);
+    unstamped("2026-02-11T09:30:15+23:60", 25, FUZZY_NO_STAMP);
+    unstamped("2026-02-11T09:30:15Z\n", 21, FUZZY_NO_STAMP);
+    unstamped("2026-02-11T09:30:15", 19, FUZZY_NO_STAMP);
+    unstamped("", 0, FUZZY_NO_STAMP);
+    unwritten(13, 2, 1440, 0, FUZZY_NO_NOW);
+    unwritten(2, 2, 0, 0, FUZZY_NO_STAMP);
+    unwritten(2, 0, 1440, 0, FUZZY_NO_STAMP);
+    unwritten(2, 0, 1, 0, FUZZY_NO_ROOM);
+}
+
 int main(void) {
     static char many[4096];
     struct lent l = fresh();
@@ -123,6 +187,7 @@ int main(void) {
     expect(fuzzy_run((const uint8_t *)"", 0, 2026, 2, 11, 9, 30, 15, l.in.moment) == FUZZY_NO_SENSE, "no step");
     expect(fuzzy_run((const uint8_t *)many, 400, 2026, 2, 11, 9, 30, 15, l.in.moment) == FUZZY_NO_SENSE, "25 records");
     expect(kept_from(&l, 0), "nothing written by any of these");
+    stamps();
 
     printf(failed ? "some calls failed\n" : "every call answered as it should\n");
     return failed;

@@ -1,4 +1,4 @@
-/* Reads one phrase at one now, and again as a ready phrase. Copy what you need. */
+/* Reads phrases at one now, a ready phrase at two, and a stamp. Copy what you need. */
 #include "fuzzy.h"
 
 #include <stdio.h>
@@ -16,6 +16,19 @@ static void show(const char *phrase, uint64_t answer, const uint32_t m[FUZZY_MOM
         printf(": \"%.*s\"", (int)fuzzy_length(answer), phrase + fuzzy_place(answer));
     }
     printf("\n");
+}
+
+/* Reads a stamp and writes it again, or shows what is wrong. */
+static void show_stamp(const char *text) {
+    uint8_t again[FUZZY_STAMP_SIZE];
+    uint32_t s[FUZZY_STAMP_NUMBERS];
+    uint64_t answer = fuzzy_read_stamp((const uint8_t *)text, strlen(text), s);
+    if (answer == 0) {
+        answer = fuzzy_write_stamp(s[0], s[1], s[2], s[3], s[4], s[5], s[6], s[7], again, sizeof again);
+        printf("%s: %.*s, %s %u minutes\n", text, (int)fuzzy_length(answer), (const char *)again, s[6] == 0 ? "east" : "west", (unsigned)s[7]);
+        return;
+    }
+    printf("%s: %s\n", text, fuzzy_word(fuzzy_number(answer)));
 }
 
 int main(void) {
@@ -41,5 +54,9 @@ int main(void) {
         show(phrase, fuzzy_run(ready, fuzzy_length(made), 2026, 2, 11, 9, 30, 15, moment), moment);
         show(phrase, fuzzy_run(ready, fuzzy_length(made), 2024, 2, 29, 12, 0, 0, moment), moment);
     }
+
+    show_stamp("2026-02-11t09:30:15+00:00");
+    show_stamp("2026-02-11T09:30:15-05:00");
+    show_stamp("2026-02-30T09:30:15Z");
     return 0;
 }

@@ -23,7 +23,21 @@
 //! let refusal = Ready::from_bytes(&stored).unwrap().run(leap_day).unwrap_err();
 //! assert_eq!(refusal.reason(), Reason::NoLeapDay);
 //! ```
+//!
+//! Times are exchanged as RFC 3339 text:
+//!
+//! ```
+//! use fuzzydate::{Offset, Stamp};
+//!
+//! let stamp: Stamp = "2026-02-11t09:30:15-05:00".parse().unwrap();
+//! assert_eq!((stamp.moment.hour, stamp.offset), (9, Offset::West(300)));
+//! assert_eq!(stamp.to_string(), "2026-02-11T09:30:15-05:00");
+//!
+//! let refusal = "2026-02-30T09:30:15Z".parse::<Stamp>().unwrap_err();
+//! assert_eq!(refusal.to_string(), "this is no RFC 3339 date and time");
+//! ```
 use std::fmt;
+use std::str::FromStr;
 
 extern "C" {
     fn fuzzy_read(
@@ -48,6 +62,19 @@ extern "C" {
         minute: u32,
         second: u32,
         moment: *mut u32,
+    ) -> u64;
+    fn fuzzy_read_stamp(text: *const u8, text_length: usize, stamp: *mut u32) -> u64;
+    fn fuzzy_write_stamp(
+        year: u32,
+        month: u32,
+        day: u32,
+        hour: u32,
+        minute: u32,
+        second: u32,
+        west: u32,
+        offset: u32,
+        text: *mut u8,
+        text_length: usize,
     ) -> u64;
 }
 
@@ -78,7 +105,7 @@ impl fmt::Display for Moment {
     }
 }
 
-/// Why a phrase or a ready phrase is refused. They are tested in this order.
+/// Why a phrase, a ready phrase or a stamp is refused. They are tested in this order.
 #[derive(Clone, Copy, Debug, PartialEq, Eq, PartialOrd, Ord, Hash)]
 #[repr(u8)]
 pub enum Reason {
@@ -96,7 +123,7 @@ pub enum Reason {
     LargeSum = 6,
     /// Something is left behind what was read.
     LeftOver = 7,
-    /// The now is no date and time of the years 1 to 9999.
+    /// The now, or the moment to be written, is no date and time of the years 1 to 9999.
     NoNow = 8,
     /// The phrase, or the ready phrase, has no sense.
     NoSense = 9,
@@ -108,11 +135,15 @@ pub enum Reason {
     Outside = 12,
     /// A year step from 29 February into a common year.
     NoLeapDay = 13,
+    /// No RFC 3339 stamp: another form, or no such date, time or offset.
+    NoStamp = 14,
+    /// The room that was lent is too short for the text.
+    NoRoom = 17,
 }
 
 impl Reason {
     /// In the order of their numbers.
-    const ALL: [Reason; 13] = [
+    const ALL: [Reason; 15] = [
         Reason::TooLong,
         Reason::Unknown,
         Reason::LargeDigits,
@@ -126,9 +157,16 @@ impl Reason {
         Reason::NoTime,
         Reason::Outside,
         Reason::NoLeapDay,
+        Reason::NoStamp,
+        Reason::NoRoom,
     ];
 
-    /// Its number in the table of refusals, 1 to 13.
+    /// The reason of a number that the library answers.
+    fn of(number: u64) -> Reason {
+        Reason::ALL.into_iter().find(|r| u64::from(r.number()) == number).expect("a number of the table")
+    }
+
+    /// Its number in the table of refusals.
     pub fn number(self) -> u8 {
         self as u8
     }
@@ -143,12 +181,14 @@ impl Reason {
             Reason::Nothing => "there is no date or time in the phrase",
             Reason::LargeSum => "a number in the phrase is too large",
             Reason::LeftOver => "is not part of the date or time before it",
-            Reason::NoNow => "the now is no date and time of the years 1 to 9999",
+            Reason::NoNow => "the moment given is no date and time of the years 1 to 9999",
             Reason::NoSense => "the phrase has no sense",
             Reason::NoDate => "there is no such month or day",
             Reason::NoTime => "there is no such time of day",
             Reason::Outside => "the moment is outside the years 1 to 9999",
             Reason::NoLeapDay => "29 February is not in that year",
+            Reason::NoStamp => "this is no RFC 3339 date and time",
+            Reason::NoRoom => "there is no room for the text",
         }
     }
 }
@@ -164,10 +204,9 @@ pub struct Refusal<'a> {
 impl<'a> Refusal<'a> {
     /// The refusal that an answer other than 0 stands for.
     fn of(answer: u64, phrase: &'a [u8]) -> Refusal<'a> {
-        let number = (answer & 0xffff) as usize;
         let place = ((answer >> 16) & 0xffff) as usize;
         let length = (answer >> 32) as usize;
-        Refusal { reason: Reason::ALL[number - 1], place, part: &phrase[place..place + length] }
+        Refusal { reason: Reason::of(answer & 0xffff), place, part: &phrase[place..place + length] }
     }
 
     /// Why.
@@ -298,3 +337,110 @@ impl PartialEq for Ready {
 }
 
 impl Eq for Ready {}
+
+/// A distance from UTC in minutes, 0 to 1439.
+#[derive(Clone, Copy, Debug, PartialEq, Eq, Hash)]
+pub enum Offset {
+    /// `East(0)` is "Z".
+    East(u32),
+    /// `West(0)` is written as `Unknown` is.
+    West(u32),
+    /// "-00:00": the moment is UTC, and where it was written is not known.
+    Unknown,
+}
+
+impl Offset {
+    fn of(west: u32, minutes: u32) -> Offset {
+        match (west, minutes) {
+            (0, _) => Offset::East(minutes),
+            (_, 0) => Offset::Unknown,
+            _ => Offset::West(minutes),
+        }
+    }
+
+    fn numbers(self) -> (u32, u32) {
+        match self {
+            Offset::East(minutes) => (0, minutes),
+            Offset::West(minutes) => (1, minutes),
+            Offset::Unknown => (1, 0),
+        }
+    }
+}
+
+/// The most bytes that a stamp's text has.
+pub const STAMP_SIZE: usize = 25;
+
+/// A civil moment as RFC 3339 text has it, and its offset.
+///
+/// ```
+/// # use fuzzydate::{Moment, Offset, Stamp};
+/// let moment = Moment { year: 2026, month: 2, day: 11, hour: 9, minute: 30, second: 15 };
+/// assert_eq!(Stamp { moment, offset: Offset::East(0) }.to_string(), "2026-02-11T09:30:15Z");
+/// assert_eq!(Stamp { moment, offset: Offset::East(330) }.to_string(), "2026-02-11T09:30:15+05:30");
+/// assert_eq!(Stamp { moment, offset: Offset::Unknown }.to_string(), "2026-02-11T09:30:15-00:00");
+/// ```
+#[derive(Clone, Copy, Debug, PartialEq, Eq, Hash)]
+pub struct Stamp {
+    pub moment: Moment,
+    pub offset: Offset,
+}
+
+impl Stamp {
+    /// The text, or why there is none: the moment is no date and time of the years 1 to 9999, or the offset is above 1439.
+    ///
+    /// ```
+    /// # use fuzzydate::{Moment, Offset, Reason, Stamp};
+    /// let moment = Moment { year: 2026, month: 2, day: 30, hour: 0, minute: 0, second: 0 };
+    /// assert_eq!(Stamp { moment, offset: Offset::East(0) }.text().unwrap_err().reason(), Reason::NoNow);
+    /// ```
+    pub fn text(&self) -> Result<String, Refusal<'static>> {
+        let m = self.moment;
+        let (west, offset) = self.offset.numbers();
+        let mut text = [0; STAMP_SIZE];
+        // SAFETY: the pointer is that of an array, whose size is said.
+        let answer = unsafe {
+            fuzzy_write_stamp(
+                m.year,
+                m.month,
+                m.day,
+                m.hour,
+                m.minute,
+                m.second,
+                west,
+                offset,
+                text.as_mut_ptr(),
+                text.len(),
+            )
+        };
+        match answer & 0xffff {
+            0 => Ok(text[..(answer >> 32) as usize].iter().map(|&b| char::from(b)).collect()),
+            _ => Err(Refusal::of(answer, &[])),
+        }
+    }
+}
+
+/// The text; where there is none, why, in plain words, which no reader takes for a stamp.
+impl fmt::Display for Stamp {
+    fn fmt(&self, f: &mut fmt::Formatter<'_>) -> fmt::Result {
+        match self.text() {
+            Ok(text) => f.write_str(&text),
+            Err(refusal) => refusal.fmt(f),
+        }
+    }
+}
+
+/// All of the text, with letters in either case and no fraction.
+impl FromStr for Stamp {
+    type Err = Refusal<'static>;
+
+    fn from_str(text: &str) -> Result<Stamp, Refusal<'static>> {
+        let mut stamp = [0; 8];
+        // SAFETY: the pointers are those of a slice and of an array of the size that the function writes.
+        let answer = unsafe { fuzzy_read_stamp(text.as_ptr(), text.len(), stamp.as_mut_ptr()) };
+        let [year, month, day, hour, minute, second, west, minutes] = stamp;
+        match answer {
+            0 => Ok(Stamp { moment: Moment { year, month, day, hour, minute, second }, offset: Offset::of(west, minutes) }),
+            _ => Err(Refusal::of(answer, &[])),
+        }
+    }
+}

@@ -1,5 +1,5 @@
 //! Every function with good, damaged and empty input.
-use fuzzydate::{read, Moment, Ready, Reason};
+use fuzzydate::{read, Moment, Offset, Ready, Reason, Stamp};
 
 const NOW: Moment = Moment { year: 2026, month: 2, day: 11, hour: 9, minute: 30, second: 15 };
 const LEAP_DAY: Moment = Moment { year: 2024, month: 2, day: 29, hour: 12, minute: 0, second: 0 };
@@ -85,4 +85,40 @@ fn says_what_is_wrong() {
     assert_eq!(read("next forty", NOW).unwrap_err().to_string(), "\"forty\" at byte 5 is not understood");
     assert_eq!(read("at \u{e9}", NOW).unwrap_err().to_string(), "\"\\xc3\" at byte 3 is not understood");
     assert_eq!(read("", NOW).unwrap_err().to_string(), "there is no date or time in the phrase");
+}
+
+#[test]
+fn reads_and_writes_stamps() {
+    let cases = [
+        ("2026-02-11T09:30:15Z", Offset::East(0), "2026-02-11T09:30:15Z"),
+        ("2026-02-11t09:30:15z", Offset::East(0), "2026-02-11T09:30:15Z"),
+        ("2026-02-11T09:30:15+00:00", Offset::East(0), "2026-02-11T09:30:15Z"),
+        ("2026-02-11T09:30:15-00:00", Offset::Unknown, "2026-02-11T09:30:15-00:00"),
+        ("2026-02-11T09:30:15+23:59", Offset::East(1439), "2026-02-11T09:30:15+23:59"),
+        ("2026-02-11T09:30:15-05:00", Offset::West(300), "2026-02-11T09:30:15-05:00"),
+    ];
+    for (text, offset, written) in cases {
+        let stamp: Stamp = text.parse().unwrap();
+        assert_eq!(stamp, Stamp { moment: NOW, offset }, "{text}");
+        assert_eq!(stamp.to_string(), written);
+    }
+    assert_eq!(Stamp { moment: NOW, offset: Offset::West(0) }.to_string(), "2026-02-11T09:30:15-00:00");
+}
+
+#[test]
+fn refuses_what_is_no_stamp() {
+    let cases = [
+        ("", Reason::NoStamp),
+        ("2026-02-11 09:30:15Z", Reason::NoStamp),
+        ("2026-02-11T09:30:60Z", Reason::NoStamp),
+        ("2026-02-11T09:30:15+24:00", Reason::NoStamp),
+        ("0000-02-30T00:00:00Z", Reason::NoStamp),
+        ("0000-02-29T00:00:00Z", Reason::Outside),
+    ];
+    for (text, reason) in cases {
+        assert_eq!(text.parse::<Stamp>().unwrap_err().reason(), reason, "{text}");
+    }
+    assert_eq!(Stamp { moment: NO_NOW, offset: Offset::East(1440) }.text().unwrap_err().reason(), Reason::NoNow);
+    assert_eq!(Stamp { moment: NOW, offset: Offset::West(1440) }.text().unwrap_err().reason(), Reason::NoStamp);
+    assert_eq!(Stamp { moment: NO_NOW, offset: Offset::East(0) }.to_string(), "the moment given is no date and time of the years 1 to 9999");
 }

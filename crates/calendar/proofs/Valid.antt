@@ -1,11 +1,11 @@
--- What passes the tests of dates, times and moments is one.
+-- What passes the tests of dates, times and moments is one, and the other way.
 use mathlib.Core.Path.{_≡_, refl}
 use mathlib.Core.Bool.{true, and-eq-true-iff}
 use Prim.Native.Nat.{ℕ, _≤_}
 use lib.Dec.{leb, ltb}
-use borrow.Author.Tests.{leb-true, ltb-true}
+use borrow.Author.Tests.{leb-true, ltb-true, le-leb, lt-ltb}
 use Rattle.calendar.specs.Gregorian.{leapYear, monthLength, IsDate}
-use Rattle.calendar.specs.Moments.{IsTime, IsMoment, inRange, isDate, isTime, isMoment, firstMoment}
+use Rattle.calendar.specs.Moments.{IsTime, IsMoment, inRange, isDayOfMonth, isDate, isTime, isMoment, firstMoment}
 use Rattle.calendar.specs.declared.moments.Moment.{Moment}
 
 -- what passes the test of a range is in it
@@ -37,6 +37,20 @@ test-time h m s e =
     let a = and-eq-true-iff (ltb h 24) _ .0 e in
     let b = and-eq-true-iff (ltb m 60) _ .0 (a .1) in
     record { hour = ltb-true _ _ (a .0); minute = ltb-true _ _ (b .0); second = ltb-true _ _ (b .1) }
+
+-- the day of a date passes, and so do a time of day and a moment
+pub day-passes : {y m d : ℕ} → IsDate y m d → isDayOfMonth y m d ≡ true
+day-passes h =
+    rw (le-leb _ _ (h .month-low), le-leb _ _ (h .month-high), le-leb _ _ (h .day-low), le-leb _ _ (h .day-high))
+
+pub time-passes : {h m s : ℕ} → IsTime h m s → isTime h m s ≡ true
+unfolding isTime
+time-passes t = rw (lt-ltb _ _ (t .hour), lt-ltb _ _ (t .minute), lt-ltb _ _ (t .second))
+
+pub moment-passes : {t : Moment} → IsMoment t → isMoment t ≡ true
+unfolding isMoment isDate
+moment-passes v =
+    rw (le-leb _ _ (v .date .year-low), le-leb _ _ (v .date .year-high), day-passes (v .date), time-passes (v .time))
 
 -- what passes as a moment is one
 pub test-moment : (t : Moment) → isMoment t ≡ true → IsMoment t

@@ -12,7 +12,7 @@ use refusals::OUTSIDE;
 ghost use mathlib.Core.Path.{_≡_};
 ghost use Prim.Native.Nat.{_<_};
 ghost use Rattle.calendar.specs.Gregorian.{days, weekday};
-ghost use Rattle.calendar.specs.Moments.{IsMoment, inRange, isDate, isTime, isMoment, firstMoment, lastMoment};
+ghost use Rattle.calendar.specs.Moments.{IsMoment, inRange, isDayOfMonth, isDate, isTime, isMoment, firstMoment, lastMoment};
 ghost use Rattle.calendar.specs.Moments.{withDate, withTime, withMinute, reachedOf, Valid, dayOfMoment, atDay, onDay};
 ghost use Rattle.calendar.specs.Moments.{movedWithin, minuteNumber, minutes, atMinute, minutesStep};
 ghost use Rattle.calendar.specs.Moments.{monthNumber, months, inMonth, monthsStep, years, inYear, yearsStep};
@@ -50,15 +50,22 @@ fn in_range(n: u32, low: u32, high: u32) -> bool
     n <= high
 }
 
+// True where the year's month m has day d, whatever the year.
+pub fn valid_day(y: u32, m: u32, d: u32) -> bool
+    ensures { λ r. ⌜ r ≡ isDayOfMonth y m d ⌝ }
+{
+    if in_range(m, 1, 12) {
+        return in_range(d, 1, month_length(leap_year(y), m));
+    }
+    false
+}
+
 // True where the numbers are a date of the calendar.
 pub fn valid_date(y: u32, m: u32, d: u32) -> bool
     ensures { λ r. ⌜ r ≡ isDate y m d ⌝ }
 {
     if in_range(y, 1, Moment::YEARS) {
-        if in_range(m, 1, 12) {
-            return in_range(d, 1, month_length(leap_year(y), m));
-        }
-        return false;
+        return valid_day(y, m, d);
     }
     false
 }

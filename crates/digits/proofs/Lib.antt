@@ -5,3 +5,6 @@ pub mod Stores
 pub mod Widths
 pub mod Forms
 pub mod Says
+pub mod Again
+pub mod Capitals
+pub mod Bytes

@@ -1,12 +1,13 @@
 -- A function's values in order: that all pass a test, or are the same, is one computation. Assumes nothing.
-use mathlib.Core.Path.{_≡_, sym, ap, _∙_}
+use mathlib.Core.Path.{_≡_, refl, sym, ap, _∙_}
 use mathlib.Core.Bool.{Bool, true, _&&_, and-eq-true-iff}
 use mathlib.Core.List.{List, [], _∷_}
 use mathlib.Core.Logic.{⊎-elim}
 use Prim.Native.Nat.{ℕ, zero, suc, _+_, _-_, _≤_, _<_}
-use native.Mathlib.Nat.{not-suc-le-zero, eq-or-lt-of-le, le-of-suc-le-suc, add-zero, add-suc, suc-add}
+use native.Mathlib.Nat.{not-suc-le-zero, eq-or-lt-of-le, le-of-suc-le-suc, zero-add, add-zero, add-suc, suc-add}
 use native.Mathlib.Omega.{arith}
-use lib.ListN.{getD, replicate, getD-replicate}
+use lib.ListN.{length, getD, replicate, getD-replicate}
+use lib.Seq.{ext-getD}
 
 -- f holds at each number below n
 abbrev pub all-below : (ℕ → Bool) → ℕ → Bool
@@ -21,7 +22,7 @@ each-below f (suc n) e k h =
     ⊎-elim (λ p. rw p (both .0)) (λ l. each-below f n (both .1) k l) (eq-or-lt-of-le (le-of-suc-le-suc h))
 
 -- the values at i, i + 1, .., n of them
-abbrev tabled : (ℕ → ℕ) → ℕ → ℕ → List ℕ
+abbrev pub tabled : (ℕ → ℕ) → ℕ → ℕ → List ℕ
 tabled f i zero = []
 tabled f i (suc n) = f i ∷ tabled f (suc i) n
 
@@ -30,6 +31,16 @@ tabled-at : (f : ℕ → ℕ) (n i k : ℕ) → k < n → getD (tabled f i n) k 
 tabled-at f zero i k h = absurd (not-suc-le-zero h)
 tabled-at f (suc n) i zero h = ap f (sym (add-zero i))
 tabled-at f (suc n) i (suc k) h = tabled-at f n (suc i) k (le-of-suc-le-suc h) ∙ ap f (suc-add i k ∙ sym (add-suc i k))
+
+tabled-length : (f : ℕ → ℕ) (i n : ℕ) → length (tabled f i n) ≡ n
+tabled-length f i zero = refl
+tabled-length f i (suc n) = ap suc (tabled-length f (suc i) n)
+
+-- a list is the table of its elements
+pub listed : (s : List ℕ) (n : ℕ) → length s ≡ n → s ≡ tabled (λ i. getD s i 0) 0 n
+listed s n h =
+    let f : ℕ → ℕ = λ i. getD s i 0 in
+    ext-getD 0 s (tabled f 0 n) (h ∙ sym (tabled-length f 0 n)) (λ i l. sym (tabled-at f n 0 i (omega arith) ∙ ap f (zero-add i)))
 
 -- n values from i on that are all v
 pub steady : (f : ℕ → ℕ) (i n v : ℕ) → tabled f i n ≡ replicate n v → (k : ℕ) → i ≤ k → k < i + n → f k ≡ v

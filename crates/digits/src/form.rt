@@ -1,16 +1,30 @@
 // Fixed forms.
 use super::digit::is_digit;
 ghost use mathlib.Core.Path.{_≡_};
+ghost use Rattle.digits.specs.Bytes.{capitalOf};
 ghost use Rattle.digits.specs.Forms.{inPlace, ofForm};
 
-// True for a byte that a form has in this place: any digit for a 0, else the same byte.
+// A small letter's capital, any other byte itself.
+fn capital(b: u8) -> u8
+    ensures { λ r. ⌜ r ≡ capitalOf b ⌝ }
+{
+    if b < b'a' {
+        return b;
+    }
+    if b <= b'z' {
+        return b - 32;
+    }
+    b
+}
+
+// True for a byte that a form has in this place: any digit for a 0, a letter in either case, else the same byte.
 fn in_place(f: u8, b: u8) -> bool
     ensures { λ r. ⌜ r ≡ inPlace f b ⌝ }
 {
     if f == b'0' {
         return is_digit(b);
     }
-    b == f
+    capital(b) == capital(f)
 }
 
 // True for a text of a form.

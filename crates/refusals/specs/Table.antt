@@ -52,3 +52,11 @@ Outside = 12
 -- "a year step from 29 February into a common year"
 abbrev pub NoLeapDay : ℕ
 NoLeapDay = 13
+
+-- "any other form or an impossible date, time or offset"; in writing "an offset out of range"
+abbrev pub NoStamp : ℕ
+NoStamp = 14
+
+-- "a buffer too short"
+abbrev pub NoRoom : ℕ
+NoRoom = 17

@@ -52,3 +52,9 @@ pub const OUTSIDE: u8 = 12;
 
 // A year step leads from 29 February into a common year.
 pub const NO_LEAP_DAY: u8 = 13;
+
+// The text is no stamp: another form, or an impossible date, time or offset.
+pub const NO_STAMP: u8 = 14;
+
+// The buffer is too short.
+pub const NO_ROOM: u8 = 17;

@@ -2,6 +2,7 @@
 use Rattle.settled.proofs.Settled.{Same, Settled, same, through}
 use Rattle.settled.proofs.Values.{reached-one}
 use Rattle.calendar.proofs.moments.weekday_of.Reads as weekday-of'
+use Rattle.calendar.proofs.moments.valid_day.Reads as valid-day'
 use Rattle.calendar.proofs.moments.valid_date.Reads as valid-date'
 use Rattle.calendar.proofs.moments.valid_time.Reads as valid-time'
 use Rattle.calendar.proofs.moments.Moment.first.Reads as first'
@@ -19,6 +20,9 @@ use Rattle.calendar.proofs.fixed.moment_in.Reads as moment-in'
 
 pub weekday-of : Settled weekday-of'.Post
 weekday-of = same weekday-of'.Post _ _ (λ κs a z e p. p)
+
+pub valid-day : Settled valid-day'.Post
+valid-day = same valid-day'.Post _ _ (λ κs a z e p. p)
 
 pub valid-date : Settled valid-date'.Post
 valid-date = same valid-date'.Post _ _ (λ κs a z e p. p)

@@ -13,5 +13,6 @@ pub mod Answer
 pub mod Steps
 pub mod Ready
 pub mod Records
+pub mod Stamp
 pub mod Fuzzydate
 pub mod Text

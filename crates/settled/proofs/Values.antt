@@ -20,6 +20,10 @@ use Rattle.dates.specs.declared.units.SpecifierFound.{SpecifierFound}
 use Rattle.dates.specs.declared.units.SpecifierFound.the-variants.{Is as IsSpecifier, Nothing as NoSpecifier}
 use Rattle.refusals.specs.Answers.{Answer, given, refused as refusedAnswer}
 use Rattle.calendar.specs.declared.moments.Moment.{Moment}
+use Rattle.stamp.specs.Stamps.{stampAnswer}
+use Rattle.stamp.specs.declared.Stamp.{Stamp}
+use Rattle.stamp.specs.declared.read.StampRead.{StampRead}
+use Rattle.stamp.specs.declared.read.StampRead.the-variants.{Is as IsStamp, Refused as StampRefused}
 use Rattle.answer.specs.Answer.{answerFrom}
 use Rattle.answer.specs.declared.Answered.{Answered}
 use Rattle.answer.specs.declared.Answered.the-variants.{At as AnsweredAt, Refused as AnsweredRefused}
@@ -114,3 +118,14 @@ answered-back (AnsweredRefused r) = refl
 
 pub answered-one : (x y : Answered) → answerFrom x ≡ answerFrom y → x ≡ y
 answered-one = given-back answerFrom answered answered-back
+
+abbrev stampRead : Answer Stamp → StampRead
+stampRead (given st) = IsStamp st
+stampRead (refusedAnswer r) = StampRefused (r .number)
+
+stamp-back : (x : StampRead) → stampRead (stampAnswer x) ≡ x
+stamp-back (IsStamp st) = refl
+stamp-back (StampRefused k) = refl
+
+pub stamp-one : (x y : StampRead) → stampAnswer x ≡ stampAnswer y → x ≡ y
+stamp-one = given-back stampAnswer stampRead stamp-back

@@ -1,0 +1,118 @@
+-- A stamp: a civil moment as written, with its offset; how a text is read as one, and one is written. Assumes nothing.
+use Prim.Native.Nat.{ℕ, _+_, _*_, _/_, _%_, _≤_, _<_}
+use Prim.Native.Char.{code}
+use mathlib.Core.Bool.{Bool, true, _&&_, cond}
+use mathlib.Core.List.{List, _++_, map}
+use lib.Dec.{eqb, leb, ltb}
+use lib.ListN.{length, getD, take, drop}
+use lib.Seq.{sets}
+use Rattle.refusals.specs.Table.{NoNow, Outside, NoStamp, NoRoom}
+use Rattle.refusals.specs.Answers.{Answer, given, refused, refuse}
+use Rattle.digits.specs.Bytes.{bytesOf, capitalOf, same}
+use Rattle.digits.specs.Digits.{marked, twoAt}
+use Rattle.calendar.specs.Moments.{isDayOfMonth, isTime, isMoment}
+use Rattle.calendar.specs.Fixed.{momentText, momentIn}
+use Rattle.calendar.specs.declared.moments.Moment.{Moment}
+use Rattle.stamp.specs.Grammar.{date-time, isOf}
+use Rattle.stamp.specs.declared.Offset.{Offset}
+use Rattle.stamp.specs.declared.Stamp.{Stamp}
+use Rattle.stamp.specs.declared.read.StampRead.{StampRead}
+use Rattle.stamp.specs.declared.read.StampRead.the-variants.{Is, Refused}
+use Rattle.stamp.specs.declared.write.Wrote.{Wrote}
+
+-- "Z" and "+00:00": the offset is zero
+abbrev pub zulu : Offset
+zulu = record { west = 0; minutes = 0 }
+
+-- a text of the grammar has 20 bytes with "Z", and 25 with a `time-numoffset`
+abbrev pub hasNumoffset : List ℕ → Bool
+hasNumoffset s = leb 25 (length s)
+
+-- "-" is west
+abbrev pub westOf : ℕ → ℕ
+westOf b = cond (eqb b (code "-")) 1 0
+
+-- `time-offset`, from place 19 on: "Z", or a sign, hours and minutes. "-00:00" is (1, 0), apart from "Z" (section 4.3)
+abbrev pub offsetIn : List ℕ → Offset
+offsetIn s = cond (hasNumoffset s) (record { west = westOf (getD s 19 0); minutes = 60 * twoAt s 20 + twoAt s 23 }) zulu
+
+-- the stamp whose numbers stand in their places
+abbrev pub stampIn : List ℕ → Stamp
+stampIn s = record { moment = momentIn s; offset = offsetIn s }
+
+-- "time-hour ; 00-23", "time-minute ; 00-59" of the offset; "Z" has none
+abbrev pub offsetExists : List ℕ → Bool
+offsetExists s = cond (hasNumoffset s) (isTime (twoAt s 20) (twoAt s 23) 0) true
+
+-- section 5.7: the month has the day, by the leap rule, and the time of day exists; "A second of 60 isn't taken"
+abbrev pub momentExists : Moment → Bool
+momentExists t = isDayOfMonth (t .year) (t .month) (t .day) && isTime (t .hour) (t .minute) (t .second)
+
+-- "then 12 for year 0000"
+abbrev pub inYears : Stamp → Answer Stamp
+inYears st = cond (eqb (st .moment .year) 0) (refuse Outside 0 0) (given st)
+
+-- what a text of the grammar says: 14 for "an impossible date, time or offset"
+abbrev pub judged : List ℕ → Answer Stamp
+judged s = cond (momentExists (momentIn s) && offsetExists s) (inYears (stampIn s)) (refuse NoStamp 0 0)
+
+-- "14 for any other form"
+unfoldable pub stampOf : List ℕ → Answer Stamp
+stampOf s = cond (isOf date-time s) (judged s) (refuse NoStamp 0 0)
+
+-- the code's answer
+abbrev pub stampAnswer : StampRead → Answer Stamp
+stampAnswer (Is st) = given st
+stampAnswer (Refused k) = refuse k 0 0
+
+-- offset zero, and not the unknown one
+abbrev pub isZulu : Offset → Bool
+isZulu o = eqb (o .west) 0 && eqb (o .minutes) 0
+
+-- "+" for east, "-" for west
+abbrev pub signOf : ℕ → ℕ
+signOf w = cond (eqb w 0) (code "+") (code "-")
+
+-- `"Z" for offset zero`, else a sign, two digits, a colon and two digits
+abbrev pub offsetText : Offset → List ℕ
+offsetText o = cond (isZulu o) (bytesOf "Z") (marked (signOf (o .west)) (o .minutes / 60) ++ marked (code ":") (o .minutes % 60))
+
+-- "The writer uses capitals"
+abbrev pub stampText : Stamp → List ℕ
+stampText st = momentText (code "T") (st .moment) ++ offsetText (st .offset)
+
+-- "a numeric offset up to 23:59", east or west
+pub record IsOffset (o : Offset) : Type 0 where
+  pub west : o .west ≤ 1
+  pub minutes : o .minutes < 1440
+
+-- `IsOffset` as a test
+abbrev pub isOffset : Offset → Bool
+isOffset o = leb (o .west) 1 && ltb (o .minutes) 1440
+
+-- "8 for no moment, 14 for an offset out of range, 17 for a buffer too short"
+unfoldable pub writtenOf : Stamp → ℕ → Answer (List ℕ)
+writtenOf st room =
+    cond (isMoment (st .moment))
+    (cond (isOffset (st .offset))
+    (cond (leb (length (stampText st)) room) (given (stampText st)) (refuse NoRoom 0 0))
+    (refuse NoStamp 0 0))
+    (refuse NoNow 0 0)
+
+-- an offset's text as the writer has it: "Z" for "+00:00", and capitals
+abbrev pub plainOffset : List ℕ → List ℕ
+plainOffset u = cond (same u (bytesOf "+00:00")) (bytesOf "Z") (map capitalOf u)
+
+-- a stamp's text as the writer has it
+abbrev pub plain : List ℕ → List ℕ
+plain s = map capitalOf (take 19 s) ++ plainOffset (drop 19 s)
+
+-- the code's answer: number 0 and the text's length, or a refusal's number and no byte
+abbrev pub wroteOf : Answer (List ℕ) → Wrote
+wroteOf (given text) = record { number = 0; count = length text }
+wroteOf (refused r) = record { number = r .number; count = 0 }
+
+-- the lent buffer: the text at its front and all else as before, or, refused, "nothing written"
+abbrev pub bufferOf : List ℕ → Answer (List ℕ) → List ℕ
+bufferOf before (given text) = sets before 0 text
+bufferOf before (refused r) = before

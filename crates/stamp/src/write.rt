@@ -1,0 +1,98 @@
+// A stamp written as text.
+use super::Offset;
+use super::Stamp;
+use calendar::fixed::put_moment;
+use digits::put::put_pair;
+use refusals::NO_NOW;
+use refusals::NO_ROOM;
+use refusals::NO_STAMP;
+ghost use mathlib.Core.Path.{_≡_};
+ghost use Prim.Native.Nat.{_+_, _≤_};
+ghost use lib.ListN.{length};
+ghost use lib.Seq.{sets};
+ghost use Rattle.stamp.specs.Stamps.{isZulu, signOf, offsetText, isOffset, writtenOf, wroteOf, bufferOf};
+
+// How a writing ended: number 0 and the count of bytes, or a refusal's number and count 0.
+pub struct Wrote {
+    pub number: u8,
+    pub count: usize,
+}
+
+// True for an offset up to 23:59, east or west.
+fn valid_offset(o: Offset) -> bool
+    ensures { λ r. ⌜ r ≡ isOffset o ⌝ }
+{
+    if o.west <= 1 {
+        return o.minutes < 1440;
+    }
+    false
+}
+
+// True for the offset that "Z" says.
+fn is_zulu(o: Offset) -> bool
+    ensures { λ r. ⌜ r ≡ isZulu o ⌝ }
+{
+    if o.west == 0 {
+        return o.minutes == 0;
+    }
+    false
+}
+
+// How many bytes a stamp with this offset takes.
+fn size(o: Offset) -> usize
+    ensures { λ r. ⌜ r ≡ 19 + length (offsetText o) ⌝ }
+{
+    if is_zulu(o) { 20 } else { 25 }
+}
+
+// The sign of an offset.
+fn sign_of(west: u32) -> u8
+    ensures { λ r. ⌜ r ≡ signOf west ⌝ }
+{
+    if west == 0 { b'+' } else { b'-' }
+}
+
+// An offset, written behind a moment.
+fn put_offset(out: &mut [u8], o: Offset)
+    requires { ⌜ 19 + length (offsetText o) ≤ length (now out) ⌝ }
+    ensures { λ _. ⌜ now (out .exit) ≡ sets (now (out .entry)) 19 (offsetText o) ⌝ }
+{
+    if is_zulu(o) {
+        out[19] = b'Z';
+        return;
+    }
+    put_pair(out, 19, sign_of(o.west), o.minutes / 60);
+    put_pair(out, 22, b':', o.minutes % 60);
+}
+
+// A stamp as text at the front of a lent buffer: 8 for no moment, 14 for an offset out of range, 17 for a buffer too short.
+pub fn write_stamp(stamp: Stamp, out: &mut [u8]) -> Wrote
+    ensures { λ r. ⌜ r ≡ wroteOf (writtenOf stamp (length (now (out .entry)))) ⌝ }
+    ensures buffer { λ _. ⌜ now (out .exit) ≡ bufferOf (now (out .entry)) (writtenOf stamp (length (now (out .entry)))) ⌝ }
+{
+    if stamp.moment.valid() {
+        if valid_offset(stamp.offset) {
+            let n = size(stamp.offset);
+            if out.len() < n {
+                return Wrote {
+                    number: NO_ROOM,
+                    count: 0,
+                };
+            }
+            put_moment(out, b'T', stamp.moment);
+            put_offset(out, stamp.offset);
+            return Wrote {
+                number: 0,
+                count: n,
+            };
+        }
+        return Wrote {
+            number: NO_STAMP,
+            count: 0,
+        };
+    }
+    Wrote {
+        number: NO_NOW,
+        count: 0,
+    }
+}
