@@ -1,2 +1,3 @@
 pub mod ReadyNumbers
 pub mod Back
+pub mod StampNumbers

@@ -1,21 +1,23 @@
 -- What an app gets: one number, and what is written into the array that it lends.
 use Prim.Native.Nat.{ℕ, _+_, _-_, _*_}
-use mathlib.Core.List.{List, [], _∷_}
+use mathlib.Core.List.{List, [], _∷_, _++_}
 use lib.ListN.{length}
 use lib.Seq.{sets}
 use Rattle.refusals.specs.Answers.{Answer, given, refused}
 use Rattle.refusals.specs.declared.Refusal.{Refusal}
+use Rattle.calendar.specs.Moments.{momentOf}
 use Rattle.calendar.specs.declared.moments.Moment.{Moment}
 use Rattle.ready.specs.Ready.{ReadyPhrase}
 use Rattle.records.specs.Records.{encodeOf}
+use Rattle.stamp.specs.declared.Stamp.{Stamp}
 
 -- a refusal's number, its place from bit 16 on, and the length of its part from bit 32 on
 abbrev pub code : Refusal → ℕ
 code r = r .number + 65536 * r .place + 4294967296 * (r .end - r .place)
 
--- 0 for a moment
-abbrev pub codeOf : Answer Moment → ℕ
-codeOf (given t) = 0
+-- 0 for a moment or a stamp
+abbrev pub codeOf : {A : Type 0} → Answer A → ℕ
+codeOf (given x) = 0
 codeOf (refused r) = code r
 
 -- the six numbers of a moment
@@ -36,3 +38,21 @@ readyCode (refused r) = code r
 abbrev pub readyAfter : ReadyPhrase → List ℕ → List ℕ
 readyAfter (given ss) lent = sets lent 0 (encodeOf ss)
 readyAfter (refused r) lent = lent
+
+-- the eight numbers of a stamp
+abbrev pub eight : Stamp → List ℕ
+eight st = six (st .moment) ++ (st .offset .west ∷ st .offset .minutes ∷ [])
+
+-- what they are written over; on a refusal it stays
+abbrev pub stampAfter : Answer Stamp → List ℕ → List ℕ
+stampAfter (given st) lent = eight st
+stampAfter (refused r) lent = lent
+
+-- the stamp of eight numbers
+abbrev pub numbersStamp : ℕ → ℕ → ℕ → ℕ → ℕ → ℕ → ℕ → ℕ → Stamp
+numbersStamp y mo d h mi s west offset = record { moment = momentOf y mo d h mi s; offset = record { west = west; minutes = offset } }
+
+-- of a text that is written: 0 for the number and the place, and its length in bytes from bit 32 on
+abbrev pub writtenCode : Answer (List ℕ) → ℕ
+writtenCode (given text) = 4294967296 * length text
+writtenCode (refused r) = code r

@@ -1,4 +1,4 @@
-// What apps call: phrases, nows and ready phrases as numbers and byte slices.
+// What apps call: phrases, nows, ready phrases and stamps as numbers and byte slices.
 use answer::Answered;
 use answer::answer;
 use calendar::moments::Moment;
@@ -7,15 +7,22 @@ use ready::make_ready;
 use records::record::encode;
 use records::run::run_ready;
 use refusals::Refusal;
+use stamp::Offset;
+use stamp::Stamp;
+use stamp::read::StampRead;
+use stamp::read::read_stamp;
+use stamp::write::write_stamp;
 ghost use mathlib.Core.Path.{_≡_};
 ghost use Prim.Native.Nat.{_≤_};
+ghost use lib.ListN.{length};
 ghost use Rattle.lexer.specs.Keywords.{keywords};
 ghost use Rattle.calendar.specs.Moments.{momentOf};
 ghost use Rattle.answer.specs.Answer.{placed, answerOf};
 ghost use Rattle.steps.specs.Running.{runOf};
 ghost use Rattle.ready.specs.Ready.{readyOf};
 ghost use Rattle.records.specs.Records.{decodeOf};
-ghost use Rattle.fuzzydate.specs.Called.{code, codeOf, momentAfter, readyCode, readyAfter};
+ghost use Rattle.stamp.specs.Stamps.{stampOf, writtenOf, bufferOf};
+ghost use Rattle.fuzzydate.specs.Called.{code, codeOf, momentAfter, readyCode, readyAfter, stampAfter, numbersStamp, writtenCode};
 
 // Where the place of a refusal stands in an answer, and where the length of its part does.
 const PLACE: u64 = 65536;
@@ -110,4 +117,62 @@ pub extern "C" fn fuzzy_run(
         }
         Reached::Refused(number) => number as u64,
     }
+}
+
+// A text as an RFC 3339 stamp: 0 and the stamp's eight numbers, or 14 or 12 and nothing written.
+#[no_mangle]
+pub extern "C" fn fuzzy_read_stamp(text: &[u8], stamp: &mut [u32; 8]) -> u64
+    ensures { λ r. ⌜ r ≡ codeOf (stampOf (now (text .entry))) ⌝ }
+    ensures { λ r. ⌜ now (stamp .exit) ≡ stampAfter (stampOf (now (text .entry))) (now (stamp .entry)) ⌝ }
+{
+    match read_stamp(text) {
+        StampRead::Is(s) => {
+            let t = s.moment;
+            let o = s.offset;
+            *stamp = [
+                t.year,
+                t.month,
+                t.day,
+                t.hour,
+                t.minute,
+                t.second,
+                o.west,
+                o.minutes,
+            ];
+            0
+        }
+        StampRead::Refused(number) => number as u64,
+    }
+}
+
+// A stamp's eight numbers as text at the front of a lent one: its length in bytes, or 8, 14 or 17 and nothing written.
+#[no_mangle]
+pub extern "C" fn fuzzy_write_stamp(
+    year: u32,
+    month: u32,
+    day: u32,
+    hour: u32,
+    minute: u32,
+    second: u32,
+    west: u32,
+    offset: u32,
+    text: &mut [u8],
+) -> u64
+    ensures { λ r. ⌜ r ≡ writtenCode (writtenOf (numbersStamp year month day hour minute second west offset) (length (now (text .entry)))) ⌝ }
+    ensures { λ _. ⌜ now (text .exit) ≡ bufferOf (now (text .entry)) (writtenOf (numbersStamp year month day hour minute second west offset) (length (now (text .entry)))) ⌝ }
+{
+    let moment = Moment {
+        year,
+        month,
+        day,
+        hour,
+        minute,
+        second,
+    };
+    let offset = Offset {
+        west,
+        minutes: offset,
+    };
+    let wrote = write_stamp(Stamp { moment, offset }, text);
+    (wrote.number as u64) + LENGTH * (wrote.count as u64)
 }

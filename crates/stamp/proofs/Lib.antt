@@ -1,5 +1,6 @@
 pub mod Grammar
 pub mod Offsets
+pub mod Writings
 pub mod WrittenReads
 pub mod Readings
 pub mod ReadWrites

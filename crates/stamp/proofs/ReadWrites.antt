@@ -24,8 +24,9 @@ use Rattle.calendar.proofs.Valid.{test-time, moment-passes}
 use Rattle.stamp.specs.Stamps.{westOf, offsetIn, offsetExists, stampIn, stampOf, offsetText, stampText, IsOffset, plainOffset, plain, writtenOf}
 use Rattle.stamp.specs.declared.Stamp.{Stamp}
 use Rattle.stamp.proofs.Grammar.{OffsetForm, zulu-form, east-form, west-form, parts}
-use Rattle.stamp.proofs.Offsets.{offset-passes, offset-short}
+use Rattle.stamp.proofs.Offsets.{offset-passes}
 use Rattle.stamp.proofs.Readings.{Exists, Reading, stamp, year-zero, no-stamp, one-of-three}
+use Rattle.stamp.proofs.Writings.{text-short}
 
 -- a moment's text in capitals is the moment written
 moment-plain : (t u : List ℕ) → ofForm (momentForm (code "T")) t ≡ true → momentText (code "T") (momentIn (t ++ u)) ≡ map capitalOf t
@@ -159,5 +160,5 @@ pub read-writes : (s : List ℕ) (st : Stamp) (room : ℕ) → stampOf s ≡ giv
 unfolding writtenOf
 read-writes s st room h l =
     let again = read-again s st h in
-    let fits : length (stampText st) ≤ room = omega (arith, offset-short (st .offset)) in
+    let fits : length (stampText st) ≤ room = omega (arith, text-short st) in
     rw (moment-passes (again .moment), offset-passes (again .offset), le-leb (length (stampText st)) room fits, again .text)

@@ -5,26 +5,26 @@ use native.Mathlib.Omega.{arith}
 use mathlib.Core.Path.{_≡_, refl, ap, _∙_}
 use mathlib.Core.Bool.{Bool, true, false, _||_, _&&_, cond}
 use mathlib.Core.List.{List, _++_}
-use lib.Dec.{eqb, leb}
-use lib.ListN.{length}
+use lib.Dec.{eqb}
 use borrow.Author.Tests.{eqb-true, ne-eqb}
-use Rattle.refusals.specs.Table.{NoNow, NoStamp, NoRoom}
+use Rattle.refusals.specs.Table.{NoStamp}
 use Rattle.refusals.specs.Answers.{Answer, given, refuse}
+use Rattle.refusals.proofs.Holds.{given-holds}
 use Rattle.digits.specs.Bytes.{bytesOf}
 use Rattle.digits.specs.Digits.{digitOf}
 use Rattle.digits.specs.Forms.{ofForm}
 use Rattle.digits.proofs.Forms.{form-behind}
 use Rattle.digits.proofs.Says.{digit-is, two-say}
-use Rattle.calendar.specs.Moments.{IsMoment, isMoment, isTime}
+use Rattle.calendar.specs.Moments.{IsMoment, isTime}
 use Rattle.calendar.specs.Fixed.{momentForm, momentText}
 use Rattle.calendar.specs.declared.moments.Moment.{Moment}
 use Rattle.calendar.proofs.ReadBack.{moment-fits, moment-back}
-use Rattle.calendar.proofs.Valid.{test-moment, day-passes, time-passes}
+use Rattle.calendar.proofs.Valid.{day-passes, time-passes}
 use Rattle.stamp.specs.Grammar.{date-time, isOf}
-use Rattle.stamp.specs.Stamps.{IsOffset, offsetText, offsetIn, offsetExists, isOffset, stampText, stampOf, writtenOf, inYears, momentExists}
+use Rattle.stamp.specs.Stamps.{IsOffset, offsetText, offsetIn, offsetExists, stampText, stampOf, writtenOf, inYears, momentExists}
 use Rattle.stamp.specs.declared.Offset.{Offset}
 use Rattle.stamp.specs.declared.Stamp.{Stamp}
-use Rattle.stamp.proofs.Offsets.{test-offset}
+use Rattle.stamp.proofs.Writings.{writing}
 
 -- behind a moment that is written only the offset is judged
 offset-judged :
@@ -94,16 +94,6 @@ text-reads st h l =
 
 -- whatever is written is read as what was written
 pub written-reads : (st : Stamp) (room : ℕ) (text : List ℕ) → writtenOf st room ≡ given text → stampOf text ≡ given st
-unfolding writtenOf
-written-reads st room text =
-    go (isMoment (st .moment)) refl (isOffset (st .offset)) refl (leb (length (stampText st)) room)
-  where
-    go : (a : Bool) → isMoment (st .moment) ≡ a → (b : Bool) → isOffset (st .offset) ≡ b → (c : Bool) →
-        cond a (cond b (cond c (given (stampText st)) (refuse NoRoom 0 0)) (refuse NoStamp 0 0)) (refuse NoNow 0 0) ≡ given text →
-        stampOf text ≡ given st
-    go true p true q true e =
-        let same : stampText st ≡ text = cc in
-        rw (← same) (text-reads st (test-moment (st .moment) p) (test-offset (st .offset) q))
-    go true p true q false e = let z : _≡_ {A = ℕ} 0 1 = cc in absurd (omega arith)
-    go true p false q c e = let z : _≡_ {A = ℕ} 0 1 = cc in absurd (omega arith)
-    go false p b q c e = let z : _≡_ {A = ℕ} 0 1 = cc in absurd (omega arith)
+written-reads st room text e =
+    let wrote = given-holds (writing st room) e in
+    rw (← (wrote .is)) (text-reads st (wrote .moment) (wrote .offset))
