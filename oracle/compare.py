@@ -152,17 +152,17 @@ def answer_like(now, phrase, classes):
     try:
         lexemes, places = lex_like(phrase, classes)
         fields.append(model.show_lexemes(lexemes))
-        reading, taken = model.read(lexemes)
-        fields += [model.show_reading(reading), str(taken)]
+        tree, taken = model.read(lexemes)
+        fields += [model.show_tree(tree), str(taken)]
         model.all_taken(taken, places, phrase)
         at_now = Like(now_like(now, classes), classes)
-        fields.append(model.show_moment(at_now, at_now.date_time(reading)))
+        fields.append(model.show_moment(at_now, at_now.date_time(tree)))
     except Refused as refusal:
         fields.append(str(refusal))
     return "|".join(fields)
 
 
-# What the Rust answers where the model refuses: only an overflow in a number panics in the reading, and only steps after it
+# What the Rust answers where the model refuses: only an overflow in a number panics in the parsers, and only steps after them
 RUST_FAILS = {1: ["error"], 2: ["error"], 3: ["error"], 4: ["error"], 5: ["error"], 6: ["panic"], 7: ["error"], 8: ["no now"],
               9: ["error"], 10: ["error"], 11: ["error"], 12: ["error", "panic"], 13: ["error", "panic"]}
 

@@ -4,7 +4,7 @@
 The parsers stand in the Rust's order under the Rust's names, so that both can be read side by side. Where the paper
 and the Rust differ, the paper decides, and a comment with "01:" says so.
 
-    model.py              lines NOW|PHRASE in, lines LEXEMES|READING|TAKEN|MOMENT out
+    model.py              lines NOW|PHRASE in, lines LEXEMES|TREE|TAKEN|MOMENT out
     model.py --fuzzy      what the program `fuzzy` prints for standard input
     model.py --selftest   every row of the paper's table, and the paper's listing
 
@@ -102,7 +102,7 @@ def judge(part):
 # ---------------------------------------------------------------- ast.rs, the parsers
 #
 # A parser takes the lexemes from its place on and answers None, or what it read and how many lexemes it took.
-# A reading is the Rust's tree: a variant with fields is a tuple that begins with its name, one without is its name.
+# A tree is the Rust's: a variant with fields is a tuple that begins with its name, one without is its name.
 
 
 def get(l, i):
@@ -571,7 +571,7 @@ class Num:
 
 
 def read(lexemes):
-    """The reading and the lexemes taken, or refusal 5 or 6."""
+    """The tree and the lexemes taken, or refusal 5 or 6."""
     found = DateTime.parse(lexemes)
     if not found:
         raise Refused(5)
@@ -688,9 +688,9 @@ class Evaluation:
 
     # to_chrono
 
-    def date_time(self, reading):
+    def date_time(self, tree):
         """`DateTime::to_chrono`. 01: the date, the time of day, then outer durations, innermost first."""
-        match reading:
+        match tree:
             case "Now":
                 return self.now
             case ("DateTime", date, time) | ("TimeDate", time, date):
@@ -811,12 +811,12 @@ def show_lexemes(lexemes):
     return " ".join(f"Num({lexeme})" if is_literal(lexeme) else lexeme for lexeme in lexemes)
 
 
-def show_reading(reading):
+def show_tree(tree):
     """The Rust's Debug form without blanks."""
-    if isinstance(reading, tuple):
-        name, *fields = reading
-        return f"{name}({','.join(map(show_reading, fields))})"
-    return str(reading)
+    if isinstance(tree, tuple):
+        name, *fields = tree
+        return f"{name}({','.join(map(show_tree, fields))})"
+    return str(tree)
 
 
 def show_moment(evaluation, moment):
@@ -833,11 +833,11 @@ def answer(now_text, phrase):
     try:
         lexemes, places = lex_line(phrase)
         fields.append(show_lexemes(lexemes))
-        reading, taken = read(lexemes)
-        fields += [show_reading(reading), str(taken)]
+        tree, taken = read(lexemes)
+        fields += [show_tree(tree), str(taken)]
         all_taken(taken, places, phrase)
         at_now = Evaluation(read_now(now_text))
-        fields.append(show_moment(at_now, at_now.date_time(reading)))
+        fields.append(show_moment(at_now, at_now.date_time(tree)))
     except Refused as refusal:
         fields.append(str(refusal))
     return "|".join(fields)
