@@ -8,7 +8,7 @@ use Rattle.calendar.specs.Moments.{Outcome, moment, refused, isMoment, andThen,
 use Rattle.calendar.specs.declared.moments.Moment.{Moment}
 use Rattle.numbers.specs.Slices.{oneIf}
 use Rattle.refusals.specs.Table as refusal
-use Rattle.evaluation.specs.Weekdays.{inWeek, fromToday, backTo}
+use Rattle.evaluation.specs.Weekdays.{inWeek, forwardTo, backTo}
 use Rattle.evaluation.specs.Dates.{dateAt}
 use Rattle.evaluation.specs.Times.{timeAt}
 use Rattle.steps.specs.declared.plan.Start.{Start}
@@ -24,7 +24,7 @@ startAt Now t = moment t
 startAt Senseless t = refused refusal.NoSense
 startAt (OnDate d) t = dateAt d t
 startAt (InWeek s w) t = inWeek s (w % 7) t
-startAt (FromToday w) t = fromToday (w % 7) t
+startAt (FromToday w) t = forwardTo (w % 7) t
 
 -- "fixed length, months, years, back to a weekday", from t
 abbrev pub moveBy : Move → Moment → Outcome
