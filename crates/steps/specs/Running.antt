@@ -14,7 +14,7 @@ use Rattle.evaluation.specs.Times.{timeAt}
 use Rattle.steps.specs.declared.plan.Start.{Start}
 use Rattle.steps.specs.declared.plan.Start.the-variants.{Now, Senseless, OnDate, InWeek, FromToday}
 use Rattle.steps.specs.declared.plan.Move.{Move}
-use Rattle.steps.specs.declared.plan.Move.the-variants.{Minutes, Months, Years, BackTo}
+use Rattle.steps.specs.declared.plan.Move.the-variants.{Minutes, Months, Years, BackTo, ForwardTo}
 use Rattle.steps.specs.declared.plan.Step.{Step}
 use Rattle.steps.specs.declared.plan.Step.the-variants.{From, By, AtTime}
 
@@ -26,12 +26,13 @@ startAt (OnDate d) t = dateAt d t
 startAt (InWeek s w) t = inWeek s (w % 7) t
 startAt (FromToday w) t = forwardTo (w % 7) t
 
--- "fixed length, months, years, back to a weekday", from t
+-- "fixed length, months, years, back to a weekday" or on to one, from t
 abbrev pub moveBy : Move → Moment → Outcome
 moveBy (Minutes back k) t = minutesStep back k t
 moveBy (Months back k) t = monthsStep back k t
 moveBy (Years back k) t = yearsStep back k t
 moveBy (BackTo w) t = backTo (w % 7) t
+moveBy (ForwardTo w) t = forwardTo (w % 7) t
 
 -- these, or the "time of day": a step from t, at the now n
 abbrev pub actOf : Step → Moment → Moment → Outcome

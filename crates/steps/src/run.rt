@@ -40,6 +40,7 @@ fn move_by(way: Move, t: Moment) -> Reached
         Move::Months { back, count } => t.months_step(back, count as u64),
         Move::Years { back, count } => t.years_step(back, count as u64),
         Move::BackTo(w) => back_to(w % 7, t),
+        Move::ForwardTo(w) => forward_to(w % 7, t),
     }
 }
 
