@@ -23,7 +23,7 @@ use Rattle.expressions.specs.Tree.{relativeWeekday, weekdayRelative, weekdayExp
 use Rattle.phrase.specs.Tree.{DateTime, dateTime, timeDate, durationAfter, durationBefore, now}
 use Rattle.refusals.specs.Table as refusal
 use Rattle.evaluation.specs.Steps.{unitStep, durationStep}
-use Rattle.evaluation.specs.Weekdays.{inWeek, fromToday, backTo}
+use Rattle.evaluation.specs.Weekdays.{inWeek, forwardTo, backTo}
 use Rattle.evaluation.specs.Dates.{dateAt}
 use Rattle.evaluation.specs.Times.{timeAt}
 use Rattle.evaluation.specs.Cases.{Case, row, A, B}
@@ -95,7 +95,7 @@ dateExprAt (after dur d) t = andThen (dateAt d t) (durationStep false dur)
 dateExprAt (unitRelative s u) t = unitRelativeAt s u t
 dateExprAt (relativeWeekday s w) t = inWeek s (w % 7) t
 dateExprAt (weekdayRelative w s u) t = weekdayRelativeAt w s u t
-dateExprAt (weekday w) t = fromToday (w % 7) t
+dateExprAt (weekday w) t = forwardTo (w % 7) t
 dateExprAt empty t = moment t
 
 -- `DateTime::to_chrono`: "date, time of day, then outer durations, innermost first"

@@ -3,7 +3,7 @@ use super::date::date_at;
 use super::step::duration_step;
 use super::step::unit_step;
 use super::weekday::back_to;
-use super::weekday::from_today;
+use super::weekday::forward_to;
 use super::weekday::in_week;
 use calendar::moments::Moment;
 use calendar::moments::Reached;
@@ -152,7 +152,7 @@ pub(crate) fn expr_at(expr: Expr, parts: Parts, own: u8, t: Moment) -> Reached
         Expr::WeekdayExpressionBefore(w) => weekday_before(w, parts, own, t),
         Expr::Before(d) => from_date(date_at(d, t), true, parts, own),
         Expr::After(d) => from_date(date_at(d, t), false, parts, own),
-        Expr::Weekday(w) => from_today(w % 7, t),
+        Expr::Weekday(w) => forward_to(w % 7, t),
         Expr::Empty => Reached::At(t),
     }
 }

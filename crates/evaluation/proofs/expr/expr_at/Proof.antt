@@ -89,8 +89,8 @@ from-date-requires-4 c κs = own (c .before .before .before .before) (c .before 
 enum-known-expr-11 : tie.Need-enum-known-expr-11
 enum-known-expr-11 c = search needs
 
-from-today-requires : tie.Need-from-today-requires
-from-today-requires c κs = search needs
+forward-to-requires : tie.Need-forward-to-requires
+forward-to-requires c κs = search needs
 
 enum-told : tie.Need-enum-told
 enum-told c = search needs
@@ -126,7 +126,7 @@ returns-10 : tie.Need-returns-10
 returns-10 c = rw (c .before .before .before .expr10 .given .1, ← (c .before .date-at5 .ensures .0)) (c .from-date4 .ensures)
 
 returns-11 : tie.Need-returns-11
-returns-11 c = rw (c .before .before .expr11 .given .1) (c .from-today .ensures)
+returns-11 c = rw (c .before .before .expr11 .given .1) (c .forward-to .ensures)
 
 returns-12 : tie.Need-returns-12
 returns-12 c = rw (c .enum-told .given .1) (refl, moment-valid (c .before .before .pre .0))
@@ -160,7 +160,7 @@ expr-at-spec =
     date-at-requires-5
     from-date-requires-4
     enum-known-expr-11
-    from-today-requires
+    forward-to-requires
     enum-told
     returns
     returns-2
