@@ -30,7 +30,6 @@ run k (b ∷ bs) = cond (eqb (classOf b) k) (suc (run k bs)) 0
 abbrev pub runEnd : ℕ → List ℕ → ℕ → ℕ
 runEnd k s a = a + run k (drop a s)
 
-
 -- `stack.parse::<u32>()`: a digit run by its value, however long it is
 unfoldable pub numberOf : List ℕ → Digits
 numberOf s = cond (leb (valueFrom 0 s) 4294967295) (Value (valueFrom 0 s)) Over
