@@ -18,7 +18,9 @@ use Rattle.dates.specs.declared.units.WeekdayFound.{WeekdayFound}
 use Rattle.dates.specs.declared.units.WeekdayFound.the-variants.{Is as IsWeekday, Nothing as NoWeekday}
 use Rattle.dates.specs.declared.units.SpecifierFound.{SpecifierFound}
 use Rattle.dates.specs.declared.units.SpecifierFound.the-variants.{Is as IsSpecifier, Nothing as NoSpecifier}
-use Rattle.answer.specs.Answer.{Answer, at, refusedAt, answerFrom}
+use Rattle.refusals.specs.Answers.{Answer, given, refused as refusedAnswer}
+use Rattle.calendar.specs.declared.moments.Moment.{Moment}
+use Rattle.answer.specs.Answer.{answerFrom}
 use Rattle.answer.specs.declared.Answered.{Answered}
 use Rattle.answer.specs.declared.Answered.the-variants.{At as AnsweredAt, Refused as AnsweredRefused}
 use Rattle.dates.specs.declared.date.Date.{Date}
@@ -102,13 +104,13 @@ reached-back (Refused k) = refl
 pub reached-one : (x y : Reached) → reachedOf x ≡ reachedOf y → x ≡ y
 reached-one = given-back reachedOf reached reached-back
 
-abbrev answered : Answer → Answered
-answered (at t) = AnsweredAt t
-answered (refusedAt k a e) = AnsweredRefused k a e
+abbrev answered : Answer Moment → Answered
+answered (given t) = AnsweredAt t
+answered (refusedAnswer r) = AnsweredRefused r
 
 answered-back : (x : Answered) → answered (answerFrom x) ≡ x
 answered-back (AnsweredAt t) = refl
-answered-back (AnsweredRefused k a e) = refl
+answered-back (AnsweredRefused r) = refl
 
 pub answered-one : (x y : Answered) → answerFrom x ≡ answerFrom y → x ≡ y
 answered-one = given-back answerFrom answered answered-back

@@ -6,6 +6,7 @@ use lexer::lex::Ended;
 use lexer::lex::lex;
 use lexer::part::offending;
 use libc::STDOUT_FILENO;
+use refusals::Refusal;
 ghost use Prim.Native.Nat.{_≤_};
 
 // A number behind a text.
@@ -35,10 +36,10 @@ fn write_lexemes(codes: &[u64; 64], starts: &[u8; 64], count: usize)
 }
 
 // A refusal, `refused 2 at 3 to 8 part 5`.
-fn write_refusal(number: u8, place: usize, end: usize, part: &[u8]) {
-    write_number(b"refused ", number as u64);
-    write_number(b" at ", place as u64);
-    write_number(b" to ", end as u64);
+fn write_refusal(refusal: Refusal, part: &[u8]) {
+    write_number(b"refused ", refusal.number as u64);
+    write_number(b" at ", refusal.place as u64);
+    write_number(b" to ", refusal.end as u64);
     write_number(b" part ", part.len() as u64);
 }
 
@@ -46,11 +47,11 @@ fn write_refusal(number: u8, place: usize, end: usize, part: &[u8]) {
 fn write_line(phrase: &[u8], r: Ended, codes: &[u64; 64], starts: &[u8; 64])
     requires { ⌜ r .count ≤ 64 ⌝ }
 {
-    let number = r.number;
-    if number == 0 {
+    let refusal = r.refusal;
+    if refusal.number == 0 {
         write_lexemes(codes, starts, r.count);
     } else {
-        write_refusal(number, r.place, r.end, offending(phrase));
+        write_refusal(refusal, offending(phrase));
     }
     io::write_all(STDOUT_FILENO, b"\n");
 }

@@ -26,13 +26,9 @@ fn write_refusal(n: u8, place: usize, end: usize) {
 
 // The answer to a phrase at a now.
 fn write_answer(phrase: &[u8], t: Moment) {
-    match answer(phrase, t.year, t.month, t.day, t.hour, t.minute, t.second) {
+    match answer(phrase, t) {
         Answered::At(u) => moment(u),
-        Answered::Refused {
-            number: n,
-            place,
-            end,
-        } => write_refusal(n, place, end),
+        Answered::Refused(r) => write_refusal(r.number, r.place, r.end),
     }
 }
 
@@ -62,11 +58,12 @@ fn write_run(plan: Plan, t: Moment) {
 // The phrase made ready, run at a now, and the count of its steps.
 fn write_ready(phrase: &[u8], t: Moment) {
     let made = make_ready(phrase);
-    if made.number == 0 {
+    let refusal = made.refusal;
+    if refusal.number == 0 {
         let plan = made.plan;
         write_run(plan, t);
     } else {
-        write_refusal(made.number, made.place, made.end);
+        write_refusal(refusal.number, refusal.place, refusal.end);
         text(b"|0");
     }
 }

@@ -13,16 +13,12 @@ use text::now::now_of;
 // What a phrase is read as, and its moment at a now or its refusal.
 fn write_answer(phrase: &[u8], t: Moment) {
     write_phrase(phrase);
-    match answer(phrase, t.year, t.month, t.day, t.hour, t.minute, t.second) {
+    match answer(phrase, t) {
         Answered::At(u) => moment(u),
-        Answered::Refused {
-            number: n,
-            place,
-            end,
-        } => {
-            number(b"refused ", n as u64);
-            number(b" at ", place as u64);
-            number(b" to ", end as u64);
+        Answered::Refused(r) => {
+            number(b"refused ", r.number as u64);
+            number(b" at ", r.place as u64);
+            number(b" to ", r.end as u64);
         }
     }
     text(b"\n");

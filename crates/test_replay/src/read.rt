@@ -29,7 +29,7 @@ pub fn write_phrase(phrase: &[u8]) {
     let mut codes = [0u64; 64];
     let mut starts = [0u8; 64];
     let r = lex(phrase, &mut codes, &mut starts);
-    if r.number == 0 {
+    if r.refusal.number == 0 {
         let n = r.count;
         let lexemes = &codes[..n];
         write_lexemes(lexemes);
