@@ -1,6 +1,6 @@
 #!/usr/bin/env python3
 """What lexing answers, worked out apart from the code: writes this program's stdin and the stdout that it must give, each answer on two lines,
-since the program lexes by the lexer and by a reader.
+since the program lexes by the lexer and by a reader, and behind them the unread rest behind the first token.
 
 The rules are those of document 01 (the refusal table and module 2), the words are the `map.insert` lines of the Rust's lexer.rs and the
 lexemes the variants of its enum, both in their order.
@@ -54,18 +54,29 @@ def code_of(part):
     return MARKS.get(part, -2)
 
 
+# a word, a number, or one byte of any other kind
+TOKEN = re.compile(rb"[A-Za-z]+|[0-9]+|[^ \t]")
+
+
 def answer(phrase):
     if len(phrase) > 256:
-        return "refused 1 at 0 to 0 part 0"
+        return b"refused 1 at 0 to 0 part "
     lexemes = []
-    for match in re.finditer(rb"[A-Za-z]+|[0-9]+|[^ \t]", phrase):
+    for match in TOKEN.finditer(phrase):
         code = code_of(match.group())
         if code >= 0 and len(lexemes) == 64:
             code = -4
         if code < 0:
-            return f"refused {-code} at {match.start()} to {match.end()} part {len(match.group())}"
-        lexemes.append(f"{code}@{match.start()}")
-    return " ".join(lexemes)
+            return b"refused %d at %d to %d part %s" % (-code, match.start(), match.end(), match.group())
+        lexemes.append(b"%d@%d" % (code, match.start()))
+    return b" ".join(lexemes)
+
+
+def behind_first(phrase):
+    """A reader behind a token stands at the token's end; with no token it stays at the start."""
+    match = TOKEN.search(phrase)
+    end = match.end() if match else 0
+    return b"behind %d rest %s" % (end, phrase[end:])
 
 
 def mixed_case(word):
@@ -137,4 +148,5 @@ text = b"\n".join(phrases)
 assert len(text) < 65536
 crate = pathlib.Path(__file__).resolve().parent.parent
 (crate / "stdin").write_bytes(text)
-(crate / "stdout").write_text("".join(2 * (answer(phrase) + "\n") for phrase in [bytes([b]) for b in range(256)] + phrases))
+told = (2 * (answer(phrase) + b"\n") + behind_first(phrase) + b"\n" for phrase in [bytes([b]) for b in range(256)] + phrases)
+(crate / "stdout").write_bytes(b"".join(told))

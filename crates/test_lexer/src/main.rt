@@ -1,11 +1,12 @@
-// Lexes every single byte as a phrase, then each line of standard input, and writes two lines for each: what the lexer answers, and what
-// lexing by a reader answers. An answer is the lexemes' codes with their places, or the refusal with its place, the end of its part and
-// the part's length.
+// Lexes every single byte as a phrase, then each line of standard input, and writes three lines for each: what the lexer answers, what
+// lexing by a reader answers, and where a reader stands behind the first token, with the unread rest. An answer is the lexemes' codes
+// with their places, or the refusal with its place, the end of its part and the part.
 use bytes::scan;
 use lexer::lex::Ended;
 use lexer::lex::lex;
 use lexer::part::offending;
 use libc::STDOUT_FILENO;
+use reader::Lexer;
 use refusals::Refusal;
 ghost use Prim.Native.Nat.{_≤_};
 
@@ -35,12 +36,13 @@ fn write_lexemes(codes: &[u64; 64], starts: &[u8; 64], count: usize)
     }
 }
 
-// A refusal, `refused 2 at 3 to 8 part 5`.
+// A refusal, `refused 2 at 3 to 8 part forty`.
 fn write_refusal(refusal: Refusal, part: &[u8]) {
     write_number(b"refused ", refusal.number as u64);
     write_number(b" at ", refusal.place as u64);
     write_number(b" to ", refusal.end as u64);
-    write_number(b" part ", part.len() as u64);
+    io::write_all(STDOUT_FILENO, b" part ");
+    io::write_all(STDOUT_FILENO, part);
 }
 
 // An answer to a phrase.
@@ -56,6 +58,21 @@ fn write_line(phrase: &[u8], r: Ended, codes: &[u64; 64], starts: &[u8; 64])
     io::write_all(STDOUT_FILENO, b"\n");
 }
 
+// A place of a reader and the unread rest, `behind 4 rest  friday`.
+fn write_rest(place: usize, rest: &[u8]) {
+    write_number(b"behind ", place as u64);
+    io::write_all(STDOUT_FILENO, b" rest ");
+    io::write_all(STDOUT_FILENO, rest);
+    io::write_all(STDOUT_FILENO, b"\n");
+}
+
+// Where a reader stands behind the first token of a phrase.
+fn write_behind(phrase: &[u8]) {
+    let first = Lexer::new(phrase);
+    let r = first.behind(first.next());
+    write_rest(r.place(), r.unread());
+}
+
 // What lexing answers to a phrase, and what lexing by a reader does.
 fn write_answer(phrase: &[u8]) {
     let mut codes = [0u64; 64];
@@ -64,6 +81,7 @@ fn write_answer(phrase: &[u8]) {
     write_line(phrase, r, &codes, &starts);
     let by_reader = reader::lex(phrase, &mut codes, &mut starts);
     write_line(phrase, by_reader, &codes, &starts);
+    write_behind(phrase);
 }
 
 // Every single byte as a phrase.

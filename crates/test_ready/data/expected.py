@@ -1,10 +1,12 @@
 #!/usr/bin/env python3
-"""What phrases answer at several nows, directly and made ready, and how many steps they are made ready as.
+"""What phrases answer at several nows, directly and made ready, how many steps they are made ready as, and the part that reading refuses.
 
 The answers are those of the paper's model (oracle/model.py). The steps are counted here, from the model's reading and the paper's "Steps of a ready phrase".
+The offending part is the phrase's own bytes from the refusal's place up to its end.
 Use: python3 expected.py   (it writes ../stdin and ../stdout)
 """
 import pathlib
+import re
 import sys
 
 crate = pathlib.Path(__file__).resolve().parent.parent
@@ -88,14 +90,20 @@ def count(phrase):
         return 0
 
 
+def part(answer, phrase):
+    """The offending part of a phrase that reading refuses, behind a bar."""
+    refused = re.fullmatch(r"refused [1-7] at (\d+) to (\d+)", answer)
+    return "|" + phrase[int(refused[1]):int(refused[2])] if refused else ""
+
+
 lines, answers = [], []
 for phrase in PHRASES:
     for now in NOWS:
         lines.append(f"{now}|{phrase}\n")
         answer = model.answer(now.encode(), phrase.encode()).rsplit("|", 1)[-1]
-        answers.append(f"{answer}|{answer}|{count(phrase.encode())}\n")
+        answers.append(f"{answer}|{answer}|{count(phrase.encode())}{part(answer, phrase)}\n")
 text = "".join(lines)
 assert len(text) < 65536
 (crate / "stdin").write_text(text)
 (crate / "stdout").write_text("".join(answers))
-print(len(lines), "lines, at most", max(int(a.rsplit("|", 1)[1]) for a in answers), "steps")
+print(len(lines), "lines, at most", max(int(a.split("|")[2]) for a in answers), "steps")

@@ -1,11 +1,12 @@
 // Reads lines `YYYY-MM-DD HH:MM:SS|PHRASE` on standard input and writes for each the answer to the phrase at that now, the answer of the
-// records that it is made ready as, run at that now, and how many they are.
+// records that it is made ready as, run at that now, and how many they are; and the offending part of a phrase that reading refuses.
 use answer::Answered;
 use answer::answer;
 use bytes::scan;
 use calendar::fixed::moment_in;
 use calendar::moments::Moment;
 use calendar::moments::Reached;
+use phrase::read::offending;
 use ready::make_ready;
 use records::record::encode;
 use records::run::run_ready;
@@ -55,7 +56,7 @@ fn write_run(plan: Plan, t: Moment) {
     number(b"|", n as u64);
 }
 
-// The phrase made ready, run at a now, and the count of its steps.
+// The phrase made ready, run at a now, and the count of its steps; or the refusal, no step and the offending part.
 fn write_ready(phrase: &[u8], t: Moment) {
     let made = make_ready(phrase);
     let refusal = made.refusal;
@@ -64,7 +65,8 @@ fn write_ready(phrase: &[u8], t: Moment) {
         write_run(plan, t);
     } else {
         write_refusal(refusal.number, refusal.place, refusal.end);
-        text(b"|0");
+        text(b"|0|");
+        text(offending(phrase));
     }
 }
 
