@@ -1,2 +1,2 @@
 pub mod ReadyNumbers
-pub mod Back
+pub mod Readings

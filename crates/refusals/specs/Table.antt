@@ -1,4 +1,4 @@
--- The paper's table of refusal numbers, "tested in this order".
+-- The paper's table of refusal numbers, 1 to 13 "tested in this order".
 use Prim.Native.Nat.{ℕ}
 
 -- "phrase longer than 256 bytes"
@@ -52,3 +52,7 @@ Outside = 12
 -- "a year step from 29 February into a common year"
 abbrev pub NoLeapDay : ℕ
 NoLeapDay = 13
+
+-- "15 for any other reading number, before 1"
+abbrev pub NoReading : ℕ
+NoReading = 15

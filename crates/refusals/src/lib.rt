@@ -1,4 +1,4 @@
-// The paper's refusal numbers, in the order in which they are tested, under the names of include/fuzzy.h; and a refusal's place.
+// The paper's refusal numbers, 1 to 13 in the order in which they are tested, under the names of include/fuzzy.h; and a refusal's place.
 
 // A refusal: its number, its place in the phrase and the end of its part. Number 0: nothing is refused.
 pub struct Refusal {
@@ -52,3 +52,6 @@ pub const OUTSIDE: u8 = 12;
 
 // A year step leads from 29 February into a common year.
 pub const NO_LEAP_DAY: u8 = 13;
+
+// The reading that is asked for is neither 1 nor 2; tested before all the others.
+pub const NO_READING: u8 = 15;
