@@ -1,15 +1,15 @@
--- `test_replay::write_lines` is safe and ends.
+-- `test_lines::write_lines` is safe and ends.
 use Prim.Native.Nat.{_-_, _≤_}
 use lib.ListN.{length}
 use borrow.Author.Needs.{needs}
-use Rattle.test_replay.proofs.write_lines.Statement.{statement}
-use Rattle.test_replay.proofs.write_lines.Tie as tie
+use Rattle.test_lines.proofs.write_lines.Statement.{statement}
+use Rattle.test_lines.proofs.write_lines.Tie as tie
 
 abbrev Inv-loop : tie.InvT-loop
-Inv-loop s at₀ at = at ≤ length s
+Inv-loop reading s at₀ at = at ≤ length s
 
 abbrev μ-loop : tie.MeasureT-loop
-μ-loop s at₀ at = length s - at
+μ-loop reading s at₀ at = length s - at
 
 loop-holds : tie.Need-loop-holds Inv-loop μ-loop
 loop-holds c = search needs

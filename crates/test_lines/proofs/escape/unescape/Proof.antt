@@ -1,12 +1,12 @@
--- `test_replay::unescape` is safe and ends.
+-- `test_lines::unescape` is safe and ends.
 use Prim.Native.Nat.{_-_, _≤_}
 use mathlib.Core.Path.{_≡_, sym}
 use native.Mathlib.Omega.{arith}
 use lib.ListN.{length, length-set}
 use lib.Seq.{length-take-le}
 use borrow.Author.Needs.{needs}
-use Rattle.test_replay.proofs.escape.unescape.Statement.{statement}
-use Rattle.test_replay.proofs.escape.unescape.Tie as tie
+use Rattle.test_lines.proofs.escape.unescape.Statement.{statement}
+use Rattle.test_lines.proofs.escape.unescape.Tie as tie
 
 abbrev Inv-loop : tie.InvT-loop
 Inv-loop line from phrase₀ i₀ n₀ phrase i n = (n ≤ length phrase) × (length phrase ≡ length phrase₀)

@@ -1,9 +1,9 @@
--- `test_replay::write_line` is safe and ends.
+-- `test_lines::write_line` is safe and ends.
 use mathlib.Core.Path.{sym}
 use lib.Seq.{length-take-le}
 use borrow.Author.Needs.{needs}
-use Rattle.test_replay.proofs.line.write_line.Statement.{statement}
-use Rattle.test_replay.proofs.line.write_line.Tie as tie
+use Rattle.test_lines.proofs.line.write_line.Statement.{statement}
+use Rattle.test_lines.proofs.line.write_line.Tie as tie
 
 find-requires : tie.Need-find-requires
 find-requires c κs = search needs

@@ -1,7 +1,7 @@
--- `test_replay::write_read` is safe and ends.
+-- `test_lines::write_read` is safe and ends.
 use borrow.Author.Needs.{needs}
-use Rattle.test_replay.proofs.read.write_read.Statement.{statement}
-use Rattle.test_replay.proofs.read.write_read.Tie as tie
+use Rattle.test_lines.proofs.read.write_read.Statement.{statement}
+use Rattle.test_lines.proofs.read.write_read.Tie as tie
 
 gather-requires : tie.Need-gather-requires
 gather-requires c κs = search needs

@@ -1,5 +1,6 @@
 // A phrase as far as it is read.
 use lexer::lex::lex;
+use lexer::reading::Reading;
 use phrase::date_time::Count;
 use phrase::gather::gather;
 use test_print::lexemes::write_lexemes;
@@ -10,10 +11,10 @@ ghost use Prim.Native.Nat.{_≤_};
 ghost use lib.ListN.{length};
 
 // The reading and the lexemes taken, with a bar behind each; nothing where nothing is read.
-fn write_read(codes: &[u64])
+fn write_read(reading: Reading, codes: &[u64])
     requires { ⌜ length (now codes) ≤ 64 ⌝ }
 {
-    let x = gather(codes, 0);
+    let x = gather(reading, codes, 0);
     let taken = x.taken;
     let Count::Is(t) = taken else {
         return;
@@ -25,7 +26,7 @@ fn write_read(codes: &[u64])
 }
 
 // The lexemes of a phrase, its reading and the lexemes taken, with a bar behind each: as many of the three as there are.
-pub fn write_phrase(phrase: &[u8]) {
+pub(crate) fn write_phrase(reading: Reading, phrase: &[u8]) {
     let mut codes = [0u64; 64];
     let mut starts = [0u8; 64];
     let r = lex(phrase, &mut codes, &mut starts);
@@ -34,6 +35,6 @@ pub fn write_phrase(phrase: &[u8]) {
         let lexemes = &codes[..n];
         write_lexemes(lexemes);
         text(b"|");
-        write_read(lexemes);
+        write_read(reading, lexemes);
     }
 }

@@ -1,10 +1,10 @@
--- `test_replay::keep` is safe and ends.
+-- `test_lines::keep` is safe and ends.
 use Prim.Native.Nat.{_-_, _≤_}
 use mathlib.Core.Path.{_≡_}
 use lib.ListN.{length}
 use borrow.Author.Needs.{needs}
-use Rattle.test_replay.proofs.keep.Statement.{statement}
-use Rattle.test_replay.proofs.keep.Tie as tie
+use Rattle.test_lines.proofs.keep.Statement.{statement}
+use Rattle.test_lines.proofs.keep.Tie as tie
 
 abbrev Inv-loop : tie.InvT-loop
 Inv-loop piece₀ from to n₀ i₀ piece n i = (length piece ≡ length piece₀) × (n ≤ i) × (n ≤ 2048)

@@ -1,11 +1,11 @@
--- `test_replay::write_phrase` is safe and ends.
+-- `test_lines::write_phrase` is safe and ends.
 use mathlib.Core.Path.{_≡_, sym, ap, _∙_}
 use native.Mathlib.Omega.{arith}
 use lib.ListN.{length, take}
 use lib.Seq.{length-sets, length-take-le}
 use borrow.Author.Needs.{needs}
-use Rattle.test_replay.proofs.read.write_phrase.Statement.{statement}
-use Rattle.test_replay.proofs.read.write_phrase.Tie as tie
+use Rattle.test_lines.proofs.read.write_phrase.Statement.{statement}
+use Rattle.test_lines.proofs.read.write_phrase.Tie as tie
 
 -- the codes' array has room for 64, and as many of them as there are lexemes are taken
 module _ (c : tie.After-lex) where

@@ -1,10 +1,10 @@
--- `test_replay::write_piece` is safe and ends.
+-- `test_lines::write_piece` is safe and ends.
 use mathlib.Core.Path.{sym}
 use native.Mathlib.Omega.{arith}
 use lib.Seq.{length-take-le}
 use borrow.Author.Needs.{needs}
-use Rattle.test_replay.proofs.write_piece.Statement.{statement}
-use Rattle.test_replay.proofs.write_piece.Tie as tie
+use Rattle.test_lines.proofs.write_piece.Statement.{statement}
+use Rattle.test_lines.proofs.write_piece.Tie as tie
 
 slice-reshare-prefix-write-lines : tie.Need-slice-reshare-prefix-write-lines
 slice-reshare-prefix-write-lines c = search needs

@@ -59,7 +59,7 @@ fn spelled_at(s: &[u8], i: usize) -> Spelled
 }
 
 // The phrase from a place of a line on, as far as there is room for it; how many bytes it has.
-pub fn unescape(line: &[u8], from: usize, phrase: &mut [u8]) -> usize
+pub(crate) fn unescape(line: &[u8], from: usize, phrase: &mut [u8]) -> usize
     ensures { λ r. ⌜ Counts r (now (phrase .exit)) ⌝ }
 {
     let mut i = from;

@@ -1,18 +1,18 @@
--- `test_replay::write_answers` is safe and ends.
+-- `test_lines::write_answers` is safe and ends.
 use Prim.Native.Nat.{_≤_}
 use mathlib.Core.Path.{_≡_, sym}
 use native.Mathlib.Omega.{arith}
 use lib.ListN.{length}
 use lib.Seq.{length-take-le}
 use borrow.Author.Needs.{needs}
-use Rattle.test_replay.proofs.write_answers.Statement.{statement}
-use Rattle.test_replay.proofs.write_answers.Tie as tie
+use Rattle.test_lines.proofs.write_answers.Statement.{statement}
+use Rattle.test_lines.proofs.write_answers.Tie as tie
 
 abbrev Inv-loop : tie.InvT-loop
-Inv-loop piece₀ held₀ turns₀ piece held turns = (length piece ≡ length piece₀) × (held ≤ 2048)
+Inv-loop reading piece₀ held₀ turns₀ piece held turns = (length piece ≡ length piece₀) × (held ≤ 2048)
 
 abbrev μ-loop : tie.MeasureT-loop
-μ-loop piece₀ held₀ turns₀ piece held turns = turns
+μ-loop reading piece₀ held₀ turns₀ piece held turns = turns
 
 loop-holds : tie.Need-loop-holds Inv-loop μ-loop
 loop-holds c = search needs
