@@ -34,7 +34,14 @@ extern "C" {
 /* The room that any stamp's text needs, in bytes; one with offset zero needs 20. */
 #define FUZZY_STAMP_SIZE 25
 
-/* Why a phrase or a ready phrase is refused. They are tested in this order. */
+/* The two readings of a phrase. They differ in what "in" behind a weekday means: at Wednesday, 11 February 2026, "tuesday in two weeks" is 27 January
+ * in the first, as the Rust library reads it, and 3 March in the second. Any other number is refused with 15, before everything else. */
+enum fuzzy_reading {
+    FUZZY_FIRST = 1,
+    FUZZY_SECOND = 2
+};
+
+/* Why a phrase or a ready phrase is refused. They are tested in this order, but for 15, which is tested first. */
 enum fuzzy_refusal {
     FUZZY_TOO_LONG = 1,        /* the phrase has more than 256 bytes */
     FUZZY_UNKNOWN = 2,         /* a word that is no keyword, or a byte with no meaning */
@@ -50,16 +57,18 @@ enum fuzzy_refusal {
     FUZZY_OUTSIDE = 12,        /* outside the years 1 to 9999 */
     FUZZY_NO_LEAP_DAY = 13,    /* a year step from 29 February into a common year */
     FUZZY_NO_STAMP = 14,       /* no RFC 3339 stamp: another form, or no such date, time or offset */
+    FUZZY_NO_READING = 15,     /* a reading other than 1 and 2 */
     FUZZY_NO_ROOM = 17         /* the lent text is too short */
 };
 
-/* A phrase at a now. 0: the moment's six numbers are in `moment`. Else a refusal. */
-uint64_t fuzzy_read(const uint8_t *phrase, size_t phrase_length, uint32_t year, uint32_t month, uint32_t day, uint32_t hour,
+/* A phrase at a now, in one of the two readings. 0: the moment's six numbers are in `moment`. Else a refusal. */
+uint64_t fuzzy_read(uint32_t reading, const uint8_t *phrase, size_t phrase_length, uint32_t year, uint32_t month, uint32_t day, uint32_t hour,
                     uint32_t minute, uint32_t second, uint32_t moment[FUZZY_MOMENT_NUMBERS]);
 
 /* A phrase made ready without a now, to be stored, sent and run later. fuzzy_number 0: the first fuzzy_length bytes of `ready` are the
- * ready phrase. Else a refusal of 1 to 7, the same that fuzzy_read gives. */
-uint64_t fuzzy_make_ready(const uint8_t *phrase, size_t phrase_length, uint8_t ready[FUZZY_READY_SIZE]);
+ * ready phrase. Else a refusal of 1 to 7 or 15, the same that fuzzy_read gives. The ready phrase's steps are those of the reading that it was
+ * made in; fuzzy_run does not ask for it again. */
+uint64_t fuzzy_make_ready(uint32_t reading, const uint8_t *phrase, size_t phrase_length, uint8_t ready[FUZZY_READY_SIZE]);
 
 /* A ready phrase at a now: what fuzzy_read gives for its phrase at that now. Bytes that are no ready phrase are refused with 9. */
 uint64_t fuzzy_run(const uint8_t *ready, size_t ready_length, uint32_t year, uint32_t month, uint32_t day, uint32_t hour, uint32_t minute,
@@ -102,6 +111,7 @@ static inline const char *fuzzy_word(unsigned number) {
     case FUZZY_OUTSIDE: return "outside the years 1 to 9999";
     case FUZZY_NO_LEAP_DAY: return "29 February is not in that year";
     case FUZZY_NO_STAMP: return "no RFC 3339 date and time";
+    case FUZZY_NO_READING: return "no such reading";
     case FUZZY_NO_ROOM: return "no room for the text";
     default: return "no answer of this library";
     }

@@ -1,18 +1,21 @@
 #!/usr/bin/env python3
-"""The Rust, the model and our own program test_replay: every difference is sorted into a class, or is a bug until document 01 decides.
+"""The Rust, the model and our own programs: every difference is sorted into a class, or is a bug until document 01 decides.
 
-    compare.py --all COUNT SEED   the fixed list, all phrases of up to three lexemes, sweeps of nows, and COUNT random phrases
+    compare.py --all COUNT SEED   the fixed lists, all phrases of up to three lexemes, sweeps of nows, and COUNT random phrases
+                                  (for reading 2 a fifth of them)
     compare.py --differs          the class of each line of the fixed list at which the recorded answer differs from the model's
-    compare.py --check            the fixed list, its recorded answers (if the Rust is built), the model's and the classes are as they are made
+    compare.py --check            the fixed lists, the recorded answers (if the Rust is built), the model's and the classes are as made
 
 A class is one rule by which the Rust differs from document 01. `Like` is the model with some of these rules the Rust's
 way; a difference belongs to the fewest classes under which the model then gives the Rust's own line, field by field.
-Ours has to give the model's own line.
+Ours has to give the model's own line: test_replay in reading 1, test_second in reading 2, which the Rust does not have.
+There the model's two readings are compared besides: document 02 says where they may differ.
 """
 
 import collections
 import itertools
 import pathlib
+import re
 import subprocess
 import sys
 
@@ -23,9 +26,13 @@ from model import Refused
 HERE = pathlib.Path(__file__).resolve().parent
 ROOT = HERE.parent
 ORACLE = ROOT / "target" / "oracle" / "release" / "oracle"
-OURS = HERE / "ours"
+RUST = [ORACLE]
+OURS = [HERE / "ours", "test_replay"]
+OURS_SECOND = [HERE / "ours", "test_second"]
 LIST = ROOT / "crates" / "test_replay" / "stdin"
 EXPECTED = ROOT / "crates" / "test_replay" / "stdout"
+SECOND_LIST = ROOT / "crates" / "test_second" / "stdin"
+SECOND_EXPECTED = ROOT / "crates" / "test_second" / "stdout"
 RECORDED = HERE / "recorded.txt"
 DIFFERS = HERE / "differs.txt"
 
@@ -152,17 +159,17 @@ def answer_like(now, phrase, classes):
     try:
         lexemes, places = lex_like(phrase, classes)
         fields.append(model.show_lexemes(lexemes))
-        reading, taken = model.read(lexemes)
-        fields += [model.show_reading(reading), str(taken)]
+        tree, taken = model.read(lexemes)
+        fields += [model.show_tree(tree), str(taken)]
         model.all_taken(taken, places, phrase)
         at_now = Like(now_like(now, classes), classes)
-        fields.append(model.show_moment(at_now, at_now.date_time(reading)))
+        fields.append(model.show_moment(at_now, at_now.date_time(tree)))
     except Refused as refusal:
         fields.append(str(refusal))
     return "|".join(fields)
 
 
-# What the Rust answers where the model refuses: only an overflow in a number panics in the reading, and only steps after it
+# What the Rust answers where the model refuses: only an overflow in a number panics in the parsers, and only steps after them
 RUST_FAILS = {1: ["error"], 2: ["error"], 3: ["error"], 4: ["error"], 5: ["error"], 6: ["panic"], 7: ["error"], 8: ["no now"],
               9: ["error"], 10: ["error"], 11: ["error"], 12: ["error", "panic"], 13: ["error", "panic"]}
 
@@ -206,39 +213,80 @@ def size_of(line):
 
 
 def both_fail(rust, told):
-    return rust.rsplit("|", 1)[-1] in ("error", "panic", "no now") and told.rsplit("|", 1)[-1].startswith("refused")
+    return last_field(rust) in ("error", "panic", "no now") and last_field(told).startswith("refused")
 
 
-def run(program, lines):
+# 02: a weekday directly followed by "in", among the lexemes as they are shown
+WEEKDAY_IN = re.compile(rf"\b({'|'.join(model.Weekday.NAMES)}) In\b")
+
+
+def may_differ(first, second):
+    """Whether the model's lines in the two readings differ as 02 says: by the node of a weekday with "in", and by the answer."""
+    other_way = second.replace("WeekdayExpressionAfter", "WeekdayExpressionBefore")
+    fields = other_way.split("|")
+    return bool(WEEKDAY_IN.search(fields[0])) and other_way != second and fields[:-1] == first.split("|")[:-1]
+
+
+def last_field(line):
+    return line.rsplit("|", 1)[-1]
+
+
+def run(command, lines):
     """What a program answers, line by line."""
     text = "".join(line + "\n" for line in lines)
-    done = subprocess.run([program], input=text.encode("latin-1"), stdout=subprocess.PIPE, check=True)
+    done = subprocess.run(command, input=text.encode("latin-1"), stdout=subprocess.PIPE, check=True)
     answers = done.stdout.decode("latin-1").removesuffix("\n").split("\n")
     assert len(answers) == len(lines)
     return answers
 
 
 class Tally:
-    """Counts over the lines of one source: by the model's outcome and by class; and the smallest phrase of each single class."""
+    """Counts over the lines of one source: by the model's outcome, and where ours is not the model's."""
 
     def __init__(self):
-        self.lines = self.differ = self.ours_differ = self.no_utf8 = 0
+        self.lines = self.ours_differ = 0
         self.outcomes = collections.Counter()
+
+    def add_line(self, line, ours, told):
+        self.lines += 1
+        last = last_field(told)
+        self.outcomes[int(last.split(" ")[1]) if last.startswith("refused") else 0] += 1
+        if ours != told:
+            self.ours_differ += 1
+            print(f"OURS IS NOT THE MODEL'S: {line}\n    ours  {ours}\n    model {told}")
+
+    def merge(self, other):
+        """Adds every number and counter of another tally."""
+        for name, value in vars(other).items():
+            if isinstance(value, int):
+                setattr(self, name, getattr(self, name) + value)
+            elif isinstance(value, collections.Counter):
+                getattr(self, name).update(value)
+
+    def report(self, name):
+        print(f"{name}: {self.lines} lines, {self.found()}, {self.ours_differ} of ours are not the model's", flush=True)
+
+    def report_outcomes(self):
+        outcomes = (f"{'refused ' + str(number) if number else 'moment'} {self.outcomes[number]}" for number in sorted(self.outcomes))
+        print("by the model: " + ", ".join(outcomes))
+
+
+class FirstTally(Tally):
+    """Reading 1, beside the Rust: also the counts by class, and the smallest phrase of each single class."""
+
+    def __init__(self):
+        super().__init__()
+        self.differ = self.no_utf8 = 0
         self.classes = collections.Counter()
         self.alone = collections.Counter()
         self.both_fail = collections.Counter()
         self.smallest = {}
 
     def add(self, lines):
-        for line, rust, ours in zip(lines, run(ORACLE, lines), run(OURS, lines), strict=True):
+        for line, rust, ours in zip(lines, run(RUST, lines), run(OURS, lines), strict=True):
             told, classes = difference(line, rust)
-            self.lines += 1
+            self.add_line(line, ours, told)
             self.no_utf8 += not is_utf8(split_line(line)[1])
-            last = told.rsplit("|", 1)[-1]
-            self.outcomes[int(last.split(" ")[1]) if last.startswith("refused") else 0] += 1
-            if ours != told:
-                self.ours_differ += 1
-                print(f"OURS IS NOT THE MODEL'S: {line}\n    ours  {ours}\n    model {told}")
             if classes:
                 self.count(classes, line, rust, told)
 
@@ -256,18 +304,40 @@ class Tally:
         size = (fail, *size_of(line))
         self.smallest[classes[0]] = min(size, self.smallest.get(classes[0], size))
 
-    def merge(self, other):
-        for name in ("lines", "differ", "ours_differ", "no_utf8"):
-            setattr(self, name, getattr(self, name) + getattr(other, name))
-        for name in ("outcomes", "classes", "alone", "both_fail"):
-            getattr(self, name).update(getattr(other, name))
-
-    def report(self, name):
-        counts = f"{self.differ} differ from the Rust's, {self.classes[NO_CLASS]} in no class, {self.ours_differ} of ours are not the model's"
-        print(f"{name}: {self.lines} lines, {counts}", flush=True)
+    def found(self):
+        return f"{self.differ} differ from the Rust's, {self.classes[NO_CLASS]} in no class"
 
     def failed(self):
         return self.classes[NO_CLASS] + self.ours_differ
+
+
+class SecondTally(Tally):
+    """Reading 2: also where the model's two readings differ, and where they must not."""
+
+    def __init__(self):
+        super().__init__()
+        self.readings_differ = self.answers_differ = self.wrongly = 0
+
+    def add(self, lines):
+        for line, ours in zip(lines, run(OURS_SECOND, lines), strict=True):
+            now, phrase = split_line(line)
+            first, second = model.answer(now, phrase, model.FIRST), model.answer(now, phrase, model.SECOND)
+            self.add_line(line, ours, second)
+            if first != second:
+                self.count(line, first, second)
+
+    def count(self, line, first, second):
+        self.readings_differ += 1
+        self.answers_differ += last_field(first) != last_field(second)
+        if not may_differ(first, second):
+            self.wrongly += 1
+            print(f"THE READINGS MUST NOT DIFFER SO: {line}\n    first  {first}\n    second {second}")
+
+    def found(self):
+        return f"at {self.readings_differ} the readings differ, at {self.answers_differ} in the answer, at {self.wrongly} wrongly"
+
+    def failed(self):
+        return self.wrongly + self.ours_differ
 
 
 def representatives():
@@ -278,9 +348,15 @@ def representatives():
     return list(words.values()) + list(model.MARKS) + ["0", "5", "12", "25", "100", "1000", "2024", "4294967295"]
 
 
-def exhaustive_lines(lexemes):
+def exhaustive_lines(lexemes, *head):
+    """All phrases of so many lexemes behind the words of `head`."""
     for parts in itertools.product(representatives(), repeat=lexemes):
-        yield f"{phrases.A}|{phrases.close_up(parts)}"
+        yield f"{phrases.A}|{phrases.close_up((*head, *parts))}"
+
+
+def behind_weekday_in():
+    """All phrases of two lexemes behind each weekday with "in": no shorter ones have a duration there."""
+    return itertools.chain.from_iterable(exhaustive_lines(2, weekday, "in") for weekday in phrases.WEEKDAYS)
 
 
 def random_lines(count, seed):
@@ -289,6 +365,18 @@ def random_lines(count, seed):
     known = phrases.QUIRKS + phrases.AT_EVERY_NOW
     makers = [*[dice.phrase] * 5, lambda: dice.damaged(dice.phrase()), lambda: dice.damaged(dice.pick(known)),
               dice.soup, dice.chain, dice.raw]
+    return made_lines(count, dice, makers)
+
+
+def second_random_lines(count, seed):
+    """As above, but with a weekday, "in" and a duration in most phrases."""
+    dice = phrases.Dice(seed)
+    makers = [*[dice.ahead] * 5, *[lambda: dice.damaged(dice.ahead())] * 2, dice.phrase, lambda: dice.damaged(dice.phrase()),
+              lambda: dice.pick([dice.soup, dice.chain, dice.raw])()]
+    return made_lines(count, dice, makers)
+
+
+def made_lines(count, dice, makers):
     for _ in range(count):
         phrase = dice.pick(makers)()
         yield f"{dice.now()}|{model.escape(phrase if isinstance(phrase, bytes) else phrase.encode())}"
@@ -299,31 +387,30 @@ def batches(lines, size=50_000):
         yield batch
 
 
-def tally_of(lines):
-    tally = Tally()
-    for batch in batches(iter(lines)):
-        tally.add(batch)
-    return tally
+def tallies_of(kind, sources):
+    """A tally of each source and one of all, each reported."""
+    tallies, total = {}, kind()
+    for name, lines in sources.items():
+        tally = tallies[name] = kind()
+        for batch in batches(iter(lines)):
+            tally.add(batch)
+        tally.report(name)
+        total.merge(tally)
+    total.report("in all")
+    return tallies, total
 
 
-def compare(count, seed):
-    """Every source compared, and what was found; the number of differences that must not be."""
-    sources = {
+def compare_first(count, seed):
+    """Every source compared in reading 1, and what was found; the number of differences that must not be."""
+    tallies, total = tallies_of(FirstTally, {
         "the fixed list": read_lines(LIST),
         "up to two lexemes": itertools.chain(exhaustive_lines(1), exhaustive_lines(2)),
         "three lexemes": exhaustive_lines(3),
         "sweeps of nows": phrases.sweep(),
         f"random with seed {seed}": random_lines(count, seed),
-    }
-    tallies, total = {}, Tally()
-    for name, lines in sources.items():
-        tallies[name] = tally_of(lines)
-        tallies[name].report(name)
-        total.merge(tallies[name])
-    total.report("in all")
+    })
     print(f"{total.no_utf8} of them are no UTF-8")
-    outcomes = (f"{'refused ' + str(number) if number else 'moment'} {total.outcomes[number]}" for number in sorted(total.outcomes))
-    print("by the model: " + ", ".join(outcomes))
+    total.report_outcomes()
     for name in CLASSES:
         by_source = ", ".join(f"{source} {tally.classes[name]}" for source, tally in tallies.items())
         alone = f"{total.alone[name]} of no other class, {total.both_fail[name]} of these refused by both at different stages"
@@ -334,10 +421,32 @@ def compare(count, seed):
     return total.failed()
 
 
+def compare_second(count, seed):
+    """Every source compared in reading 2; the number of differences that must not be."""
+    _, total = tallies_of(SecondTally, {
+        "the second list": read_lines(SECOND_LIST),
+        "up to two lexemes": itertools.chain(exhaustive_lines(1), exhaustive_lines(2)),
+        "three lexemes": exhaustive_lines(3),
+        "two lexemes behind a weekday and in": behind_weekday_in(),
+        "sweeps of nows": phrases.second_sweep(),
+        f"random with seed {seed}": second_random_lines(count, seed),
+    })
+    total.report_outcomes()
+    return total.failed()
+
+
+def compare(count, seed):
+    """Both readings; the number of differences that must not be."""
+    print("reading 1, beside the Rust:")
+    failed = compare_first(count, seed)
+    print("reading 2:")
+    return failed + compare_second(count // 5, seed)
+
+
 def show_smallest(name, lines):
     """The smallest phrase of a class, reached from those that the sources found, with the answers to it."""
     line = min((shrink(line, (name,)) for line in lines), key=size_of)
-    print(f"{name}\n    {line}\n    ours {run(OURS, [line])[0]}\n    rust {run(ORACLE, [line])[0]}")
+    print(f"{name}\n    {line}\n    ours {run(OURS, [line])[0]}\n    rust {run(RUST, [line])[0]}")
 
 
 def shrink(line, classes):
@@ -347,7 +456,7 @@ def shrink(line, classes):
         ends = itertools.combinations(range(len(phrase) + 1), 2)
         shorter = sorted({phrase[:start] + phrase[end:] for start, end in ends}, key=lambda p: (len(p), p))
         lines = [f"{now.decode()}|{model.escape(p)}" for p in shorter]
-        for candidate, found, rust in zip(shorter, lines, run(ORACLE, lines)):
+        for candidate, found, rust in zip(shorter, lines, run(RUST, lines)):
             told, found_classes = difference(found, rust)
             if found_classes == classes and not both_fail(rust, told):
                 phrase = candidate
@@ -374,13 +483,16 @@ def check():
         LIST: phrases.fixed_list(),
         EXPECTED: [model.answer(*split_line(line)) for line in read_lines(LIST)],
         DIFFERS: list(differs_lines()),
+        SECOND_LIST: phrases.second_list(),
+        SECOND_EXPECTED: [model.answer(*split_line(line), model.SECOND) for line in read_lines(SECOND_LIST)],
     }
     if ORACLE.exists():
-        made[RECORDED] = run(ORACLE, read_lines(LIST))
+        made[RECORDED] = run(RUST, read_lines(LIST))
     wrong = [str(path.relative_to(ROOT)) for path, lines in made.items() if read_lines(path) != lines]
     if NO_CLASS in DIFFERS.read_text():
         wrong.append(NO_CLASS)
-    print(f"{len(read_lines(LIST))} lines, {'not as made: ' + ', '.join(wrong) if wrong else 'all as made'}")
+    counts = f"{len(read_lines(LIST))} and {len(read_lines(SECOND_LIST))} lines"
+    print(f"{counts}, {'not as made: ' + ', '.join(wrong) if wrong else 'all as made'}")
     return len(wrong)
 
 

@@ -2,11 +2,13 @@
 """Document 01 as a program: what a phrase means at a now, from the paper and from the Rust's lexer.rs and ast.rs.
 
 The parsers stand in the Rust's order under the Rust's names, so that both can be read side by side. Where the paper
-and the Rust differ, the paper decides, and a comment with "01:" says so.
+and the Rust differ, the paper decides, and a comment with "01:" says so. Document 02 adds a second reading beside this
+first one; a comment with "02:" says where they part.
 
-    model.py              lines NOW|PHRASE in, lines LEXEMES|READING|TAKEN|MOMENT out
-    model.py --fuzzy      what the program `fuzzy` prints for standard input
-    model.py --selftest   every row of the paper's table, and the paper's listing
+    model.py                    lines NOW|PHRASE in, lines LEXEMES|TREE|TAKEN|MOMENT out, in reading 1
+    model.py --reading NUMBER   the same in the reading of that number: 1, 2, or refusal 15
+    model.py --fuzzy            what the program `fuzzy` prints for standard input
+    model.py --selftest         every row of the papers' tables, and the paper's listing
 
 A line ends at the stage that refuses, with `refused NUMBER at PLACE to END` in that stage's field: the offending part
 of the phrase is its bytes from PLACE up to but not END. In PHRASE, \\xHH is one byte.
@@ -20,9 +22,12 @@ U32_MAX = 4_294_967_295
 MOST_BYTES = 256
 MOST_LEXEMES = 64
 
+# 02: the readings that a caller may choose
+FIRST, SECOND = 1, 2
+
 
 class Refused(Exception):
-    """One of 01's refusals: its number, its place, and the end of the offending part."""
+    """One of the papers' refusals: its number, its place, and the end of the offending part."""
 
     def __init__(self, number, place=0, end=0):
         super().__init__(number, place, end)
@@ -30,6 +35,13 @@ class Refused(Exception):
 
     def __str__(self):
         return f"refused {self.number} at {self.place} to {self.end}"
+
+
+def reading_of(number):
+    """02: the reading that a caller's number chooses, or refusal 15, before everything else."""
+    if number not in (FIRST, SECOND):
+        raise Refused(15)
+    return number
 
 
 # ---------------------------------------------------------------- lexer.rs
@@ -102,7 +114,8 @@ def judge(part):
 # ---------------------------------------------------------------- ast.rs, the parsers
 #
 # A parser takes the lexemes from its place on and answers None, or what it read and how many lexemes it took.
-# A reading is the Rust's tree: a variant with fields is a tuple that begins with its name, one without is its name.
+# A tree is the Rust's: a variant with fields is a tuple that begins with its name, one without is its name.
+# Those parsers take the reading that it matters for.
 
 
 def get(l, i):
@@ -124,13 +137,13 @@ def u32(n):
 
 class DateTime:
     @staticmethod
-    def parse(l):
+    def parse(l, reading):
         tokens = 0
 
         if get(l, tokens) == "Now":
             return "Now", 1
 
-        if found := DateExpr.parse(l):
+        if found := DateExpr.parse(l, reading):
             date_expr, t = found
             tokens += t
             # a comma or "at" is taken even if no time follows
@@ -145,12 +158,12 @@ class DateTime:
             dur, t = found
             tokens += t
             if get(l, tokens) in ("After", "From"):
-                if found := DateTime.parse(l[tokens + 1:]):
+                if found := DateTime.parse(l[tokens + 1:], reading):
                     inner, t = found
                     return ("After", dur, inner), tokens + 1 + t
                 return None
             if get(l, tokens) == "Before":
-                if found := DateTime.parse(l[tokens + 1:]):
+                if found := DateTime.parse(l[tokens + 1:], reading):
                     inner, t = found
                     return ("Before", dur, inner), tokens + 1 + t
                 return None
@@ -164,7 +177,7 @@ class DateTime:
             # a comma or "on" is taken even if no date follows
             if get(l, tokens) in ("Comma", "On"):
                 tokens += 1
-            if found := DateExpr.parse(l[tokens:]):
+            if found := DateExpr.parse(l[tokens:], reading):
                 date_expr, t = found
                 return ("TimeDate", time, date_expr), tokens + t
             return ("TimeDate", time, "Empty"), tokens
@@ -174,7 +187,7 @@ class DateTime:
 
 class DateExpr:
     @staticmethod
-    def parse(l):
+    def parse(l, reading):
         if found := Date.parse(l):
             date, date_tokens = found
             # a tail that fails gives its lexemes back
@@ -195,7 +208,7 @@ class DateExpr:
 
         if found := Weekday.parse(l):
             weekday, tokens = found
-            return DateExpr.weekday(l, weekday, tokens)
+            return DateExpr.weekday(l, weekday, tokens, reading)
 
         if found := RelativeSpecifier.parse(l):
             relspec, tokens = found
@@ -233,7 +246,7 @@ class DateExpr:
         return None
 
     @staticmethod
-    def weekday(l, weekday, tokens):
+    def weekday(l, weekday, tokens, reading):
         """The tail behind a weekday. A tail that fails keeps the lexemes it took: they are swallowed."""
         if found := RelativeSpecifier.parse(l[tokens:]):
             relspec, t = found
@@ -255,7 +268,9 @@ class DateExpr:
             if found := Duration.parse(l[tokens:]):
                 duration, t = found
                 if not is_sub_daily(duration):
-                    return ("WeekdayExpressionBefore", weekday, duration), tokens + t
+                    # 02: ahead in reading 2 (the Rust has that node, and its parser never gives it)
+                    node = "WeekdayExpressionAfter" if reading == SECOND else "WeekdayExpressionBefore"
+                    return (node, weekday, duration), tokens + t
         return ("Weekday", weekday), tokens
 
 
@@ -570,9 +585,9 @@ class Num:
         return u32(u32(triple * unit) + num), tokens + t
 
 
-def read(lexemes):
-    """The reading and the lexemes taken, or refusal 5 or 6."""
-    found = DateTime.parse(lexemes)
+def read(lexemes, reading=FIRST):
+    """The tree and the lexemes taken, or refusal 5 or 6."""
+    found = DateTime.parse(lexemes, reading)
     if not found:
         raise Refused(5)
     return found
@@ -688,9 +703,9 @@ class Evaluation:
 
     # to_chrono
 
-    def date_time(self, reading):
+    def date_time(self, tree):
         """`DateTime::to_chrono`. 01: the date, the time of day, then outer durations, innermost first."""
-        match reading:
+        match tree:
             case "Now":
                 return self.now
             case ("DateTime", date, time) | ("TimeDate", time, date):
@@ -711,6 +726,10 @@ class Evaluation:
                     raise Refused(9)
                 day = self.date(date)
                 return day if relspec == "This" else self.step_date(day, direction_of(relspec), 1, unit)
+            case ("WeekdayExpressionAfter", weekday, duration):
+                # 02: forward from now, each part tested, then on to the weekday
+                day, _ = self.steps(self.now, FORWARD, duration)
+                return self.first_weekday(weekday, day)
             case ("WeekdayExpressionBefore", weekday, duration):
                 # 01: back from now with its time of day, then back to the weekday (0 to 6 days), for "in" as for "ago"
                 day, _ = self.steps(self.now, BACK, duration)
@@ -730,10 +749,13 @@ class Evaluation:
                     raise Refused(9)
                 return self.weekday_of_week(relspec, weekday)
             case ("Weekday", weekday):
-                # the first such date from today, today included
-                return self.inside(self.today + (Weekday.NAMES.index(weekday) - weekday_of(self.today)) % 7)
+                return self.first_weekday(weekday, self.today)
             case "Empty":
                 return self.today
+
+    def first_weekday(self, weekday, day):
+        """The first such weekday from a day on, that day included."""
+        return self.inside(day + (Weekday.NAMES.index(weekday) - weekday_of(day)) % 7)
 
     def weekday_of_week(self, spec, weekday):
         """The weekday in today's ISO week, the one after or the one before. 01: only the date reached is tested."""
@@ -811,12 +833,12 @@ def show_lexemes(lexemes):
     return " ".join(f"Num({lexeme})" if is_literal(lexeme) else lexeme for lexeme in lexemes)
 
 
-def show_reading(reading):
+def show_tree(tree):
     """The Rust's Debug form without blanks."""
-    if isinstance(reading, tuple):
-        name, *fields = reading
-        return f"{name}({','.join(map(show_reading, fields))})"
-    return str(reading)
+    if isinstance(tree, tuple):
+        name, *fields = tree
+        return f"{name}({','.join(map(show_tree, fields))})"
+    return str(tree)
 
 
 def show_moment(evaluation, moment):
@@ -827,17 +849,18 @@ def show_moment(evaluation, moment):
     return f"{year:04}-{month:02}-{day_of_month:02} {hour:02}:{minute:02}:{second:02}"
 
 
-def answer(now_text, phrase):
+def answer(now_text, phrase, number=FIRST):
     """The line for a phrase at a now: one field for each stage, the last one a moment or a refusal."""
     fields = []
     try:
+        reading = reading_of(number)
         lexemes, places = lex_line(phrase)
         fields.append(show_lexemes(lexemes))
-        reading, taken = read(lexemes)
-        fields += [show_reading(reading), str(taken)]
+        tree, taken = read(lexemes, reading)
+        fields += [show_tree(tree), str(taken)]
         all_taken(taken, places, phrase)
         at_now = Evaluation(read_now(now_text))
-        fields.append(show_moment(at_now, at_now.date_time(reading)))
+        fields.append(show_moment(at_now, at_now.date_time(tree)))
     except Refused as refusal:
         fields.append(str(refusal))
     return "|".join(fields)
@@ -860,7 +883,7 @@ def fuzzy(text):
     return "".join(field.split(" to ")[0] + "\n" for field in last)
 
 
-# ---------------------------------------------------------------- the paper's own examples
+# ---------------------------------------------------------------- the papers' own examples
 
 A = "2026-02-11 09:30:15"
 B = "2024-02-29 12:00:00"
@@ -913,38 +936,83 @@ TABLE = [
     ("2026-02-29 00:00:00", "5/2", "refused 7 at 1 to 3"),
 ]
 
+# 02's row in both readings, and the edges of its rule: reading, now, phrase, and the answer as above
+READINGS_TABLE = [
+    (FIRST, A, "tuesday in two weeks", "2026-01-27"),
+    (SECOND, A, "tuesday in two weeks", "2026-03-03"),
+    # the day reached counts: A is a Wednesday
+    (SECOND, A, "wednesday in two weeks", "2026-02-25"),
+    (SECOND, A, "wednesday in 0 days", "2026-02-11"),
+    (SECOND, A, "tuesday in 0 days at noon", "2026-02-17 12:00:00"),
+    (SECOND, A, "a day after tuesday in two weeks", "2026-03-04"),
+    # each part is tested, first to last; a month step takes the month's last day
+    (SECOND, B, "thursday in a year", "refused 13 at 0 to 0"),
+    (SECOND, "2024-01-31 00:00:01", "thursday in a month", "2024-02-29"),
+    (SECOND, "2024-01-30 00:00:01", "thursday in a day and a month", "2024-02-29"),
+    (SECOND, "2024-01-30 00:00:01", "thursday in a month and a day", "2024-03-07"),
+    (SECOND, "2024-01-31 00:00:01", "friday in a month and a year", "refused 13 at 0 to 0"),
+    (SECOND, "2024-01-31 00:00:01", "friday in a year and a month", "2025-02-28"),
+    # the last day of year 9999 is a Friday
+    (SECOND, "9999-12-17 12:00:00", "friday in two weeks", "9999-12-31"),
+    (SECOND, "9999-12-17 12:00:00", "saturday in two weeks", "refused 12 at 0 to 0"),
+    (SECOND, "9999-12-17 12:00:00", "friday in 15 days", "refused 12 at 0 to 0"),
+    # with hours or minutes the duration is passed over: "in" is swallowed, and a time of day may follow
+    (SECOND, A, "tuesday in an hour", "refused 7 at 11 to 18"),
+    (SECOND, A, "tuesday in two weeks and an hour", "refused 7 at 15 to 32"),
+    # all else is as in reading 1
+    (SECOND, A, "tuesday two weeks ago", "2026-01-27"),
+    (SECOND, A, "today in two weeks", "2026-02-25"),
+    (SECOND, A, "tuesday in five billion days", "refused 6 at 0 to 0"),
+    # no such reading comes before 1, 2 and 8
+    (0, A, "now", "refused 15 at 0 to 0"),
+    (3, A, "tuesday in two weeks", "refused 15 at 0 to 0"),
+    (3, A, "now".ljust(257), "refused 15 at 0 to 0"),
+    (2**32 - 1, "2026-02-29 00:00:00", "foo", "refused 15 at 0 to 0"),
+]
+
 LISTING_IN = b"2026-02-11 09:30:15\nnext friday\nforty days ago\n5/2\n"
 LISTING_OUT = "2026-02-20 09:30:15\nrefused 2 at 0\nrefused 7 at 1\n"
 
 
 def selftest():
     failed = 0
-    for now, phrase, expected in TABLE:
+    rows = [(FIRST, *row) for row in TABLE] + READINGS_TABLE
+    for reading, now, phrase, expected in rows:
         if len(expected) == len("2026-02-13"):
             expected += now[10:]
-        found = answer(now.encode(), phrase.encode())
+        found = answer(now.encode(), phrase.encode(), reading)
         if found.rsplit("|", 1)[-1] != expected:
             failed += 1
-            print(f"{now}|{phrase}: {found} and not {expected}")
+            print(f"reading {reading}, {now}|{phrase}: {found} and not {expected}")
     if len(KEYWORDS) != 133 or list(KEYWORDS) != sorted(KEYWORDS):
         failed += 1
         print("the words are not 133 in byte order")
     if fuzzy(LISTING_IN) != LISTING_OUT:
         failed += 1
         print(f"the listing: {fuzzy(LISTING_IN)!r}")
-    print(f"{len(TABLE)} rows, {failed} failed")
+    print(f"{len(rows)} rows, {failed} failed")
     return failed
 
 
-def main():
-    if sys.argv[1:] == ["--selftest"]:
-        sys.exit(selftest() > 0)
-    if sys.argv[1:] == ["--fuzzy"]:
-        sys.stdout.write(fuzzy(sys.stdin.buffer.read()))
-        return
+def answer_lines(number):
+    """Standard input's lines, answered in the reading of that number."""
     for line in sys.stdin.buffer:
         now, _, phrase = line.removesuffix(b"\n").partition(b"|")
-        print(answer(now, unescape(phrase)))
+        print(answer(now, unescape(phrase), number))
+
+
+def main():
+    match sys.argv[1:]:
+        case []:
+            answer_lines(FIRST)
+        case ["--reading", number]:
+            answer_lines(int(number))
+        case ["--fuzzy"]:
+            sys.stdout.write(fuzzy(sys.stdin.buffer.read()))
+        case ["--selftest"]:
+            sys.exit(selftest() > 0)
+        case _:
+            sys.exit(__doc__)
 
 
 if __name__ == "__main__":

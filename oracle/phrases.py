@@ -1,15 +1,17 @@
 #!/usr/bin/env python3
-"""The fixed list of lines NOW|PHRASE (crates/test_replay/stdin), the same at every run; and the makers of random phrases.
+"""The fixed lists of lines NOW|PHRASE, the same at every run; and the makers of random phrases.
 
-    phrases.py > crates/test_replay/stdin
+    phrases.py > crates/test_replay/stdin               the list for reading 1
+    phrases.py --reading 2 > crates/test_second/stdin   the list for reading 2
 
-Each section below takes the alternatives of one parser or one rule of document 01, taken and given up, on both sides of
-each limit.
+Each section below takes the alternatives of one parser or one rule of documents 01 and 02, taken and given up, on both
+sides of each limit.
 """
 
 import datetime
+import sys
 
-from model import KEYWORDS, Month, TABLE, Weekday, escape
+from model import KEYWORDS, Month, READINGS_TABLE, SECOND, TABLE, Weekday, escape
 
 A = "2026-02-11 09:30:15"
 B = "2024-02-29 12:00:00"
@@ -129,6 +131,9 @@ DURATION_PLACES = ["{}", "{} ago", "{} from now", "{} after now", "{} before now
                    "{} before today", "{} after tomorrow 5 pm", "{} from march 31", "{} before friday", "{} after 5:00",
                    "in {}", "{} ago at noon", "{} ago ago", "friday {} ago", "jan 31 in {}", "{} before a day ago"]
 
+# Durations with the word behind them, that a chain is made of
+LINKS = ["a day after", "2 months before", "a year from", "90 minutes before", "a week and a day after", "13 hours from"]
+
 # Phrases that reach the ends of the calendar, month ends, 29 February, weeks across years
 AT_EVERY_NOW = (
     ["now", "today", "tomorrow", "yesterday", "noon", "midnight", "a minute ago", "a minute from now", "an hour ago",
@@ -230,19 +235,18 @@ def limits_section():
 
 def chains_section():
     """Durations over durations: mixed directions and units, hours over dates, overflow deep inside."""
-    links = ["a day after", "2 months before", "a year from", "90 minutes before", "a week and a day after", "13 hours from"]
     bases = ["now", "today", "noon", "friday", "next friday", "march 31", "2/29/2024 5 pm", "a day ago", "5/2", "foo", "march", ""]
-    for first in links:
-        for second in links:
+    for first in LINKS:
+        for second in LINKS:
             for base in bases:
                 yield joined(first, second, base)
     for links_count in (5, 10, 15):
-        yield joined(*(links * 3)[:links_count], "now")
-        yield joined(*(links * 3)[:links_count], "five billion days ago")
+        yield joined(*(LINKS * 3)[:links_count], "now")
+        yield joined(*(LINKS * 3)[:links_count], "five billion days ago")
 
 
 def fixed_list():
-    """Every line of the list, each once, in order."""
+    """Every line of the list for reading 1, each once, in order."""
     lines = [(now, phrase) for now, phrase, _ in TABLE]
     for section in (words_section, bytes_section, text_section, limits_section, chains_section):
         lines += [(A, phrase) for phrase in section()]
@@ -261,8 +265,108 @@ def fixed_list():
     lines += [(dice.pick(NOWS), dice.phrase()) for _ in range(600)]
     lines += [(dice.pick(NOWS), dice.soup()) for _ in range(300)]
     lines += [(dice.pick(NOWS), dice.chain()) for _ in range(300)]
-    made = (f"{now}|{escape(phrase if isinstance(phrase, bytes) else phrase.encode())}" for now, phrase in lines)
+    return as_lines(lines)
+
+
+def as_lines(pairs):
+    """`NOW|PHRASE` for each pair, each line once."""
+    made = (f"{now}|{escape(phrase if isinstance(phrase, bytes) else phrase.encode())}" for now, phrase in pairs)
     return list(dict.fromkeys(made))
+
+
+# Durations behind a weekday and "in": each unit, in digits and words, joined ones, some with hours or minutes
+AHEAD = (
+    [f"{count} {unit}" for count in ("a", "0", "two") for unit in UNITS]
+    + ["an week", "the day", "the month", "1 year", "3 weeks", "6 days", "7 days", "13 months", "24th day", "25 weeks",
+       "twenty-one days", "one hundred and one days", "a thousand days", "thousand days", "fourty months", "a second week",
+       "a day and a week", "a week and a day", "a month and a day", "a day and a month", "a month and a year", "a month and a month",
+       "a year and a month and a week and a day", "0 days and 0 weeks", "a day and an hour", "an hour and a day", "30 minutes"]
+)
+
+# Durations on both sides of each limit, from A
+AHEAD_LIMITS = (
+    [f"{count} {unit}s" for count in (2147483647, 2147483648, 4294967295, 4294967296) for unit in UNITS]
+    + ["7973 years", "7974 years", "9999 years", "95686 months", "95687 months", "416056 weeks", "416057 weeks", "416058 weeks",
+       "2912393 days", "2912394 days", "2912395 days", "2912400 days", "2912401 days", "2912402 days", "four billion days",
+       "five billion days", "a day and five billion days", "a year and five billion hours", "an hour and five billion days",
+       "7973 years and 10 months", "7973 years and 11 months", "4294967295 days and five billion days"]
+)
+
+# What else may stand behind "in": no duration, half of one, lexemes left over
+NOT_AHEAD = [
+    "", "5", "5:00", "5 pm", "at noon", ", noon", "noon", "hours", "days", "two", "a", "the", "a day and", "a day and 5", "a day and a",
+    "zero days", "a 5 days", "5 st days", "a day ago", "a day ago at noon", "a day a week", "a day, a week", "a day from now",
+    "a day after today", "foo", "in a day", "a day in a week", "march", "march 3", "friday", "next week", "next", "and", "in", "now",
+    "an hour 5:00", "an hour ago", "an hour and a day 5:00", "a week next", "a week next week", "a week and 5:00", "a week friday",
+]
+
+# Phrases around a weekday with "in" and a duration
+AHEAD_PLACES = (
+    ["{}", "{} at noon", "{}, noon", "{} noon", "{} at 5 pm", "{}, 17:45", "{} 5:00", "{} midnight", "{} at", "{},", "{} on", "{} 5",
+     "{} at 24:00", "{} at 5:60", "{} at 13 pm", "{} 5 6", "{} on monday", "{} now", "{} ago", "{} at noon ago", "{} 5 days ago",
+     "5 pm on {}", "noon, {}", "noon {}", "25:00 {}", "5 on {}", "5 {}", "noon on {} at 5", "{} {}", "{}, {}", "now {}", "next {}",
+     "on {}", "at {}", "in {}", "the {}", "march 3 {}", "today {}", "a day and {}", "a day {}", "an hour before {} at noon",
+     "a month after noon on {}", "five billion days after {}", "9999 years before {}", "0 minutes after {}"]
+    + [f"{link} {{}}" for link in LINKS] + [f"{first} {second} {{}}" for first in LINKS for second in LINKS]
+)
+
+# Phrases with a weekday and "in" that read as in reading 1, and others close to them
+NEAR_AHEAD = [
+    "tuesday in in two weeks", "tuesday two weeks", "tuesday two weeks in", "tuesday two weeks ago",
+    "tuesday two weeks ago in two weeks", "tuesday next in two weeks", "next tuesday in two weeks", "this tuesday in two weeks",
+    "last friday in a week", "tuesday next week in two weeks", "tuesday, in two weeks", "tuesday at in two weeks",
+    "tuesday at 5 in two weeks", "tuesday 5 pm in two weeks", "tuesday noon in two weeks", "in two weeks tuesday", "in two weeks",
+    "in two weeks on tuesday", "two weeks from tuesday", "two weeks after tuesday", "two weeks in tuesday", "two weeks tuesday",
+    "tuesday from two weeks", "tuesday after two weeks", "tuesday and two weeks", "tuesday in", "tuesday wednesday in two weeks",
+    "tuesday in wednesday in two weeks", "tuesday in two weeks in two weeks", "tuesday - in two weeks", "today in two weeks",
+    "tomorrow in two weeks", "yesterday in a month", "march 3 in two weeks", "march 31 in a month", "5/2 in two weeks",
+    "5/2/2022 in two weeks", "2/29/2024 in a year", "5 march 2024 in a day", "now in two weeks", "noon in two weeks",
+    "a day in two weeks", "next week in two weeks", "two weeks ago in two weeks", "march in two weeks",
+    "tuesday 3 hours in two weeks", "tuesday a day in two weeks", "TUESDAY IN TWO WEEKS", "Tuesday In Two Weeks",
+    " tuesday  in two   weeks ", "tuesday\tin\ttwo\tweeks", "tuesday in 2weeks", "tuesday in2weeks", "tuesdayin two weeks",
+    "tuesday intwo weeks", "tuesday-in-two-weeks", "tuesday in twenty-weeks", "tuesday in two-weeks", "tuesday in two weeks.",
+    "tuesday in two weeks?", "tues in two weeks", "tuesdays in two weeks", "tuesday on two weeks",
+    "tuesday in 2 weeks and 3rd day", "tuesday in one hundred and days", "tuesday in hundred and a day",
+    "tuesday in thousand and a day",
+]
+
+# At every now: month ends and new years, the weekday that the duration reaches, the way on alone
+AHEAD_AT_EVERY_NOW = [f"{day} in a month" for day in WEEKDAYS] + [
+    "monday in 0 days", "friday in a day", "saturday in 0 weeks", "sunday in a week", "thursday in two weeks", "wednesday in a year",
+    "tuesday in 4 years", "tuesday in a month and a day at noon", "a year before friday in a year"]
+
+
+def ahead_nows():
+    """The nows of reading 1's list, each weekday of one week, and the last days of the calendar."""
+    return NOWS + [f"{day} 09:30:15" for day in days("2026-02-09", 7)] + [f"{day} 12:00:00" for day in days("9999-12-21", 8)]
+
+
+def ahead_limits():
+    """256 bytes, 64 lexemes and 21 parts, none of which join, on both sides."""
+    for length in (255, 256, 257):
+        phrase = "tuesday in two weeks"
+        yield from (phrase.ljust(length), phrase.rjust(length), phrase.replace(" in ", " in ".ljust(length - 16)))
+    for count in (19, 20, 21):
+        yield from ("friday in " + "a day and " * count + end for end in ("a day", "a day at noon", "an hour", "", "a day ago"))
+        yield "friday in " + " and ".join(f"1 {unit}" for unit in (["day", "month", "week", "year"] * 6)[:count + 1])
+        yield "1day after " * count + "friday in a day"
+
+
+def second_list():
+    """Every line of the list for reading 2, each once, in order; the last of them are ordinary lines of the list for reading 1."""
+    lines = [(now, phrase) for reading, now, phrase, _ in READINGS_TABLE if reading == SECOND]
+    lines += [(A, f"{day} in {duration}") for day in WEEKDAYS for duration in AHEAD]
+    lines += [(A, f"{day} in {duration}") for duration in AHEAD_LIMITS for day in ("thursday", "friday")]
+    lines += [(A, joined("tuesday in", rest)) for rest in NOT_AHEAD]
+    lines += [(A, place.format(*[phrase] * 2)) for place in AHEAD_PLACES for phrase in ("tuesday in two weeks", "friday in a month")]
+    lines += [(A, phrase) for phrase in NEAR_AHEAD]
+    lines += [(A, phrase) for phrase in ahead_limits()]
+    lines += [(now, phrase) for now in ahead_nows() for phrase in AHEAD_AT_EVERY_NOW]
+    lines += [(now, phrase) for now in NO_NOWS for phrase in ("tuesday in two weeks", "tuesday in an hour")]
+    dice = Dice(2)
+    lines += [(dice.pick(NOWS), dice.ahead()) for _ in range(100)]
+    lines += [(dice.pick(NOWS), dice.damaged(dice.ahead())) for _ in range(100)]
+    return list(dict.fromkeys(as_lines(lines) + fixed_list()[::33]))
 
 
 WEEK_PHRASES = (
@@ -283,6 +387,14 @@ def sweep():
         yield from (f"{day} 09:30:15|{phrase}" for phrase in WEEK_PHRASES)
     for day in ends + around:
         yield from (f"{day} 00:30:00|{phrase}" for phrase in STEP_PHRASES)
+
+
+def second_sweep():
+    """Nows day by day for reading 2: at both ends of the calendar, across new years, and over leap and century years."""
+    durations = ("0 days", "a week", "a month", "a year", "a month and a year")
+    around = [*days("1899-12-20", 75), *days("2000-01-20", 45), *days("2023-12-20", 800), *days("2100-01-20", 45)]
+    for day in [*days("0001-01-01", 21), *days("9998-12-01", 396), *around]:
+        yield from (f"{day} 09:30:15|{weekday} in {duration}" for duration in durations for weekday in WEEKDAYS)
 
 
 def days(first, count):
@@ -406,6 +518,20 @@ class Dice:
             return self.pick(SMALL[number].split())
         return SMALL_TENS[number // 10] + (self.pick(["-", " "]) + self.in_words(number % 10) if number % 10 else "")
 
+    # a phrase that reading 2 takes otherwise
+
+    def ahead(self):
+        """A weekday with "in" and a duration: with a time of day, in a chain, or alone"""
+        duration = self.pick([self.duration(), f"{self.near(50)} {self.pick(UNITS[:4])}s"])
+        phrase = [self.pick(WEEKDAYS), "in", duration]
+        if self.one_in(8):
+            phrase = [self.time(), self.pick(["", ",", "on"]), *phrase]
+        elif self.one_in(3):
+            phrase += [self.pick(["", ",", "at"]), self.time()]
+        for _ in range(self.pick([0, 0, 0, 1, 1, 2])):
+            phrase = [self.duration(), self.pick(["after", "from", "before"]), *phrase]
+        return joined(*phrase)
+
     # phrases by no grammar
 
     def soup(self):
@@ -488,5 +614,15 @@ STRANGE = [text.encode() for text in ("\u212a", "\u00a0", "\u2003", "\u3000", "\
     b"\xff", b"\xc2", b"\x00", b"\x7f", b"'", b"+", b"\x1f"]
 
 
+def main():
+    match sys.argv[1:]:
+        case []:
+            print("\n".join(fixed_list()))
+        case ["--reading", "2"]:
+            print("\n".join(second_list()))
+        case _:
+            sys.exit(__doc__)
+
+
 if __name__ == "__main__":
-    print("\n".join(fixed_list()))
+    main()

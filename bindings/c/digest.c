@@ -1,5 +1,5 @@
-/* Reads, makes ready and runs every phrase of the replayed list, and so many random ones at random nows; prints one digest of all answers and all
- * bytes written: digest LIST ANSWERS COUNT. The answers to the list are compared with those of the file ANSWERS. Every array that is lent, the
+/* Reads, makes ready and runs every phrase of a reading's list, and so many random ones at random nows; prints one digest of all answers and all
+ * bytes written: digest READING LIST ANSWERS COUNT. The answers to the list are compared with those of the file ANSWERS. Every array that is lent, the
  * phrase too, stands at a fence, by turns at the upper and the lower one, and nothing else of its pages may change. */
 #define _DEFAULT_SOURCE
 #include "fuzzy.h"
@@ -13,6 +13,7 @@
 static struct field phrases, moments, readies;
 static struct line lines[MOST_LINES];
 static size_t listed, moments_read;
+static uint32_t reading;
 
 /* FNV-1a, of 64 bits. */
 static uint64_t digest = 0xcbf29ce484222325u;
@@ -64,12 +65,12 @@ static uint64_t answered(const uint8_t *bytes, size_t n, const uint32_t now[6], 
     size_t length;
 
     memcpy(phrase, bytes, n);
-    answer = fuzzy_read(phrase, n, now[0], now[1], now[2], now[3], now[4], now[5], (uint32_t *)(void *)moment);
+    answer = fuzzy_read(reading, phrase, n, now[0], now[1], now[2], now[3], now[4], now[5], (uint32_t *)(void *)moment);
     add_moment(answer, moment);
     memcpy(numbers, moment, 6 * sizeof(uint32_t));
 
     ready = lent(readies, FUZZY_READY_SIZE, upper);
-    made = fuzzy_make_ready(phrase, n, ready);
+    made = fuzzy_make_ready(reading, phrase, n, ready);
     if (memcmp(phrase, bytes, n) != 0 || !kept_but(phrases, phrase, n, n)) stop("a phrase was changed");
     length = fuzzy_number(made) == 0 ? fuzzy_length(made) : 0;
     if (!kept_but(readies, ready, FUZZY_READY_SIZE, length)) stop("something else than the ready phrase was written");
@@ -150,17 +151,18 @@ int main(int count, char **arguments) {
     static uint8_t phrase[2 * MOST_PHRASE + 1];
     uint32_t now[6], numbers[6];
     unsigned long i, rounds;
-    if (count != 4) stop("usage: digest LIST ANSWERS COUNT");
+    if (count != 5) stop("usage: digest READING LIST ANSWERS COUNT");
+    reading = (uint32_t)strtoul(arguments[1], NULL, 10);
     phrases = fenced(sizeof phrase);
     moments = fenced(6 * sizeof(uint32_t));
     readies = fenced(FUZZY_READY_SIZE);
-    replay(arguments[1], arguments[2]);
-    rounds = strtoul(arguments[3], NULL, 10);
+    replay(arguments[2], arguments[3]);
+    rounds = strtoul(arguments[4], NULL, 10);
     for (i = 0; i < rounds; i++) {
         size_t n = random_phrase(phrase);
         random_now(now);
         if (answered(phrase, n, now, numbers) == 0) moments_read++;
     }
-    printf("%zu listed and %lu random phrases, %zu moments: digest %016" PRIx64 "\n", listed, rounds, moments_read, digest);
+    printf("reading %u: %zu listed and %lu random phrases, %zu moments: digest %016" PRIx64 "\n", (unsigned)reading, listed, rounds, moments_read, digest);
     return 0;
 }

@@ -47,36 +47,42 @@ static int kept_from(const struct lent *l, size_t from) {
     return 1;
 }
 
-static uint64_t read_at(const char *phrase, size_t n, struct lent *l) {
-    return fuzzy_read((const uint8_t *)phrase, n, 2026, 2, 11, 9, 30, 15, l->in.moment);
+static uint64_t read_at(uint32_t reading, const char *phrase, size_t n, struct lent *l) {
+    return fuzzy_read(reading, (const uint8_t *)phrase, n, 2026, 2, 11, 9, 30, 15, l->in.moment);
 }
 
-/* a refusal with its number, place and length, and nothing written: by reading, and by making ready where it is one of 1 to 7 */
-static void refused(const char *phrase, size_t n, unsigned number, size_t place, size_t length) {
+/* a refusal with its number, place and length, and nothing written: by reading, and by making ready where it is one of 1 to 7 or 15 */
+static void refused_as(uint32_t reading, const char *phrase, size_t n, unsigned number, size_t place, size_t length) {
     struct lent l = fresh();
-    uint64_t answer = read_at(phrase, n, &l);
+    uint64_t answer = read_at(reading, phrase, n, &l);
     expect(fuzzy_number(answer) == number, "the number of a refusal");
     expect(fuzzy_place(answer) == place, "the place of a refusal");
     expect(fuzzy_length(answer) == length, "the length of a part");
     expect(kept_from(&l, 0), "nothing written on a refusal");
-    if (number <= 7) {
+    if (number <= 7 || number == FUZZY_NO_READING) {
         l = fresh();
-        expect(fuzzy_make_ready((const uint8_t *)phrase, n, l.in.ready) == answer, "making ready refuses as reading does");
+        expect(fuzzy_make_ready(reading, (const uint8_t *)phrase, n, l.in.ready) == answer, "making ready refuses as reading does");
         expect(kept_from(&l, 0), "nothing written by making ready on a refusal");
     }
 }
 
+/* the same in both readings */
+static void refused(const char *phrase, size_t n, unsigned number, size_t place, size_t length) {
+    refused_as(FUZZY_FIRST, phrase, n, number, place, length);
+    refused_as(FUZZY_SECOND, phrase, n, number, place, length);
+}
+
 /* a moment, by reading and by running what was made ready; bytes past what was written stay */
-static void given(const char *phrase, uint32_t y, uint32_t mo, uint32_t d, uint32_t h, uint32_t mi, uint32_t s) {
+static void given_as(uint32_t reading, const char *phrase, uint32_t y, uint32_t mo, uint32_t d, uint32_t h, uint32_t mi, uint32_t s) {
     const uint32_t wanted[FUZZY_MOMENT_NUMBERS] = {y, mo, d, h, mi, s};
     struct lent l = fresh();
     struct lent m = fresh();
     uint64_t made;
-    expect(read_at(phrase, strlen(phrase), &l) == 0, "a phrase that is read");
+    expect(read_at(reading, phrase, strlen(phrase), &l) == 0, "a phrase that is read");
     expect(memcmp(l.in.moment, wanted, sizeof wanted) == 0, "its moment");
     expect(kept_from(&l, sizeof wanted), "nothing written but the moment");
     l = fresh();
-    made = fuzzy_make_ready((const uint8_t *)phrase, strlen(phrase), l.in.ready);
+    made = fuzzy_make_ready(reading, (const uint8_t *)phrase, strlen(phrase), l.in.ready);
     expect(fuzzy_number(made) == 0 && fuzzy_place(made) == 0, "a phrase that is made ready");
     expect(fuzzy_length(made) >= 16 && fuzzy_length(made) <= FUZZY_READY_SIZE && fuzzy_length(made) % 16 == 0, "its length");
     expect(kept_from(&l, fuzzy_length(made)), "nothing written but the ready phrase");
@@ -90,6 +96,12 @@ static void given(const char *phrase, uint32_t y, uint32_t mo, uint32_t d, uint3
     l.in.ready[2] ^= 1;
     expect(fuzzy_run(l.in.ready, fuzzy_length(made), 2026, 2, 11, 9, 30, 15, m.in.moment) == 9, "a damaged ready phrase");
     expect(kept_from(&m, 0), "nothing written for a damaged ready phrase");
+}
+
+/* the same in both readings */
+static void given(const char *phrase, uint32_t y, uint32_t mo, uint32_t d, uint32_t h, uint32_t mi, uint32_t s) {
+    given_as(FUZZY_FIRST, phrase, y, mo, d, h, mi, s);
+    given_as(FUZZY_SECOND, phrase, y, mo, d, h, mi, s);
 }
 
 static uint64_t write_with_room(const uint32_t s[FUZZY_STAMP_NUMBERS], struct lent *l, size_t room) {
@@ -160,11 +172,16 @@ int main(void) {
     size_t i;
 
     given("next friday", 2026, 2, 20, 9, 30, 15);
-    given("tuesday in two weeks", 2026, 1, 27, 9, 30, 15);
+    given_as(FUZZY_FIRST, "tuesday in two weeks", 2026, 1, 27, 9, 30, 15);
+    given_as(FUZZY_SECOND, "tuesday in two weeks", 2026, 3, 3, 9, 30, 15);
+    given("tuesday two weeks ago", 2026, 1, 27, 9, 30, 15);
     given("5.2.2022", 2022, 2, 5, 9, 30, 15);
     given("5/2 at noon", 2026, 5, 2, 12, 0, 0);
     given("2 months before 3 weeks after tomorrow at 5:00", 2026, 1, 5, 5, 0, 0);
 
+    refused_as(0, "forty", 5, FUZZY_NO_READING, 0, 0);
+    refused_as(3, "", 0, FUZZY_NO_READING, 0, 0);
+    refused_as(UINT32_MAX, "today", 5, FUZZY_NO_READING, 0, 0);
     refused("", 0, FUZZY_NOTHING, 0, 0);
     refused("   ", 3, FUZZY_NOTHING, 0, 0);
     refused("forty days ago", 14, FUZZY_UNKNOWN, 0, 5);
@@ -181,9 +198,11 @@ int main(void) {
     refused(many, 256, FUZZY_TOO_MANY, 128, 1);
     refused(many, 257, FUZZY_TOO_LONG, 0, 0);
     refused(many, sizeof many, FUZZY_TOO_LONG, 0, 0);
+    refused_as(3, many, sizeof many, FUZZY_NO_READING, 0, 0);
 
-    expect(fuzzy_read((const uint8_t *)"today", 5, 10000, 1, 1, 0, 0, 0, l.in.moment) == FUZZY_NO_NOW, "a now past the calendar");
-    expect(fuzzy_read((const uint8_t *)"a year from now", 15, 2024, 2, 29, 12, 0, 0, l.in.moment) == FUZZY_NO_LEAP_DAY, "29 February");
+    expect(fuzzy_read(FUZZY_FIRST, (const uint8_t *)"today", 5, 10000, 1, 1, 0, 0, 0, l.in.moment) == FUZZY_NO_NOW, "a now past the calendar");
+    expect(fuzzy_read(3, (const uint8_t *)"today", 5, 10000, 1, 1, 0, 0, 0, l.in.moment) == FUZZY_NO_READING, "no such reading, before the now");
+    expect(fuzzy_read(FUZZY_FIRST, (const uint8_t *)"a year from now", 15, 2024, 2, 29, 12, 0, 0, l.in.moment) == FUZZY_NO_LEAP_DAY, "29 February");
     expect(fuzzy_run((const uint8_t *)"", 0, 2026, 2, 11, 9, 30, 15, l.in.moment) == FUZZY_NO_SENSE, "no step");
     expect(fuzzy_run((const uint8_t *)many, 400, 2026, 2, 11, 9, 30, 15, l.in.moment) == FUZZY_NO_SENSE, "25 records");
     expect(kept_from(&l, 0), "nothing written by any of these");

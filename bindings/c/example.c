@@ -1,4 +1,4 @@
-/* Reads phrases at one now, a ready phrase at two, and a stamp. Copy what you need. */
+/* Reads phrases at one now, a ready phrase at two, one phrase in both readings, and stamps. Copy what you need. */
 #include "fuzzy.h"
 
 #include <stdio.h>
@@ -40,19 +40,28 @@ int main(void) {
     /* the now is 2026-02-11 09:30:15 */
     for (i = 0; i < sizeof phrases / sizeof phrases[0]; i++) {
         const uint8_t *phrase = (const uint8_t *)phrases[i];
-        show(phrases[i], fuzzy_read(phrase, strlen(phrases[i]), 2026, 2, 11, 9, 30, 15, moment), moment);
+        show(phrases[i], fuzzy_read(FUZZY_FIRST, phrase, strlen(phrases[i]), 2026, 2, 11, 9, 30, 15, moment), moment);
     }
 
     /* made ready once, run at two nows */
     {
         const char *phrase = "a year from now";
-        uint64_t made = fuzzy_make_ready((const uint8_t *)phrase, strlen(phrase), ready);
+        uint64_t made = fuzzy_make_ready(FUZZY_FIRST, (const uint8_t *)phrase, strlen(phrase), ready);
         if (fuzzy_number(made) != 0) {
             show(phrase, made, moment);
             return 1;
         }
         show(phrase, fuzzy_run(ready, fuzzy_length(made), 2026, 2, 11, 9, 30, 15, moment), moment);
         show(phrase, fuzzy_run(ready, fuzzy_length(made), 2024, 2, 29, 12, 0, 0, moment), moment);
+    }
+
+    /* one phrase in both readings */
+    {
+        const char *phrase = "tuesday in two weeks";
+        uint32_t reading;
+        for (reading = FUZZY_FIRST; reading <= FUZZY_SECOND; reading++) {
+            show(phrase, fuzzy_read(reading, (const uint8_t *)phrase, strlen(phrase), 2026, 2, 11, 9, 30, 15, moment), moment);
+        }
     }
 
     show_stamp("2026-02-11t09:30:15+00:00");

@@ -20,11 +20,11 @@ static void call_nothing(void) {
 
 static void call_read(void) {
     const uint32_t *n = line.now;
-    fuzzy_read(line.phrase, line.length, n[0], n[1], n[2], n[3], n[4], n[5], moment);
+    fuzzy_read(FUZZY_FIRST, line.phrase, line.length, n[0], n[1], n[2], n[3], n[4], n[5], moment);
 }
 
 static void call_make_ready(void) {
-    made = fuzzy_make_ready(line.phrase, line.length, ready);
+    made = fuzzy_make_ready(FUZZY_FIRST, line.phrase, line.length, ready);
 }
 
 static void call_run(void) {

@@ -26,9 +26,9 @@ pub fn answer(line: &[u8]) -> String {
         Ok(read) => read,
         Err(failure) => return format!("{shown}|{failure}"),
     };
-    let reading = format!("{tree:?}").replace(' ', "");
+    let shown_tree = format!("{tree:?}").replace(' ', "");
     let moment = evaluate(&tree, taken < lexemes.len(), now);
-    format!("{shown}|{reading}|{taken}|{moment}")
+    format!("{shown}|{shown_tree}|{taken}|{moment}")
 }
 
 /// The last stage: lexemes left are an error, as in lib.rs; a now that chrono cannot hold never reaches the Rust

@@ -1,4 +1,4 @@
-//! The oracle: one line `NOW|PHRASE` in, one line `LEXEMES|READING|TAKEN|MOMENT` out, by the Rust's own lexer.rs and ast.rs.
+//! The oracle: one line `NOW|PHRASE` in, one line `LEXEMES|TREE|TAKEN|MOMENT` out, by the Rust's own lexer.rs and ast.rs.
 //! A line ends at the stage that answers an error or panics, with `error` or `panic` in that stage's field.
 
 #[allow(dead_code)]

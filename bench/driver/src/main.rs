@@ -13,8 +13,8 @@ use chrono::{DateTime, Datelike, NaiveDate, TimeZone, Timelike, Utc};
 pub use error::Error;
 
 extern "C" {
-    fn fuzzy_read(phrase: *const u8, length: usize, y: u32, mo: u32, d: u32, h: u32, mi: u32, s: u32, moment: *mut u32) -> u64;
-    fn fuzzy_make_ready(phrase: *const u8, length: usize, ready: *mut u8) -> u64;
+    fn fuzzy_read(reading: u32, phrase: *const u8, length: usize, y: u32, mo: u32, d: u32, h: u32, mi: u32, s: u32, moment: *mut u32) -> u64;
+    fn fuzzy_make_ready(reading: u32, phrase: *const u8, length: usize, ready: *mut u8) -> u64;
     fn fuzzy_run(ready: *const u8, length: usize, y: u32, mo: u32, d: u32, h: u32, mi: u32, s: u32, moment: *mut u32) -> u64;
 }
 
@@ -36,7 +36,7 @@ fn by_ours(phrase: &str) -> Moment {
     let [y, mo, d, h, mi, s] = NOW;
     let mut moment = [0; 6];
     // SAFETY: the pointers are those of a slice and of an array of the size that the function writes
-    let answer = unsafe { fuzzy_read(phrase.as_ptr(), phrase.len(), y, mo, d, h, mi, s, moment.as_mut_ptr()) };
+    let answer = unsafe { fuzzy_read(1, phrase.as_ptr(), phrase.len(), y, mo, d, h, mi, s, moment.as_mut_ptr()) };
     assert!(answer == 0, "{phrase}");
     moment
 }
@@ -44,7 +44,7 @@ fn by_ours(phrase: &str) -> Moment {
 fn made_ready(phrase: &str) -> Vec<u8> {
     let mut bytes = vec![0; 384];
     // SAFETY: the pointers are those of a slice and of an array of the size that the function may write
-    let answer = unsafe { fuzzy_make_ready(phrase.as_ptr(), phrase.len(), bytes.as_mut_ptr()) };
+    let answer = unsafe { fuzzy_make_ready(1, phrase.as_ptr(), phrase.len(), bytes.as_mut_ptr()) };
     assert!(answer & 0xffff == 0, "{phrase}");
     bytes.truncate((answer >> 32) as usize);
     bytes

@@ -1,12 +1,12 @@
 //! Reminder phrases such as "next friday at 3 pm", read at a now that the caller gives.
 //!
 //! ```
-//! use fuzzydate::{read, Moment};
+//! use fuzzydate::{read, Moment, Reading};
 //!
 //! let now = Moment { year: 2026, month: 2, day: 11, hour: 9, minute: 30, second: 15 };
-//! assert_eq!(read("next friday at 3 pm", now).unwrap().to_string(), "2026-02-20 15:00:00");
+//! assert_eq!(read(Reading::First, "next friday at 3 pm", now).unwrap().to_string(), "2026-02-20 15:00:00");
 //!
-//! let refusal = read("forty days ago", now).unwrap_err();
+//! let refusal = read(Reading::First, "forty days ago", now).unwrap_err();
 //! assert_eq!(refusal.part(), b"forty");
 //! assert_eq!(refusal.to_string(), "\"forty\" at byte 0 is not understood");
 //! ```
@@ -14,9 +14,9 @@
 //! A phrase can be made ready without a now, stored, sent, and run at any now:
 //!
 //! ```
-//! use fuzzydate::{Moment, Ready, Reason};
+//! use fuzzydate::{Moment, Reading, Ready, Reason};
 //!
-//! let ready = Ready::new("a year from now").unwrap();
+//! let ready = Ready::new(Reading::First, "a year from now").unwrap();
 //! let stored = ready.as_bytes().to_vec();
 //!
 //! let leap_day = Moment { year: 2024, month: 2, day: 29, hour: 12, minute: 0, second: 0 };
@@ -41,6 +41,7 @@ use std::str::FromStr;
 
 extern "C" {
     fn fuzzy_read(
+        reading: u32,
         phrase: *const u8,
         phrase_length: usize,
         year: u32,
@@ -51,7 +52,7 @@ extern "C" {
         second: u32,
         moment: *mut u32,
     ) -> u64;
-    fn fuzzy_make_ready(phrase: *const u8, phrase_length: usize, ready: *mut u8) -> u64;
+    fn fuzzy_make_ready(reading: u32, phrase: *const u8, phrase_length: usize, ready: *mut u8) -> u64;
     fn fuzzy_run(
         ready: *const u8,
         ready_length: usize,
@@ -105,6 +106,24 @@ impl fmt::Display for Moment {
     }
 }
 
+/// The two readings of a phrase. They differ in what "in" behind a weekday means.
+///
+/// ```
+/// # use fuzzydate::{read, Moment, Reading};
+/// let wednesday = Moment { year: 2026, month: 2, day: 11, hour: 9, minute: 30, second: 15 };
+/// let due = |reading| read(reading, "tuesday in two weeks", wednesday).unwrap().to_string();
+/// assert_eq!(due(Reading::First), "2026-01-27 09:30:15");
+/// assert_eq!(due(Reading::Second), "2026-03-03 09:30:15");
+/// ```
+#[derive(Clone, Copy, Debug, PartialEq, Eq, Hash)]
+#[repr(u32)]
+pub enum Reading {
+    /// As the Rust library fuzzydate reads it: back in time.
+    First = 1,
+    /// Forward by the duration, and on to the first such weekday, that day included.
+    Second = 2,
+}
+
 /// Why a phrase, a ready phrase or a stamp is refused. They are tested in this order.
 #[derive(Clone, Copy, Debug, PartialEq, Eq, PartialOrd, Ord, Hash)]
 #[repr(u8)]
@@ -137,13 +156,15 @@ pub enum Reason {
     NoLeapDay = 13,
     /// No RFC 3339 stamp: another form, or no such date, time or offset.
     NoStamp = 14,
+    /// A reading other than 1 and 2, which [`Reading`] cannot be.
+    NoReading = 15,
     /// The room that was lent is too short for the text.
     NoRoom = 17,
 }
 
 impl Reason {
     /// In the order of their numbers.
-    const ALL: [Reason; 15] = [
+    const ALL: [Reason; 16] = [
         Reason::TooLong,
         Reason::Unknown,
         Reason::LargeDigits,
@@ -158,6 +179,7 @@ impl Reason {
         Reason::Outside,
         Reason::NoLeapDay,
         Reason::NoStamp,
+        Reason::NoReading,
         Reason::NoRoom,
     ];
 
@@ -188,6 +210,7 @@ impl Reason {
             Reason::Outside => "the moment is outside the years 1 to 9999",
             Reason::NoLeapDay => "29 February is not in that year",
             Reason::NoStamp => "this is no RFC 3339 date and time",
+            Reason::NoReading => "there is no such reading",
             Reason::NoRoom => "there is no room for the text",
         }
     }
@@ -236,21 +259,22 @@ impl fmt::Display for Refusal<'_> {
 
 impl std::error::Error for Refusal<'_> {}
 
-/// A phrase at a now.
+/// A phrase at a now, in one of the two readings.
 ///
 /// ```
-/// # use fuzzydate::{read, Moment, Reason};
+/// # use fuzzydate::{read, Moment, Reading, Reason};
 /// let now = Moment { year: 2024, month: 2, day: 29, hour: 12, minute: 0, second: 0 };
-/// assert_eq!(read("12 months from now", now).unwrap().to_string(), "2025-02-28 12:00:00");
-/// assert_eq!(read("5/2", now).unwrap_err().part(), b"/2");
-/// assert_eq!(read("", now).unwrap_err().reason(), Reason::Nothing);
+/// assert_eq!(read(Reading::First, "12 months from now", now).unwrap().to_string(), "2025-02-28 12:00:00");
+/// assert_eq!(read(Reading::First, "5/2", now).unwrap_err().part(), b"/2");
+/// assert_eq!(read(Reading::First, "", now).unwrap_err().reason(), Reason::Nothing);
 /// ```
-pub fn read<P: AsRef<[u8]> + ?Sized>(phrase: &P, now: Moment) -> Result<Moment, Refusal<'_>> {
+pub fn read<P: AsRef<[u8]> + ?Sized>(reading: Reading, phrase: &P, now: Moment) -> Result<Moment, Refusal<'_>> {
     let bytes = phrase.as_ref();
     let mut moment = [0; 6];
     // SAFETY: the pointers are those of a slice and of an array of the size that the function writes.
     let answer = unsafe {
         fuzzy_read(
+            reading as u32,
             bytes.as_ptr(),
             bytes.len(),
             now.year,
@@ -276,12 +300,12 @@ pub struct Ready {
 }
 
 impl Ready {
-    /// Makes a phrase ready. It is refused exactly when reading it is, for the same reason.
-    pub fn new<P: AsRef<[u8]> + ?Sized>(phrase: &P) -> Result<Ready, Refusal<'_>> {
+    /// Makes a phrase ready in one of the two readings. It is refused exactly when reading it is, for the same reason.
+    pub fn new<P: AsRef<[u8]> + ?Sized>(reading: Reading, phrase: &P) -> Result<Ready, Refusal<'_>> {
         let phrase = phrase.as_ref();
         let mut bytes = [0; READY_SIZE];
         // SAFETY: the pointers are those of a slice and of an array of the size that the function may write.
-        let answer = unsafe { fuzzy_make_ready(phrase.as_ptr(), phrase.len(), bytes.as_mut_ptr()) };
+        let answer = unsafe { fuzzy_make_ready(reading as u32, phrase.as_ptr(), phrase.len(), bytes.as_mut_ptr()) };
         if answer & 0xffff == 0 {
             return Ok(Ready { bytes, length: (answer >> 32) as usize });
         }
@@ -300,7 +324,7 @@ impl Ready {
         Some(Ready { bytes, length: stored.len() })
     }
 
-    /// Runs it at a now: what [`read`] gives for its phrase at that now.
+    /// Runs it at a now: what [`read`] gives for its phrase at that now, in the reading that it was made in.
     pub fn run(&self, now: Moment) -> Result<Moment, Refusal<'static>> {
         let mut moment = [0; 6];
         // SAFETY: the pointers are those of a slice and of an array of the size that the function writes.

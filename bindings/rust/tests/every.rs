@@ -1,5 +1,5 @@
 //! Every function with good, damaged and empty input.
-use fuzzydate::{read, Moment, Offset, Ready, Reason, Stamp};
+use fuzzydate::{read, Moment, Offset, Reading, Ready, Reason, Stamp};
 
 const NOW: Moment = Moment { year: 2026, month: 2, day: 11, hour: 9, minute: 30, second: 15 };
 const LEAP_DAY: Moment = Moment { year: 2024, month: 2, day: 29, hour: 12, minute: 0, second: 0 };
@@ -18,8 +18,27 @@ fn gives_moments() {
         ("march 4th", "2026-03-04 09:30:15"),
     ];
     for (phrase, moment) in cases {
-        assert_eq!(read(phrase, NOW).unwrap().to_string(), moment, "{phrase}");
-        assert_eq!(Ready::new(phrase).unwrap().run(NOW).unwrap().to_string(), moment, "{phrase}, made ready");
+        assert_eq!(read(Reading::First, phrase, NOW).unwrap().to_string(), moment, "{phrase}");
+        assert_eq!(Ready::new(Reading::First, phrase).unwrap().run(NOW).unwrap().to_string(), moment, "{phrase}, made ready");
+    }
+}
+
+#[test]
+fn reads_in_two_readings() {
+    let cases = [
+        ("tuesday in two weeks", "2026-01-27 09:30:15", "2026-03-03 09:30:15"),
+        ("wednesday in two weeks", "2026-01-28 09:30:15", "2026-02-25 09:30:15"),
+        ("tuesday two weeks ago", "2026-01-27 09:30:15", "2026-01-27 09:30:15"),
+        ("tuesday in two hours", "", ""),
+        ("next friday", "2026-02-20 09:30:15", "2026-02-20 09:30:15"),
+    ];
+    for (phrase, first, second) in cases {
+        for (reading, moment) in [(Reading::First, first), (Reading::Second, second)] {
+            let shown = |answer: Result<Moment, _>| answer.map(|m| m.to_string()).unwrap_or_default();
+            assert_eq!(shown(read(reading, phrase, NOW)), moment, "{phrase}");
+            let made = Ready::new(reading, phrase).map_or_else(|_| String::new(), |ready| shown(ready.run(NOW)));
+            assert_eq!(made, moment, "{phrase}, made ready");
+        }
     }
 }
 
@@ -40,12 +59,12 @@ fn refuses_with_reason_place_and_part() {
         (&[b' '; 257], Reason::TooLong, 0, b""),
     ];
     for (phrase, reason, place, part) in cases {
-        let refusal = read(phrase, NOW).unwrap_err();
+        let refusal = read(Reading::First, phrase, NOW).unwrap_err();
         assert_eq!((refusal.reason(), refusal.place(), refusal.part()), (reason, place, part), "{refusal}");
         if reason <= Reason::LeftOver {
-            assert_eq!(Ready::new(phrase).unwrap_err(), refusal);
+            assert_eq!(Ready::new(Reading::First, phrase).unwrap_err(), refusal);
         } else {
-            assert_eq!(Ready::new(phrase).unwrap().run(NOW).unwrap_err().reason(), reason);
+            assert_eq!(Ready::new(Reading::First, phrase).unwrap().run(NOW).unwrap_err().reason(), reason);
         }
     }
 }
@@ -53,26 +72,26 @@ fn refuses_with_reason_place_and_part() {
 #[test]
 fn counts_to_64_lexemes() {
     let mut phrase = b"1 ".repeat(64);
-    assert_eq!(read(&phrase, NOW).unwrap_err().reason(), Reason::LeftOver);
+    assert_eq!(read(Reading::First, &phrase, NOW).unwrap_err().reason(), Reason::LeftOver);
     phrase.extend_from_slice(b"1");
-    let refusal = read(&phrase, NOW).unwrap_err();
+    let refusal = read(Reading::First, &phrase, NOW).unwrap_err();
     assert_eq!((refusal.reason(), refusal.place(), refusal.part()), (Reason::TooMany, 128, &b"1"[..]));
 }
 
 #[test]
 fn refuses_an_invalid_now_after_reading() {
-    assert_eq!(read("today", NO_NOW).unwrap_err().reason(), Reason::NoNow);
-    assert_eq!(read("forty", NO_NOW).unwrap_err().reason(), Reason::Unknown);
-    assert_eq!(Ready::new("today").unwrap().run(NO_NOW).unwrap_err().reason(), Reason::NoNow);
-    assert_eq!(read("a year from now", LEAP_DAY).unwrap_err().reason(), Reason::NoLeapDay);
+    assert_eq!(read(Reading::First, "today", NO_NOW).unwrap_err().reason(), Reason::NoNow);
+    assert_eq!(read(Reading::First, "forty", NO_NOW).unwrap_err().reason(), Reason::Unknown);
+    assert_eq!(Ready::new(Reading::First, "today").unwrap().run(NO_NOW).unwrap_err().reason(), Reason::NoNow);
+    assert_eq!(read(Reading::First, "a year from now", LEAP_DAY).unwrap_err().reason(), Reason::NoLeapDay);
 }
 
 #[test]
 fn stores_ready_phrases() {
-    let ready = Ready::new("2 months before 3 weeks after tomorrow at 5:00").unwrap();
+    let ready = Ready::new(Reading::First, "2 months before 3 weeks after tomorrow at 5:00").unwrap();
     let again = Ready::from_bytes(ready.as_bytes()).unwrap();
     assert_eq!(ready, again);
-    assert_eq!(again.run(NOW), read("2 months before 3 weeks after tomorrow at 5:00", NOW));
+    assert_eq!(again.run(NOW), read(Reading::First, "2 months before 3 weeks after tomorrow at 5:00", NOW));
     let mut damaged = ready.as_bytes().to_vec();
     damaged[2] ^= 1;
     assert_eq!(Ready::from_bytes(&damaged).unwrap().run(NOW).unwrap_err().reason(), Reason::NoSense);
@@ -82,9 +101,9 @@ fn stores_ready_phrases() {
 
 #[test]
 fn says_what_is_wrong() {
-    assert_eq!(read("next forty", NOW).unwrap_err().to_string(), "\"forty\" at byte 5 is not understood");
-    assert_eq!(read("at \u{e9}", NOW).unwrap_err().to_string(), "\"\\xc3\" at byte 3 is not understood");
-    assert_eq!(read("", NOW).unwrap_err().to_string(), "there is no date or time in the phrase");
+    assert_eq!(read(Reading::First, "next forty", NOW).unwrap_err().to_string(), "\"forty\" at byte 5 is not understood");
+    assert_eq!(read(Reading::First, "at \u{e9}", NOW).unwrap_err().to_string(), "\"\\xc3\" at byte 3 is not understood");
+    assert_eq!(read(Reading::First, "", NOW).unwrap_err().to_string(), "there is no date or time in the phrase");
 }
 
 #[test]

@@ -3,7 +3,6 @@ use Prim.Native.Nat.{ℕ, _≤_, min}
 use native.Mathlib.Omega.{arith}
 use mathlib.Core.Path.{_≡_, refl, sym, _∙_}
 use mathlib.Core.List.{List}
-use borrow.Fn.Kinds.{Out}
 use lib.ListN.{length, take}
 use Rattle.refusals.specs.Answers.{Answer, given, refused}
 use Rattle.refusals.specs.declared.Refusal.{Refusal}
@@ -11,20 +10,18 @@ use Rattle.refusals.proofs.Holds.{Holds, of-given, of-refusal, Bounded, given-h
 use Rattle.digits.proofs.Stores.{sets-taken}
 use Rattle.calendar.specs.Moments.{IsMoment}
 use Rattle.calendar.specs.declared.moments.Moment.{Moment}
-use Rattle.lexer.specs.Keywords.{keywords}
-use Rattle.answer.specs.Answer.{placed, answerOf}
+use Rattle.answer.specs.Answer.{placed}
+use Rattle.lexer.specs.declared.reading.Reading.the-variants.{First, Second}
 use Rattle.answer.proofs.PhraseAtNow.{settled}
 use Rattle.steps.specs.Running.{runOf}
 use Rattle.steps.specs.declared.plan.Step.{Step}
-use Rattle.ready.specs.Ready.{ReadyPhrase, readyOf}
-use Rattle.ready.proofs.ReadyPhrases.{ready-answers, made-ready}
+use Rattle.ready.specs.Ready.{ReadyPhrase}
 use Rattle.ready.proofs.Settles.{run-settled}
 use Rattle.records.specs.Records.{encodeOf, decodeOf}
 use Rattle.records.proofs.Lists.{length-encoded}
-use Rattle.fuzzydate.proofs.Back.{read-back}
-use Rattle.fuzzydate.specs.Called.{codeOf, momentAfter, readyCode, readyAfter}
-use Rattle.fuzzydate.proofs.fuzzy_read.Kinds as kinds
-use Rattle.agreed.specs.Calls.{Call, MakeReady, bytesOf, nowOf, arrayOf, arrayAfter, AtNow, Read, Run, number, size}
+use Rattle.fuzzydate.proofs.Readings.{settled-in, ready-in-answers, made-in, read-back, no-reading}
+use Rattle.fuzzydate.specs.Called.{answerIn, readyIn, codeOf, momentAfter, readyCode, readyAfter}
+use Rattle.agreed.specs.Calls.{IsReading, first, second, MakeReady, Seen, AtNow, readSeen, runSeen, Read, Run, number, size}
 use Rattle.agreed.specs.Calls.{Alike, Answered, moment, refusal}
 
 -- what an answer of the definitions becomes in a call
@@ -33,11 +30,11 @@ record Says (w : Answer Moment) (array : List ℕ) (k : ℕ) (array′ : List �
   array′-is : array′ ≡ momentAfter w array
 
 -- a promise that gives the answer of a definition
-module _ {Post : Out 2 kinds.ps kinds.r} (defined : List ℕ → Moment → Answer Moment)
-    (number-of : (c : Call Post) → c .result ≡ codeOf (defined (bytesOf c) (nowOf c)))
-    (left-of : (c : Call Post) → arrayAfter c ≡ momentAfter (defined (bytesOf c) (nowOf c)) (arrayOf c)) where
+module _ {C : Type 0} (seen : Seen C) (defined : List ℕ → Moment → Answer Moment)
+    (number-of : (c : C) → seen .resultOf c ≡ codeOf (defined (seen .bytesOf c) (seen .nowOf c)))
+    (left-of : (c : C) → seen .arrayAfter c ≡ momentAfter (defined (seen .bytesOf c) (seen .nowOf c)) (seen .arrayOf c)) where
   says : {bytes : List ℕ} {n : Moment} {array : List ℕ} {k : ℕ} {array′ : List ℕ} →
-      AtNow Post bytes n array k array′ → Says (defined bytes n) array k array′
+      AtNow seen bytes n array k array′ → Says (defined bytes n) array k array′
   says c =
       record {
         number-is = rw (← (c .bytes-are), ← (c .now-is), ← (c .answer-is)) (number-of (c .call));
@@ -45,29 +42,33 @@ module _ {Post : Out 2 kinds.ps kinds.r} (defined : List ℕ → Moment → Answ
       }
 
 module _ {bytes : List ℕ} {n : Moment} {array : List ℕ} {k : ℕ} {array′ : List ℕ} where
-  read-says : Read bytes n array k array′ → Says (answerOf keywords bytes n) array k array′
-  read-says = says (answerOf keywords) (λ c. c .promised .0) (λ c. c .promised .1)
+  read-says : (reading : ℕ) → Read reading bytes n array k array′ → Says (answerIn reading bytes n) array k array′
+  read-says reading =
+      says (readSeen reading) (answerIn reading)
+      (λ c. rw (← (c .reading-is)) (c .call .promised .0))
+      (λ c. rw (← (c .reading-is)) (c .call .promised .1))
 
   run-says : Run bytes n array k array′ → Says (placed (runOf (decodeOf bytes) n)) array k array′
-  run-says = says (λ bytes n. placed (runOf (decodeOf bytes) n)) (λ c. c .promised .0) (λ c. c .promised .1)
+  run-says = says runSeen (λ bytes n. placed (runOf (decodeOf bytes) n)) (λ c. c .promised .0) (λ c. c .promised .1)
 
 -- what a ready phrase of the definitions becomes in a call
 record Makes (w : ReadyPhrase) (array : List ℕ) (k : ℕ) (array′ : List ℕ) : Type 0 where
   number-is : k ≡ readyCode w
   array′-is : array′ ≡ readyAfter w array
 
-make-says : {phrase array array′ : List ℕ} {k : ℕ} → MakeReady phrase array k array′ → Makes (readyOf keywords phrase) array k array′
+make-says :
+    {reading : ℕ} {phrase array array′ : List ℕ} {k : ℕ} → MakeReady reading phrase array k array′ → Makes (readyIn reading phrase) array k array′
 make-says c =
     let p = c .call .promised in
     record {
-      number-is = rw (← (c .phrase-is), ← (c .answer-is)) (p .0);
-      array′-is = rw (← (c .phrase-is), ← (c .array-is), ← (c .array′-is)) (p .1);
+      number-is = rw (← (c .reading-is), ← (c .phrase-is), ← (c .answer-is)) (p .0);
+      array′-is = rw (← (c .reading-is), ← (c .phrase-is), ← (c .array-is), ← (c .array′-is)) (p .1);
     }
 
 -- one answer, given in two calls
 alike :
     {m : ℕ} {w : Answer Moment} {phone phone′ hub hub′ : List ℕ} {q r : ℕ} →
-    Holds IsMoment (Bounded 1 13 m) w → Says w phone q phone′ → Says w hub r hub′ → Alike q phone phone′ r hub hub′
+    Holds IsMoment (Bounded 1 15 m) w → Says w phone q phone′ → Says w hub r hub′ → Alike q phone phone′ r hub hub′
 alike (of-given v) c d =
     record {
       number-same = c .number-is ∙ sym (d .number-is);
@@ -92,71 +93,73 @@ handed ss {array} {k = k} few bytes m =
 
 -- a phrase that is made ready runs as it is read, at every now
 run-made :
-    (phrase : List ℕ) {ss : List Step} → readyOf keywords phrase ≡ given ss → (n : Moment) →
-    placed (runOf (decodeOf (encodeOf ss)) n) ≡ answerOf keywords phrase n
-run-made phrase h n = rw (read-back phrase h) (rw h at (ready-answers phrase n))
+    (reading : ℕ) (phrase : List ℕ) {ss : List Step} → readyIn reading phrase ≡ given ss → (n : Moment) →
+    placed (runOf (decodeOf (encodeOf ss)) n) ≡ answerIn reading phrase n
+run-made reading phrase h n = rw (read-back reading phrase h) (rw h at (ready-in-answers reading phrase n))
 
 -- what making ready refuses reading refuses so, at every now
 read-refused :
-    (phrase : List ℕ) {r : Refusal} → readyOf keywords phrase ≡ refused r → (n : Moment) → answerOf keywords phrase n ≡ refused r
-read-refused phrase h n = sym (rw h at (ready-answers phrase n))
+    (reading : ℕ) (phrase : List ℕ) {r : Refusal} → readyIn reading phrase ≡ refused r → (n : Moment) → answerIn reading phrase n ≡ refused r
+read-refused reading phrase h n = sym (rw h at (ready-in-answers reading phrase n))
 
 -- a refusal's number is not 0
 not-zero :
-    (phrase : List ℕ) {q : Refusal} {k : ℕ} {array array′ : List ℕ} {A : Type 0} → readyOf keywords phrase ≡ refused q →
+    (reading : ℕ) (phrase : List ℕ) {q : Refusal} {k : ℕ} {array array′ : List ℕ} {A : Type 0} → readyIn reading phrase ≡ refused q →
     Makes (refused q) array k array′ → number k ≡ 0 → A
-not-zero phrase h m zero =
-    let bounds = refusal-holds (made-ready phrase) h in
+not-zero reading phrase h m zero =
+    let bounds = refusal-holds (made-in reading phrase) h in
     absurd (omega (arith, m .number-is))
 
-module _ (phrase : List ℕ) {array array′ : List ℕ} {k : ℕ} {n : Moment} {hub hub′ : List ℕ} {r : ℕ} (read : Read phrase n hub r hub′) where
+module _ (reading : ℕ) (phrase : List ℕ) {array array′ : List ℕ} {k : ℕ} {n : Moment} {hub hub′ : List ℕ} {r : ℕ}
+    (read : Read reading phrase n hub r hub′) where
   -- making ready refuses
   refused-alike :
-      (w : ReadyPhrase) → readyOf keywords phrase ≡ w → Makes w array k array′ → (number k ≡ 0 → ⊥) →
+      (w : ReadyPhrase) → readyIn reading phrase ≡ w → Makes w array k array′ → (number k ≡ 0 → ⊥) →
       (r ≡ k) × (array′ ≡ array) × (hub′ ≡ hub)
   refused-alike (refused q) h m other =
-      let d = rw (read-refused phrase h n) at (read-says read) in
+      let d = rw (read-refused reading phrase h n) at (read-says reading read) in
       (d .number-is ∙ sym (m .number-is), m .array′-is, d .array′-is)
   refused-alike (given ss) h m other = absurd (other (omega (arith, m .number-is)))
 
   -- it does not, and what was made is run
   run-alike :
-      (w : ReadyPhrase) → readyOf keywords phrase ≡ w → length array ≡ 384 → Makes w array k array′ → number k ≡ 0 →
+      (w : ReadyPhrase) → readyIn reading phrase ≡ w → length array ≡ 384 → Makes w array k array′ → number k ≡ 0 →
       (phone phone′ : List ℕ) (q : ℕ) → Run (take (size k) array′) n phone q phone′ → Alike q phone phone′ r hub hub′
-  run-alike (refused j) h bytes m zero phone phone′ q run = not-zero phrase h m zero
+  run-alike (refused j) h bytes m zero phone phone′ q run = not-zero reading phrase h m zero
   run-alike (given ss) h bytes m zero phone phone′ q run =
-      let c = rw (handed ss (given-holds (made-ready phrase) h .most) bytes m, run-made phrase h n) at (run-says run) in
-      alike (settled phrase n) c (read-says read)
+      let c = rw (handed ss (given-holds (made-in reading phrase) h .most) bytes m, run-made reading phrase h n) at (run-says run) in
+      alike (settled-in reading phrase n) c (read-says reading read)
 
 -- "hub and phones must each arrive at the same moment": what making a phrase ready left, run at any now, gives what reading the phrase at
--- that now gives; and what making ready refuses, reading refuses with the same number, place and part, at every now
+-- that now gives in the same reading; and what making ready refuses, reading refuses with the same number, place and part, at every now
 pub agree :
-    (phrase array array′ : List ℕ) (k : ℕ) → MakeReady phrase array k array′ →
-    (n : Moment) (hub hub′ : List ℕ) (r : ℕ) → Read phrase n hub r hub′ →
+    (reading : ℕ) (phrase array array′ : List ℕ) (k : ℕ) → MakeReady reading phrase array k array′ →
+    (n : Moment) (hub hub′ : List ℕ) (r : ℕ) → Read reading phrase n hub r hub′ →
     (number k ≡ 0 → (phone phone′ : List ℕ) (q : ℕ) → Run (take (size k) array′) n phone q phone′ → Alike q phone phone′ r hub hub′)
     × ((number k ≡ 0 → ⊥) → (r ≡ k) × (array′ ≡ array) × (hub′ ≡ hub))
-agree phrase array array′ k make n hub hub′ r read =
+agree reading phrase array array′ k make n hub hub′ r read =
     let m = make-says make in
-    (run-alike phrase read _ refl (make .bytes) m, refused-alike phrase read _ refl m)
+    (run-alike reading phrase read _ refl (make .bytes) m, refused-alike reading phrase read _ refl m)
 
--- two callers read the same phrase at the same now
+-- two callers read the same phrase in the same reading at the same now
 pub read-alike :
-    (phrase : List ℕ) (n : Moment) {phone phone′ hub hub′ : List ℕ} {q r : ℕ} →
-    Read phrase n phone q phone′ → Read phrase n hub r hub′ → Alike q phone phone′ r hub hub′
-read-alike phrase n c d = alike (settled phrase n) (read-says c) (read-says d)
+    (reading : ℕ) (phrase : List ℕ) (n : Moment) {phone phone′ hub hub′ : List ℕ} {q r : ℕ} →
+    Read reading phrase n phone q phone′ → Read reading phrase n hub r hub′ → Alike q phone phone′ r hub hub′
+read-alike reading phrase n c d = alike (settled-in reading phrase n) (read-says reading c) (read-says reading d)
 
--- two callers make the same phrase ready: the same number, and the same bytes, whatever their arrays held
+-- two callers make the same phrase ready in the same reading: the same number, and the same bytes, whatever their arrays held
 pub ready-alike :
-    (phrase : List ℕ) {phone phone′ hub hub′ : List ℕ} {q r : ℕ} → MakeReady phrase phone q phone′ → MakeReady phrase hub r hub′ →
+    (reading : ℕ) (phrase : List ℕ) {phone phone′ hub hub′ : List ℕ} {q r : ℕ} →
+    MakeReady reading phrase phone q phone′ → MakeReady reading phrase hub r hub′ →
     (q ≡ r) × (number r ≡ 0 → take (size q) phone′ ≡ take (size r) hub′)
-ready-alike phrase {phone} {phone′} {hub} {hub′} {q} {r} c d = go (readyOf keywords phrase) refl (make-says c) (make-says d)
+ready-alike reading phrase {phone} {phone′} {hub} {hub′} {q} {r} c d = go (readyIn reading phrase) refl (make-says c) (make-says d)
   where
     go :
-        (w : ReadyPhrase) → readyOf keywords phrase ≡ w → Makes w phone q phone′ → Makes w hub r hub′ →
+        (w : ReadyPhrase) → readyIn reading phrase ≡ w → Makes w phone q phone′ → Makes w hub r hub′ →
         (q ≡ r) × (number r ≡ 0 → take (size q) phone′ ≡ take (size r) hub′)
-    go (refused j) h m o = (m .number-is ∙ sym (o .number-is), not-zero phrase h o)
+    go (refused j) h m o = (m .number-is ∙ sym (o .number-is), not-zero reading phrase h o)
     go (given ss) h m o =
-        let few = given-holds (made-ready phrase) h .most in
+        let few = given-holds (made-in reading phrase) h .most in
         (m .number-is ∙ sym (o .number-is), λ z. handed ss few (c .bytes) m ∙ sym (handed ss few (d .bytes) o))
 
 -- what an answer whose part lies within m bytes becomes in a call
@@ -167,12 +170,29 @@ answered h few (of-given v) c = rw (c .number-is, c .array′-is) (moment v)
 answered {k = k} h few (of-refusal b) c =
     rw (c .array′-is) (refusal {k = k} (omega (arith, c .number-is)) (omega (arith, c .number-is)) (omega (arith, c .number-is)))
 
--- what every answer to a phrase is: 0 and a moment of the calendar; or a refusal of 1 to 13 whose part lies within the phrase, and nothing
--- written
+-- what every answer to a phrase in a reading is: 0 and a moment of the calendar; or a refusal of 1 to 13 whose part lies within the phrase,
+-- and nothing written
 pub read-answers :
-    (phrase : List ℕ) (n : Moment) {array array′ : List ℕ} {k : ℕ} →
-    Read phrase n array k array′ → Answered 1 (length phrase) array k array′
-read-answers phrase n c = answered {m = min (length phrase) 256} (omega arith) (omega arith) (settled phrase n) (read-says c)
+    {reading : ℕ} → IsReading reading → (phrase : List ℕ) (n : Moment) {array array′ : List ℕ} {k : ℕ} →
+    Read reading phrase n array k array′ → Answered 1 (length phrase) array k array′
+read-answers first phrase n c = answered {m = min (length phrase) 256} (omega arith) (omega arith) (settled First phrase n) (read-says 1 c)
+read-answers second phrase n c = answered {m = min (length phrase) 256} (omega arith) (omega arith) (settled Second phrase n) (read-says 2 c)
+
+-- any other reading is 15, with place 0 and an empty part, before everything else, and nothing is written
+pub none-read :
+    (reading : ℕ) → (IsReading reading → ⊥) → (phrase : List ℕ) (n : Moment) {array array′ : List ℕ} {k : ℕ} →
+    Read reading phrase n array k array′ → (k ≡ 15) × (array′ ≡ array)
+none-read reading other phrase n c =
+    let says = rw (no-reading reading (λ e. other (rw e first)) (λ e. other (rw e second))) at (read-says reading c) in
+    (says .number-is, says .array′-is)
+
+-- so it is where a phrase is made ready
+pub none-made :
+    (reading : ℕ) → (IsReading reading → ⊥) → (phrase : List ℕ) {array array′ : List ℕ} {k : ℕ} →
+    MakeReady reading phrase array k array′ → (k ≡ 15) × (array′ ≡ array)
+none-made reading other phrase c =
+    let makes = rw (no-reading reading (λ e. other (rw e first)) (λ e. other (rw e second))) at (make-says c) in
+    (makes .number-is, makes .array′-is)
 
 -- what running any bytes gives: 0 and a moment of the calendar; or a number of 8 to 13, and nothing written
 pub run-answers :

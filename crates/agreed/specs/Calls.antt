@@ -2,12 +2,10 @@
 use Prim.Native.Nat.{ℕ, _+_, _/_, _%_, _≤_}
 use mathlib.Core.Path.{_≡_}
 use mathlib.Core.List.{List}
-use borrow.Fn.Kinds.{Out}
 use lib.ListN.{length}
 use Rattle.calendar.specs.Moments.{IsMoment, momentOf}
 use Rattle.calendar.specs.declared.moments.Moment.{Moment}
 use Rattle.fuzzydate.specs.Called.{six}
-use Rattle.fuzzydate.proofs.fuzzy_read.Kinds as kinds
 use Rattle.fuzzydate.proofs.fuzzy_read.Reads as read'
 use Rattle.fuzzydate.proofs.fuzzy_run.Reads as run'
 use Rattle.fuzzydate.proofs.fuzzy_make_ready.Reads as make'
@@ -21,45 +19,72 @@ module _ {K : Type 0} {A R E : K → Type 0} (Post : (κs : K) → A κs → R �
     pub exit : E κs
     pub promised : Post κs given result exit
 
--- `fuzzy_make_ready` may answer k for a phrase, and leave `array′` in an array of 384 bytes that held `array`
-pub record MakeReady (phrase array : List ℕ) (k : ℕ) (array′ : List ℕ) : Type 0 where
+-- the numbers of the readings
+pub data IsReading : ℕ → Type 0 where
+  first : IsReading 1
+  second : IsReading 2
+
+-- `fuzzy_make_ready` may answer k for a phrase in a reading, and leave `array′` in an array of 384 bytes that held `array`
+pub record MakeReady (reading : ℕ) (phrase array : List ℕ) (k : ℕ) (array′ : List ℕ) : Type 0 where
   pub call : Call make'.Post
   pub bytes : length array ≡ 384
-  pub phrase-is : call .given .0 .now ≡ phrase
-  pub array-is : call .given .1 .0 .now ≡ array
+  pub reading-is : call .given .0 ≡ reading
+  pub phrase-is : call .given .1 .0 .now ≡ phrase
+  pub array-is : call .given .1 .1 .0 .now ≡ array
   pub answer-is : call .result ≡ k
-  pub array′-is : call .exit .1 .0 .now ≡ array′
+  pub array′-is : call .exit .1 .1 .0 .now ≡ array′
 
--- a call with bytes, a now's six numbers and an array for a moment: what it is given and leaves
-module _ {Post : Out 2 kinds.ps kinds.r} (c : Call Post) where
-  abbrev pub bytesOf : List ℕ
-  bytesOf = c .given .0 .now
-
-  abbrev pub nowOf : Moment
-  nowOf = let a = c .given .1 in momentOf (a .0) (a .1 .0) (a .1 .1 .0) (a .1 .1 .1 .0) (a .1 .1 .1 .1 .0) (a .1 .1 .1 .1 .1 .0)
-
-  abbrev pub arrayOf : List ℕ
-  arrayOf = c .given .1 .1 .1 .1 .1 .1 .1 .0 .now
-
-  abbrev pub arrayAfter : List ℕ
-  arrayAfter = c .exit .1 .1 .1 .1 .1 .1 .1 .0 .now
+-- what is seen of a call with bytes, a now's six numbers and an array for a moment: what it is given, answers and leaves
+pub record Seen (C : Type 0) : Type 0 where
+  pub bytesOf : C → List ℕ
+  pub nowOf : C → Moment
+  pub arrayOf : C → List ℕ
+  pub resultOf : C → ℕ
+  pub arrayAfter : C → List ℕ
 
 -- such a function may answer k for the bytes at the now n, and leave `array′` in an array that held `array`
-pub record AtNow (Post : Out 2 kinds.ps kinds.r) (bytes : List ℕ) (n : Moment) (array : List ℕ) (k : ℕ) (array′ : List ℕ) : Type 0 where
-  pub call : Call Post
-  pub bytes-are : bytesOf call ≡ bytes
-  pub now-is : nowOf call ≡ n
-  pub array-is : arrayOf call ≡ array
-  pub answer-is : call .result ≡ k
-  pub array′-is : arrayAfter call ≡ array′
+pub record AtNow {C : Type 0} (seen : Seen C) (bytes : List ℕ) (n : Moment) (array : List ℕ) (k : ℕ) (array′ : List ℕ) : Type 0 where
+  pub call : C
+  pub bytes-are : seen .bytesOf call ≡ bytes
+  pub now-is : seen .nowOf call ≡ n
+  pub array-is : seen .arrayOf call ≡ array
+  pub answer-is : seen .resultOf call ≡ k
+  pub array′-is : seen .arrayAfter call ≡ array′
 
--- `fuzzy_read`, of a phrase
-abbrev pub Read : List ℕ → Moment → List ℕ → ℕ → List ℕ → Type 0
-Read phrase n array k array′ = AtNow read'.Post phrase n array k array′
+-- a call of `fuzzy_read` in a reading
+pub record ReadIn (reading : ℕ) : Type 0 where
+  pub call : Call read'.Post
+  pub reading-is : call .given .0 ≡ reading
+
+-- what is seen of it
+abbrev pub readSeen : (reading : ℕ) → Seen (ReadIn reading)
+readSeen reading =
+    record {
+      bytesOf = λ c. c .call .given .1 .0 .now;
+      nowOf = λ c. let a = c .call .given .1 .1 in momentOf (a .0) (a .1 .0) (a .1 .1 .0) (a .1 .1 .1 .0) (a .1 .1 .1 .1 .0) (a .1 .1 .1 .1 .1 .0);
+      arrayOf = λ c. c .call .given .1 .1 .1 .1 .1 .1 .1 .1 .0 .now;
+      resultOf = λ c. c .call .result;
+      arrayAfter = λ c. c .call .exit .1 .1 .1 .1 .1 .1 .1 .1 .0 .now;
+    }
+
+-- what is seen of a call of `fuzzy_run`
+abbrev pub runSeen : Seen (Call run'.Post)
+runSeen =
+    record {
+      bytesOf = λ c. c .given .0 .now;
+      nowOf = λ c. let a = c .given .1 in momentOf (a .0) (a .1 .0) (a .1 .1 .0) (a .1 .1 .1 .0) (a .1 .1 .1 .1 .0) (a .1 .1 .1 .1 .1 .0);
+      arrayOf = λ c. c .given .1 .1 .1 .1 .1 .1 .1 .0 .now;
+      resultOf = λ c. c .result;
+      arrayAfter = λ c. c .exit .1 .1 .1 .1 .1 .1 .1 .0 .now;
+    }
+
+-- `fuzzy_read`, of a phrase in a reading
+abbrev pub Read : ℕ → List ℕ → Moment → List ℕ → ℕ → List ℕ → Type 0
+Read reading phrase n array k array′ = AtNow (readSeen reading) phrase n array k array′
 
 -- `fuzzy_run`, of a ready phrase
 abbrev pub Run : List ℕ → Moment → List ℕ → ℕ → List ℕ → Type 0
-Run ready n array k array′ = AtNow run'.Post ready n array k array′
+Run ready n array k array′ = AtNow runSeen ready n array k array′
 
 -- an answer's three parts: the number of a refusal, or 0
 abbrev pub number : ℕ → ℕ

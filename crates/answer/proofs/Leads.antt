@@ -27,10 +27,10 @@ use Rattle.dates.specs.declared.units.Unit.the-variants.{Day, Week, Hour, Minut
 use Rattle.dates.specs.declared.units.RelativeSpecifier.{RelativeSpecifier}
 use Rattle.dates.specs.declared.units.RelativeSpecifier.the-variants.{This, Next, Last}
 use Rattle.expressions.specs.Tree.{DateExpr, date, dateRelative, dateExpressionAfter, dateExpressionBefore, unitRelative, relativeWeekday}
-use Rattle.expressions.specs.Tree.{weekdayRelative, weekdayExpressionBefore, before, after, weekday, empty}
+use Rattle.expressions.specs.Tree.{weekdayRelative, weekdayExpressionBefore, weekdayExpressionAfter, before, after, weekday, empty}
 use Rattle.phrase.specs.Tree.{DateTime, dateTime, timeDate, durationAfter, durationBefore, now}
 use Rattle.evaluation.specs.Steps.{unitStep, partStep, durationStep}
-use Rattle.evaluation.specs.Weekdays.{daysBack, inWeek, backTo}
+use Rattle.evaluation.specs.Weekdays.{daysBack, inWeek, forwardTo, backTo}
 use Rattle.evaluation.specs.Dates.{statedDate, dateAt}
 use Rattle.evaluation.specs.Times.{statedTime, timeAt}
 use Rattle.evaluation.specs.Evaluate.{byYear, isYear, isWeek, isMonthAndDay, byUnit, dateExprAt, evaluate}
@@ -180,6 +180,7 @@ expr-leads (dateRelative d s u) t v =
     tested (isYear u && isMonthAndDay d) _ _
     (λ _. behind (byYear s) (date-leads t v d) (λ w h. by-year-leads w h s)) (refuses refl)
 expr-leads (weekdayExpressionBefore w d) t v = behind (backTo (w % 7)) (lasts true d t v) (λ u h. days-back-lead u h _ _)
+expr-leads (weekdayExpressionAfter w d) t v = behind (forwardTo (w % 7)) (lasts false d t v) (λ u h. on-day-leads u h _)
 expr-leads (dateExpressionAfter d dur) t v = behind (durationStep false dur) (date-leads t v d) (lasts false dur)
 expr-leads (dateExpressionBefore d dur) t v = behind (durationStep true dur) (date-leads t v d) (lasts true dur)
 expr-leads (before dur d) t v = behind (durationStep true dur) (date-leads t v d) (lasts true dur)

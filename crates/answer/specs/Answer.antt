@@ -4,6 +4,7 @@ use mathlib.Core.Path.{_≡_, refl}
 use mathlib.Core.Bool.{cond}
 use mathlib.Core.List.{List, [], _∷_, map}
 use Rattle.lexer.specs.Words.{Word}
+use Rattle.lexer.specs.declared.reading.Reading.{Reading}
 use Rattle.calendar.specs.Gregorian.{leapYear, monthLength}
 use Rattle.calendar.specs.Moments.{Outcome, moment, refused as unreached, isDate, isTime, isMoment, withDate}
 use Rattle.calendar.specs.declared.moments.Moment.{Moment}
@@ -35,8 +36,8 @@ answerFrom (At t) = given t
 answerFrom (Refused r) = refused r
 
 -- the one definition that everything is measured by
-unfoldable pub answerOf : List Word → List ℕ → Moment → Answer Moment
-answerOf ws s n = andThen (readOf ws s) (readingAt n)
+unfoldable pub answerOf : Reading → List Word → List ℕ → Moment → Answer Moment
+answerOf reading ws s n = andThen (readOf reading ws s) (readingAt n)
 
 -- a row: what reading gives, now, and the answer
 pub record Case : Type 0 where

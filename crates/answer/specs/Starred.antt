@@ -5,6 +5,8 @@ use Prim.Native.Nat.{ℕ}
 use Prim.Native.String.{String}
 use Rattle.digits.specs.Bytes.{bytesOf}
 use Rattle.lexer.specs.Keywords.{keywords}
+use Rattle.lexer.specs.declared.reading.Reading.{Reading}
+use Rattle.lexer.specs.declared.reading.Reading.the-variants.{First, Second}
 use Rattle.lexer.specs.Classes.{classOf, markOf}
 use Rattle.lexer.specs.Lex.{numberOf, wordAt, numberAt, tokenAt, lexed}
 use Rattle.numbers.specs.Again.{turns, again}
@@ -70,9 +72,28 @@ starred =
     ∷ row B "12 months from now" (given (withDate 2025 2 28 B))
     ∷ []
 
--- each phrase answers as the paper's table has it
-pub starred-as-listed : map (λ c. answerOf keywords (c .phrase) (c .from)) starred ≡ map (λ c. c .answer) starred
-unfolding starred keywords classOf markOf numberOf wordAt numberAt tokenAt lexed turns again get isAt within fitsOf isEnding wordOf
+-- a row: the reading, and the rest
+pub record Under : Type 0 where
+  pub reading : Reading
+  pub case : Starred
+
+abbrev under : Reading → String → Answer Moment → Under
+under r s a = record { reading = r; case = row A s a }
+
+-- "in" behind a weekday under both readings: back to the weekday, or on to it, that day included; "ago" goes back under both
+unfoldable pub both : List Under
+both =
+    under First "tuesday in two weeks" (day 2026 1 27)
+    ∷ under Second "tuesday in two weeks" (day 2026 3 3)
+    ∷ under Second "wednesday in two weeks" (day 2026 2 25)
+    ∷ under First "tuesday two weeks ago" (day 2026 1 27)
+    ∷ under Second "tuesday two weeks ago" (day 2026 1 27)
+    ∷ []
+
+-- each phrase answers as the paper's table has it, in the first reading, and as listed in both
+pub starred-as-listed : (map (λ c. answerOf First keywords (c .phrase) (c .from)) starred ≡ map (λ c. c .answer) starred)
+    × (map (λ c. answerOf (c .reading) keywords (c .case .phrase) (c .case .from)) both ≡ map (λ c. c .case .answer) both)
+unfolding starred both keywords classOf markOf numberOf wordAt numberAt tokenAt lexed turns again get isAt within fitsOf isEnding wordOf
     literalOf onesOf teensOf tensOf tensOnesOf numDoubleOf sumOf hundredsOf numTailOf numTripleOf numTripleUnitOf unitsOf numStep numOf
     isArticle unitOf namedMonthOf weekdayOf relativeSpecifierOf specificOf articleOf concreteOf durationTurn durationOf namedDayOf
     dayMonthYearOf monthDayOf isDelim threeNumbersOf twoNumbersOf behindSecondOf delimitedOf dateOf minuteOf halfOf clockOf timeOf
@@ -80,4 +101,4 @@ unfolding starred keywords classOf markOf numberOf wordAt numberAt tokenAt lexed
     timedTurnOf undatedTurnOf turnOf dateTimeStep dateTimeOf readOf leapYear monthLength daysBeforeMonth daysOfYears dayNumber yearsBefore
     yearOf dayOfYear monthOf monthOfDay dayOf isDate isTime isMoment onDay minutesStep monthsStep yearsStep
     daysBack evaluate answerOf
-starred-as-listed = refl
+starred-as-listed = (refl, refl)

@@ -2,6 +2,7 @@
 use calendar::moments::Moment;
 use calendar::moments::Reached;
 use evaluation::chain::evaluate;
+use lexer::reading::Reading;
 use phrase::read::read;
 use refusals::NO_NOW;
 use refusals::Refusal;
@@ -30,11 +31,11 @@ fn place(x: Reached) -> Answered
     }
 }
 
-// A phrase at a now: refusals 1 to 7, then 8, then 9 to 13; or the moment.
-pub fn answer(phrase: &[u8], at: Moment) -> Answered
-    ensures { λ r. ⌜ answerFrom r ≡ answerOf keywords (now (phrase .entry)) at ⌝ }
+// A phrase at a now, in one of the readings: refusals 1 to 7, then 8, then 9 to 13; or the moment.
+pub fn answer(reading: Reading, phrase: &[u8], at: Moment) -> Answered
+    ensures { λ r. ⌜ answerFrom r ≡ answerOf reading keywords (now (phrase .entry)) at ⌝ }
 {
-    let read = read(phrase);
+    let read = read(reading, phrase);
     let refusal = read.refusal;
     if refusal.number == 0 {
         if at.valid() {

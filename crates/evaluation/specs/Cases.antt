@@ -16,7 +16,7 @@ use Rattle.dates.specs.declared.date.Date.the-variants.{YearMonthNumDay, MonthN
 use Rattle.dates.specs.declared.time.Time.{Time}
 use Rattle.dates.specs.declared.time.Time.the-variants.{HourMin, HourMinAM, HourMinPM, Empty}
 use Rattle.evaluation.specs.Steps.{unitStep, durationStep}
-use Rattle.evaluation.specs.Weekdays.{daysBack, inWeek, fromToday, backTo}
+use Rattle.evaluation.specs.Weekdays.{daysBack, inWeek, forwardTo, backTo}
 use Rattle.evaluation.specs.Dates.{dateAt}
 use Rattle.evaluation.specs.Times.{timeAt}
 
@@ -54,11 +54,11 @@ time x o = row (λ t. timeAt x t t) A o
 unfoldable pub cases : List Case
 cases =
     -- a bare weekday: today, and 2 and 6 days on
-    row (fromToday 2) A (day 2026 2 11)
-    ∷ row (fromToday 4) A (day 2026 2 13)
-    ∷ row (fromToday 1) A (day 2026 2 17)
-    ∷ row (fromToday 4) lastMoment (moment lastMoment)
-    ∷ row (fromToday 5) lastMoment (refused 12)
+    row (forwardTo 2) A (day 2026 2 11)
+    ∷ row (forwardTo 4) A (day 2026 2 13)
+    ∷ row (forwardTo 1) A (day 2026 2 17)
+    ∷ row (forwardTo 4) lastMoment (moment lastMoment)
+    ∷ row (forwardTo 5) lastMoment (refused 12)
     -- in the following, preceding or same week
     ∷ row (inWeek Next 4) A (day 2026 2 20)
     ∷ row (inWeek Next 0) A (day 2026 2 16)

@@ -5,7 +5,7 @@ use mathlib.Core.Bool.{Bool, true, false, cond, _&&_}
 use mathlib.Core.List.{List, [], _∷_, map}
 use Rattle.calendar.specs.Gregorian.{leapYear, monthLength, daysBeforeMonth, daysOfYears, dayNumber}
 use Rattle.calendar.specs.Gregorian.{yearsBefore, yearOf, dayOfYear, monthOf, monthOfDay, dayOf}
-use Rattle.calendar.specs.Moments.{Outcome, moment, refused, andThen, isDate, isTime, withDate, withTime}
+use Rattle.calendar.specs.Moments.{Outcome, moment, refused, andThen, isDate, isTime, lastMoment, withDate, withTime}
 use Rattle.calendar.specs.Moments.{onDay, minutesStep, monthsStep, yearsStep}
 use Rattle.calendar.specs.declared.moments.Moment.{Moment}
 use Rattle.dates.specs.Durations.{part, isSubDailyUnit}
@@ -19,11 +19,11 @@ use Rattle.dates.specs.declared.units.Unit.the-variants.{Day, Week, Hour, Minut
 use Rattle.dates.specs.declared.units.RelativeSpecifier.{RelativeSpecifier}
 use Rattle.dates.specs.declared.units.RelativeSpecifier.the-variants.{This, Next, Last}
 use Rattle.expressions.specs.Tree.{DateExpr, date, dateRelative, dateExpressionAfter, dateExpressionBefore, unitRelative}
-use Rattle.expressions.specs.Tree.{relativeWeekday, weekdayRelative, weekdayExpressionBefore, before, after, weekday, empty}
+use Rattle.expressions.specs.Tree.{relativeWeekday, weekdayRelative, weekdayExpressionBefore, weekdayExpressionAfter, before, after, weekday, empty}
 use Rattle.phrase.specs.Tree.{DateTime, dateTime, timeDate, durationAfter, durationBefore, now}
 use Rattle.refusals.specs.Table as refusal
 use Rattle.evaluation.specs.Steps.{unitStep, durationStep}
-use Rattle.evaluation.specs.Weekdays.{inWeek, fromToday, backTo}
+use Rattle.evaluation.specs.Weekdays.{daysBack, inWeek, forwardTo, backTo}
 use Rattle.evaluation.specs.Dates.{dateAt}
 use Rattle.evaluation.specs.Times.{timeAt}
 use Rattle.evaluation.specs.Cases.{Case, row, A, B}
@@ -88,6 +88,7 @@ abbrev pub dateExprAt : DateExpr → Moment → Outcome
 dateExprAt (date d) t = dateAt d t
 dateExprAt (dateRelative d s u) t = dateRelativeAt d s u t
 dateExprAt (weekdayExpressionBefore w dur) t = andThen (durationStep true dur t) (backTo (w % 7))
+dateExprAt (weekdayExpressionAfter w dur) t = andThen (durationStep false dur t) (forwardTo (w % 7))
 dateExprAt (dateExpressionAfter d dur) t = andThen (dateAt d t) (durationStep false dur)
 dateExprAt (dateExpressionBefore d dur) t = andThen (dateAt d t) (durationStep true dur)
 dateExprAt (before dur d) t = andThen (dateAt d t) (durationStep true dur)
@@ -95,7 +96,7 @@ dateExprAt (after dur d) t = andThen (dateAt d t) (durationStep false dur)
 dateExprAt (unitRelative s u) t = unitRelativeAt s u t
 dateExprAt (relativeWeekday s w) t = inWeek s (w % 7) t
 dateExprAt (weekdayRelative w s u) t = weekdayRelativeAt w s u t
-dateExprAt (weekday w) t = fromToday (w % 7) t
+dateExprAt (weekday w) t = forwardTo (w % 7) t
 dateExprAt empty t = moment t
 
 -- `DateTime::to_chrono`: "date, time of day, then outer durations, innermost first"
@@ -132,10 +133,18 @@ trees =
     ∷ dated (unitRelative Next Hour) (refused 9)
     ∷ dated (weekdayRelative 4 Next Week) (moment (withDate 2026 2 20 A))
     ∷ dated (weekdayRelative 4 Next Month) (refused 9)
+    -- a weekday and a duration: back to it, or on to it, the day that is reached included
+    ∷ dated (weekdayExpressionBefore 1 (part (Specific Week 2))) (moment (withDate 2026 1 27 A))
+    ∷ dated (weekdayExpressionAfter 1 (part (Specific Week 2))) (moment (withDate 2026 3 3 A))
+    ∷ dated (weekdayExpressionAfter 2 (part (Specific Week 2))) (moment (withDate 2026 2 25 A))
+    ∷ dated (weekdayExpressionAfter 2 (part (Specific Day 0))) (moment A)
+    ∷ row (evaluate (dateTime (weekdayExpressionAfter 4 (part (Article Year))) NoTime)) B (refused 13)
+    ∷ row (evaluate (dateTime (weekdayExpressionAfter 4 (part (Specific Day 0))) NoTime)) lastMoment (moment lastMoment)
+    ∷ row (evaluate (dateTime (weekdayExpressionAfter 5 (part (Specific Day 0))) NoTime)) lastMoment (refused 12)
     ∷ []
 
 -- each tree evaluates as listed
 pub trees-as-listed : map (λ c. c .rule (c .from)) trees ≡ map (λ c. c .answer) trees
 unfolding trees evaluate leapYear monthLength daysBeforeMonth daysOfYears dayNumber yearsBefore yearOf dayOfYear monthOf monthOfDay dayOf
-    isDate isTime onDay minutesStep monthsStep yearsStep
+    isDate isTime onDay minutesStep monthsStep yearsStep daysBack
 trees-as-listed = refl

@@ -23,9 +23,9 @@ inWeek This w t = onDay (mondayOf (dayOfMoment t) + w) t
 inWeek Next w t = onDay (mondayOf (dayOfMoment t) + 7 + w) t
 inWeek Last w t = daysBack (mondayOf (dayOfMoment t) + w) 7 t
 
--- "A bare weekday is its first date from today, today included."
-abbrev pub fromToday : ℕ → Moment → Outcome
-fromToday w t = onDay (dayOfMoment t + (7 + w - weekday (dayOfMoment t)) % 7) t
+-- "on to the first such weekday, that day included"; "A bare weekday is its first date from today, today included": the same rule
+abbrev pub forwardTo : ℕ → Moment → Outcome
+forwardTo w t = onDay (dayOfMoment t + (7 + w - weekday (dayOfMoment t)) % 7) t
 
 -- "then back to the weekday (0 to 6 days)"
 abbrev pub backTo : ℕ → Moment → Outcome

@@ -3,7 +3,7 @@ use super::date::date_at;
 use super::step::duration_step;
 use super::step::unit_step;
 use super::weekday::back_to;
-use super::weekday::from_today;
+use super::weekday::forward_to;
 use super::weekday::in_week;
 use calendar::moments::Moment;
 use calendar::moments::Reached;
@@ -15,14 +15,14 @@ use dates::units::Unit;
 use expressions::expr::Expr;
 use refusals::NO_SENSE;
 ghost use mathlib.Core.Path.{_≡_};
-ghost use mathlib.Core.Bool.{true};
+ghost use mathlib.Core.Bool.{true, cond};
 ghost use Prim.Native.Nat.{_≤_, _<_, _%_};
 ghost use lib.Seq.{slice};
 ghost use Rattle.calendar.specs.Moments.{IsMoment, andThen, reachedOf, Valid};
 ghost use Rattle.expressions.specs.Shapes.{exprFrom, hasDuration};
 ghost use Rattle.phrase.specs.Chains.{rowDuration};
 ghost use Rattle.evaluation.specs.Steps.{durationStep};
-ghost use Rattle.evaluation.specs.Weekdays.{backTo};
+ghost use Rattle.evaluation.specs.Weekdays.{forwardTo, backTo};
 ghost use Rattle.evaluation.specs.Evaluate.{byYear, isYear, isWeek, isMonthAndDay};
 ghost use Rattle.evaluation.specs.Evaluate.{dateRelativeAt, unitRelativeAt, weekdayRelativeAt, dateExprAt};
 
@@ -122,17 +122,20 @@ fn from_date(x: Reached, back: bool, parts: Parts, own: u8) -> Reached
     duration_step(back, parts, own, parts.n, t)
 }
 
-// Back by the duration, then back to the weekday.
-fn weekday_before(w: u32, parts: Parts, own: u8, t: Moment) -> Reached
+// By the duration, back or on, then the same way to the weekday.
+fn to_weekday(back: bool, w: u32, parts: Parts, own: u8, t: Moment) -> Reached
     requires { ⌜ IsMoment t × (own < parts .n) × (parts .n ≤ 21) ⌝ }
-    ensures { λ r. ⌜ reachedOf r ≡ andThen (durationStep true (rowDuration (slice own (parts .n) (parts .items))) t) (backTo (w % 7)) ⌝ }
+    ensures { λ r. ⌜ reachedOf r ≡ andThen (durationStep back (rowDuration (slice own (parts .n) (parts .items))) t) (cond back (backTo (w % 7)) (forwardTo (w % 7))) ⌝ }
     ensures { λ r. ⌜ Valid (reachedOf r) ⌝ }
 {
-    let x = duration_step(true, parts, own, parts.n, t);
+    let x = duration_step(back, parts, own, parts.n, t);
     let Reached::At(u) = x else {
         return x;
     };
-    back_to(w % 7, u)
+    if back {
+        return back_to(w % 7, u);
+    }
+    forward_to(w % 7, u)
 }
 
 // DateExpr::to_chrono, at the time of day of t.
@@ -149,10 +152,11 @@ pub(crate) fn expr_at(expr: Expr, parts: Parts, own: u8, t: Moment) -> Reached
         Expr::UnitRelative(s, u) => unit_relative(s, u, t),
         Expr::RelativeWeekday(s, w) => in_week(s, w % 7, t),
         Expr::WeekdayRelative(w, s, u) => weekday_relative(w, s, u, t),
-        Expr::WeekdayExpressionBefore(w) => weekday_before(w, parts, own, t),
+        Expr::WeekdayExpressionBefore(w) => to_weekday(true, w, parts, own, t),
+        Expr::WeekdayExpressionAfter(w) => to_weekday(false, w, parts, own, t),
         Expr::Before(d) => from_date(date_at(d, t), true, parts, own),
         Expr::After(d) => from_date(date_at(d, t), false, parts, own),
-        Expr::Weekday(w) => from_today(w % 7, t),
+        Expr::Weekday(w) => forward_to(w % 7, t),
         Expr::Empty => Reached::At(t),
     }
 }

@@ -9,7 +9,7 @@ ghost use mathlib.Core.Path.{_≡_};
 ghost use Prim.Native.Nat.{_+_, _-_, _*_, _/_, _%_, _≤_, _<_};
 ghost use Rattle.calendar.specs.Gregorian.{days};
 ghost use Rattle.calendar.specs.Moments.{IsMoment, reachedOf, Valid};
-ghost use Rattle.evaluation.specs.Weekdays.{daysBack, inWeek, fromToday, backTo};
+ghost use Rattle.evaluation.specs.Weekdays.{daysBack, inWeek, forwardTo, backTo};
 
 // Two weeks.
 const MARGIN: u32 = 14;
@@ -41,7 +41,7 @@ fn week_before(n: u32) -> u32
 }
 
 // The first weekday w from day n on: `while today.weekday() != day { today += 1 }`.
-fn forward_to(n: u32, w: u32) -> u32
+fn forward_from(n: u32, w: u32) -> u32
     requires { ⌜ (n ≤ days + 28) × (w < 7) ⌝ }
     ensures { λ r. ⌜ r ≡ n + (7 + w - n % 7) % 7 ⌝ }
 {
@@ -84,19 +84,19 @@ pub fn in_week(specifier: RelativeSpecifier, w: u32, t: Moment) -> Reached
 {
     let today = t.day_number() + MARGIN;
     match specifier {
-        RelativeSpecifier::Next => on_counted(forward_to(next_week(today), w), t),
+        RelativeSpecifier::Next => on_counted(forward_from(next_week(today), w), t),
         RelativeSpecifier::Last => on_counted(back_from(week_before(today), w), t),
-        RelativeSpecifier::This => on_counted(forward_to(week_before(today) + 1, w), t),
+        RelativeSpecifier::This => on_counted(forward_from(week_before(today) + 1, w), t),
     }
 }
 
-// A bare weekday: its first date from today, today included.
-pub fn from_today(w: u32, t: Moment) -> Reached
+// On to the first such weekday, that day included; a bare weekday is its first date from today by the same rule.
+pub fn forward_to(w: u32, t: Moment) -> Reached
     requires { ⌜ IsMoment t × (w < 7) ⌝ }
-    ensures { λ r. ⌜ reachedOf r ≡ fromToday w t ⌝ }
+    ensures { λ r. ⌜ reachedOf r ≡ forwardTo w t ⌝ }
     ensures { λ r. ⌜ Valid (reachedOf r) ⌝ }
 {
-    on_counted(forward_to(t.day_number() + MARGIN, w), t)
+    on_counted(forward_from(t.day_number() + MARGIN, w), t)
 }
 
 // Back to the weekday, 0 to 6 days.

@@ -3,6 +3,7 @@ use Prim.Native.Nat.{ℕ, _≤_}
 use mathlib.Core.Path.{_≡_, refl}
 use mathlib.Core.List.{List, []}
 use lib.ListN.{length, drop, drop-of-length-le}
+use Rattle.lexer.specs.declared.reading.Reading.{Reading}
 use Rattle.numbers.specs.Slices.{get, within, isAt}
 use Rattle.numbers.specs.Again.{turns, again}
 use Rattle.numbers.specs.Numbers.{beginsNumber}
@@ -23,9 +24,9 @@ counted l p nothing h = record { bounds = tt }
 counted l p overflow h = record { bounds = tt }
 
 -- what `read_expr` promises
-pub expr-promised : {r : ExprTaken} (l : List ℕ) → r ≡ exprAnswer l (dateExprOf l)
-    → (r ≡ exprAnswer l (dateExprOf l)) × ExprCounted r (length l)
-expr-promised l e = (e, rw e (counted l (exprPlace l) (dateExprOf l) (expr-few l)))
+pub expr-promised : {r : ExprTaken} (reading : Reading) (l : List ℕ) → r ≡ exprAnswer l (dateExprOf reading l)
+    → (r ≡ exprAnswer l (dateExprOf reading l)) × ExprCounted r (length l)
+expr-promised reading l e = (e, rw e (counted l (exprPlace l) (dateExprOf reading l) (expr-few reading l)))
 
 -- behind the last lexeme stands no tail
 pub tail-none : (l : List ℕ) (t : ℕ) → length l ≤ t → tailOf (drop t l) ≡ nothing

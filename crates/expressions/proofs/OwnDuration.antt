@@ -8,6 +8,8 @@ use mathlib.Core.List.{List, [], _∷_}
 use lib.ListN.{length, drop, length-drop}
 use lib.Seq.{drop-drop}
 use Rattle.lexer.specs.Lexemes as lexeme
+use Rattle.lexer.specs.declared.reading.Reading.{Reading}
+use Rattle.lexer.specs.declared.reading.Reading.the-variants.{First, Second}
 use Rattle.numbers.specs.Slices.{isAt}
 use Rattle.numbers.proofs.LexemeAt.{both, at-most, there}
 use Rattle.dates.specs.Parsed.{Parsed, is, ifLet, andThen}
@@ -113,11 +115,12 @@ module _ (l : List ℕ) (t : ℕ) (a : (1 ≤ t) × (t ≤ length l)) where
   date-tailed d (inside dur) u h = record { bounds = h }
   date-tailed d stray u h = record { bounds = bare (a .0) (a .1) }
 
-  weekday-tailed : (w : ℕ) → Tailed (withWeekday w t)
-  weekday-tailed w (relative s k) u h = record { bounds = bare (h .least) (h .most) }
-  weekday-tailed w (ago dur) u h = record { bounds = h }
-  weekday-tailed w (inside dur) u h = record { bounds = h }
-  weekday-tailed w stray u h = record { bounds = bare (h .least) (h .most) }
+  weekday-tailed : (reading : Reading) (w : ℕ) → Tailed (withWeekday reading w t)
+  weekday-tailed reading w (relative s k) u h = record { bounds = bare (h .least) (h .most) }
+  weekday-tailed reading w (ago dur) u h = record { bounds = h }
+  weekday-tailed First w (inside dur) u h = record { bounds = h }
+  weekday-tailed Second w (inside dur) u h = record { bounds = h }
+  weekday-tailed reading w stray u h = record { bounds = bare (h .least) (h .most) }
 
   -- a head of t lexemes, and its tail
   head-read : (f : Tail → ℕ → Parsed DateExpr) (x : DateExpr) → ownOf x ≡ [] → Tailed f
@@ -155,25 +158,25 @@ relative-read l =
     (then-each (unitOf (drop t l)) _
     (λ u k f. let b = found f (unit-took (drop t l)) in record { bounds = bare (omega arith) (omega arith) })))
 
-weekday-read : (l : List ℕ) → Each (ExprRead l (weekdayPlace l)) (weekdayExprOf l)
+weekday-read : (reading : Reading) (l : List ℕ) → Each (ExprRead l (weekdayPlace l)) (weekdayExprOf reading l)
 unfolding weekdayExprOf
-weekday-read l =
+weekday-read reading l =
     let-each (λ w. ExprRead l (placeLet w (tailAt l) 0)) (weekdayOf l) _ _
-    (λ w t e. let a = found e (weekday-took l) in head-read l t a _ _ refl (weekday-tailed l t a w))
+    (λ w t e. let a = found e (weekday-took l) in head-read l t a _ _ refl (weekday-tailed l t a reading w))
     (relative-read l)
 
-undated-read : (l : List ℕ) → Each (ExprRead l (undatedPlace l)) (undatedOf l)
+undated-read : (reading : Reading) (l : List ℕ) → Each (ExprRead l (undatedPlace l)) (undatedOf reading l)
 unfolding undatedOf
-undated-read l =
-    let-each (λ w. ExprRead l (placeLet w (λ t. 0) (weekdayPlace l))) (durationOf l) _ _ (with-duration-read l) (weekday-read l)
+undated-read reading l =
+    let-each (λ w. ExprRead l (placeLet w (λ t. 0) (weekdayPlace l))) (durationOf l) _ _ (with-duration-read l) (weekday-read reading l)
 
 -- a date expression
-pub expr-few : (l : List ℕ) → Each (ExprRead l (exprPlace l)) (dateExprOf l)
+pub expr-few : (reading : Reading) (l : List ℕ) → Each (ExprRead l (exprPlace l)) (dateExprOf reading l)
 unfolding dateExprOf
-expr-few l =
+expr-few reading l =
     let-each (λ w. ExprRead l (placeLet w (tailAt l) (undatedPlace l))) (dateOf l) _ _
     (λ d t e. let a = found e (date-took l) in head-read l t a _ _ refl (date-tailed l t a d))
-    (undated-read l)
+    (undated-read reading l)
 
 -- the row has as many parts more as the date expression
 pub into-expr-n : (x : DateExpr) (ps : Parts) → intoExpr x ps .n ≡ ps .n + sizeExpr x

@@ -4,6 +4,8 @@ use mathlib.Core.Bool.{_&&_, not}
 use mathlib.Core.List.{List}
 use lib.ListN.{drop}
 use Rattle.lexer.specs.Lexemes as lexeme
+use Rattle.lexer.specs.declared.reading.Reading.{Reading}
+use Rattle.lexer.specs.declared.reading.Reading.the-variants.{First, Second}
 use Rattle.numbers.specs.Slices.{isAt}
 use Rattle.dates.specs.Parsed.{is, andThen}
 use Rattle.dates.specs.Dates.{dateOf}
@@ -14,7 +16,7 @@ use Rattle.dates.proofs.Each.{Gives, nothing-gives, is-gives, pick-gives, then-
 use Rattle.dates.proofs.Small.{Small, SmallDate, SmallDuration}
 use Rattle.dates.proofs.Small.{date-small, weekday-small, duration-small}
 use Rattle.expressions.specs.Tree.{DateExpr, date, dateRelative, dateExpressionAfter, dateExpressionBefore, unitRelative}
-use Rattle.expressions.specs.Tree.{relativeWeekday, weekdayRelative, weekdayExpressionBefore, before, after, weekday, empty}
+use Rattle.expressions.specs.Tree.{relativeWeekday, weekdayRelative, weekdayExpressionBefore, weekdayExpressionAfter, before, after, weekday, empty}
 use Rattle.expressions.specs.DateExprs.{Tail, relative, ago, inside, stray, inTailOf, durationTailOf, tailOf, withDate, withWeekday}
 use Rattle.expressions.specs.DateExprs.{withDurationOf, relativeExprOf, weekdayExprOf, undatedOf, dateExprOf}
 
@@ -28,6 +30,7 @@ SmallExpr (unitRelative s u) = Unit
 SmallExpr (relativeWeekday s w) = Small w
 SmallExpr (weekdayRelative w s u) = Small w
 SmallExpr (weekdayExpressionBefore w dur) = Small w × SmallDuration dur
+SmallExpr (weekdayExpressionAfter w dur) = Small w × SmallDuration dur
 SmallExpr (before dur d) = SmallDate d × SmallDuration dur
 SmallExpr (after dur d) = SmallDate d × SmallDuration dur
 SmallExpr (weekday w) = Small w
@@ -57,11 +60,12 @@ date-tail d t (ago dur) u a b = is-gives (a, b)
 date-tail d t (inside dur) u a b = is-gives (a, b)
 date-tail d t stray u a b = is-gives a
 
-weekday-tail : (w t : ℕ) (x : Tail) (u : ℕ) → Small w → SmallTail x → Gives SmallExpr (withWeekday w t x u)
-weekday-tail w t (relative s k) u a b = is-gives a
-weekday-tail w t (ago dur) u a b = is-gives (a, b)
-weekday-tail w t (inside dur) u a b = is-gives (a, b)
-weekday-tail w t stray u a b = is-gives a
+weekday-tail : (reading : Reading) (w t : ℕ) (x : Tail) (u : ℕ) → Small w → SmallTail x → Gives SmallExpr (withWeekday reading w t x u)
+weekday-tail reading w t (relative s k) u a b = is-gives a
+weekday-tail reading w t (ago dur) u a b = is-gives (a, b)
+weekday-tail First w t (inside dur) u a b = is-gives (a, b)
+weekday-tail Second w t (inside dur) u a b = is-gives (a, b)
+weekday-tail reading w t stray u a b = is-gives a
 
 after-small : (dur : Duration) (t : ℕ) (l : List ℕ) → SmallDuration dur →
     Gives SmallExpr (andThen (dateOf (drop (t + 1) l)) (λ d u. is (after dur d) (t + 1 + u)))
@@ -75,19 +79,19 @@ with-duration-small dur t l a =
     (pick-gives (isAt l t lexeme.After) (after-small dur t l a)
     (pick-gives (isAt l t lexeme.From) (after-small dur t l a) nothing-gives)))
 
-weekday-expr-small : (l : List ℕ) → Gives SmallExpr (weekdayExprOf l)
+weekday-expr-small : (reading : Reading) (l : List ℕ) → Gives SmallExpr (weekdayExprOf reading l)
 unfolding weekdayExprOf relativeExprOf
-weekday-expr-small l =
+weekday-expr-small reading l =
     if-let-gives _ (weekday-small l)
-    (λ w t a. if-let-gives _ (tail-small (drop t l)) (λ x u b. weekday-tail w t x u a b) (is-gives a))
+    (λ w t a. if-let-gives _ (tail-small (drop t l)) (λ x u b. weekday-tail reading w t x u a b) (is-gives a))
     (then-each (relativeSpecifierOf l) _ (λ s t e.
     if-let-gives _ (weekday-small (drop t l)) (λ w u b. is-gives b)
     (then-each (unitOf (drop t l)) _ (λ k u f. is-gives tt))))
 
 -- a date expression
-pub expr-small : (l : List ℕ) → Gives SmallExpr (dateExprOf l)
+pub expr-small : (reading : Reading) (l : List ℕ) → Gives SmallExpr (dateExprOf reading l)
 unfolding dateExprOf undatedOf
-expr-small l =
+expr-small reading l =
     if-let-gives _ (date-small l)
     (λ d t a. if-let-gives _ (tail-small (drop t l)) (λ x u b. date-tail d t x u a b) (is-gives a))
-    (if-let-gives _ (duration-small l) (λ dur t a. with-duration-small dur t l a) (weekday-expr-small l))
+    (if-let-gives _ (duration-small l) (λ dur t a. with-duration-small dur t l a) (weekday-expr-small reading l))

@@ -1,9 +1,11 @@
--- `DateExpr::parse`, alternatives in the text's order.
+-- `DateExpr::parse`, alternatives in the text's order, under either reading: the first is the Rust's.
 use Prim.Native.Nat.{ℕ, _+_}
 use mathlib.Core.Bool.{_&&_, not}
 use mathlib.Core.List.{List}
 use lib.ListN.{drop}
 use Rattle.lexer.specs.Lexemes as lexeme
+use Rattle.lexer.specs.declared.reading.Reading.{Reading}
+use Rattle.lexer.specs.declared.reading.Reading.the-variants.{First, Second}
 use Rattle.numbers.specs.Slices.{isAt}
 use Rattle.dates.specs.Parsed.{Parsed, is, nothing, pick, ifLet, andThen}
 use Rattle.dates.specs.Units.{unitOf, weekdayOf, relativeSpecifierOf}
@@ -14,7 +16,7 @@ use Rattle.dates.specs.declared.date.Date.the-variants.{Empty}
 use Rattle.dates.specs.declared.units.Unit.{Unit}
 use Rattle.dates.specs.declared.units.RelativeSpecifier.{RelativeSpecifier}
 use Rattle.expressions.specs.Tree.{DateExpr, date, dateRelative, dateExpressionAfter, dateExpressionBefore, unitRelative}
-use Rattle.expressions.specs.Tree.{relativeWeekday, weekdayRelative, weekdayExpressionBefore, before, after, weekday}
+use Rattle.expressions.specs.Tree.{relativeWeekday, weekdayRelative, weekdayExpressionBefore, weekdayExpressionAfter, before, after, weekday}
 
 -- what may stand behind a date or a weekday; `stray` where lexemes were passed and no alternative is whole
 pub data Tail : Type 0 where
@@ -51,13 +53,17 @@ withDate d t (ago duration) u = is (dateExpressionBefore d duration) (t + u)
 withDate d t (inside duration) u = is (dateExpressionAfter d duration) (t + u)
 withDate d t stray u = is (date d) t
 
--- a weekday of t lexemes and its tail of u: behind a weekday the count is not rolled back ("friday next 5:00"),
--- and "in" gives `WeekdayExpressionBefore` as "ago" does
-abbrev pub withWeekday : ℕ → ℕ → Tail → ℕ → Parsed DateExpr
-withWeekday w t (relative spec unit) u = is (weekdayRelative w spec unit) (t + u)
-withWeekday w t (ago duration) u = is (weekdayExpressionBefore w duration) (t + u)
-withWeekday w t (inside duration) u = is (weekdayExpressionBefore w duration) (t + u)
-withWeekday w t stray u = is (weekday w) (t + u)
+-- "in" behind a weekday: in the first reading it gives `WeekdayExpressionBefore` as "ago" does, in the second it goes forward
+abbrev pub weekdayIn : Reading → ℕ → Duration → DateExpr
+weekdayIn First w duration = weekdayExpressionBefore w duration
+weekdayIn Second w duration = weekdayExpressionAfter w duration
+
+-- a weekday of t lexemes and its tail of u: behind a weekday the count is not rolled back ("friday next 5:00")
+abbrev pub withWeekday : Reading → ℕ → ℕ → Tail → ℕ → Parsed DateExpr
+withWeekday reading w t (relative spec unit) u = is (weekdayRelative w spec unit) (t + u)
+withWeekday reading w t (ago duration) u = is (weekdayExpressionBefore w duration) (t + u)
+withWeekday reading w t (inside duration) u = is (weekdayIn reading w duration) (t + u)
+withWeekday reading w t stray u = is (weekday w) (t + u)
 
 -- <duration> ago | <duration> after <date> | <duration> from <date>, behind a duration of t lexemes; a sub-daily one is given up
 unfoldable pub withDurationOf : Duration → ℕ → List ℕ → Parsed DateExpr
@@ -76,15 +82,15 @@ relativeExprOf l =
     (andThen (unitOf (drop t l)) (λ unit u. is (unitRelative spec unit) (t + u))))
 
 -- from the weekday on
-unfoldable pub weekdayExprOf : List ℕ → Parsed DateExpr
-weekdayExprOf l =
-    ifLet (weekdayOf l) (λ w t. ifLet (tailOf (drop t l)) (withWeekday w t) (is (weekday w) t))
+unfoldable pub weekdayExprOf : Reading → List ℕ → Parsed DateExpr
+weekdayExprOf reading l =
+    ifLet (weekdayOf l) (λ w t. ifLet (tailOf (drop t l)) (withWeekday reading w t) (is (weekday w) t))
     (relativeExprOf l)
 
 -- from the duration on
-unfoldable pub undatedOf : List ℕ → Parsed DateExpr
-undatedOf l = ifLet (durationOf l) (λ duration t. withDurationOf duration t l) (weekdayExprOf l)
+unfoldable pub undatedOf : Reading → List ℕ → Parsed DateExpr
+undatedOf reading l = ifLet (durationOf l) (λ duration t. withDurationOf duration t l) (weekdayExprOf reading l)
 
 -- `DateExpr::parse`
-unfoldable pub dateExprOf : List ℕ → Parsed DateExpr
-dateExprOf l = ifLet (dateOf l) (λ d t. ifLet (tailOf (drop t l)) (withDate d t) (is (date d) t)) (undatedOf l)
+unfoldable pub dateExprOf : Reading → List ℕ → Parsed DateExpr
+dateExprOf reading l = ifLet (dateOf l) (λ d t. ifLet (tailOf (drop t l)) (withDate d t) (is (date d) t)) (undatedOf reading l)

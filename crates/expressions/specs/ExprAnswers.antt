@@ -66,7 +66,7 @@ exprAnswer l w = answerAt (exprPlace l) w
 -- a head with the tail that was read behind it
 abbrev pub withHead : Head → ℕ → Tail → ℕ → Parsed DateExpr
 withHead (Date d) t x u = withDate d t x u
-withHead (Weekday w) t x u = withWeekday w t x u
+withHead (Weekday reading w) t x u = withWeekday reading w t x u
 
 -- the code's answer for a head of t lexemes and what was read behind it; alone it is as with a tail of no lexemes that is given up
 abbrev pub tailedAnswer : Head → ℕ → Parsed Tail → ExprTaken

@@ -1,8 +1,9 @@
--- Worked cases: what `DateExpr::parse` gives for each row of lexemes, computed.
+-- Worked cases: what `DateExpr::parse` gives for each row of lexemes, computed, under each reading.
 use mathlib.Core.Path.{_≡_, refl}
 use mathlib.Core.List.{List, [], _∷_, map}
 use Prim.Native.Nat.{ℕ}
 use Rattle.lexer.specs.Lexemes as lexeme
+use Rattle.lexer.specs.declared.reading.Reading.the-variants.{First, Second}
 use Rattle.numbers.specs.Slices.{get, isAt, within}
 use Rattle.numbers.specs.Answers.{fitsOf}
 use Rattle.numbers.specs.Numbers as number
@@ -19,7 +20,7 @@ use Rattle.dates.specs.declared.units.RelativeSpecifier.the-variants.{This, Nex
 use Rattle.dates.specs.declared.duration.Part.the-variants.{Article, Specific}
 use Rattle.dates.specs.declared.date.Date.the-variants.{MonthNumDay, MonthDay, MonthDayYear, Today, Tomorrow, Empty}
 use Rattle.expressions.specs.Tree.{DateExpr, date, dateRelative, dateExpressionAfter, dateExpressionBefore, unitRelative}
-use Rattle.expressions.specs.Tree.{relativeWeekday, weekdayRelative, weekdayExpressionBefore, before, after, weekday}
+use Rattle.expressions.specs.Tree.{relativeWeekday, weekdayRelative, weekdayExpressionBefore, weekdayExpressionAfter, before, after, weekday}
 use Rattle.expressions.specs.DateExprs.{inTailOf, durationTailOf, tailOf, withDurationOf}
 use Rattle.expressions.specs.DateExprs.{relativeExprOf, weekdayExprOf, undatedOf, dateExprOf}
 
@@ -27,7 +28,7 @@ use Rattle.expressions.specs.DateExprs.{relativeExprOf, weekdayExprOf, u
 abbrev of : ℕ → Unit → Duration
 of n u = part (Specific u n)
 
--- the table
+-- the table of the first reading, which is the Rust's
 unfoldable pub cases : List (Row DateExpr)
 cases =
     -- a date alone, with each tail, and with a tail that is given up: the count is rolled back
@@ -80,11 +81,21 @@ cases =
     ∷ row (lexeme.Friday ∷ lexeme.Five ∷ lexeme.Billion ∷ lexeme.Hour ∷ []) overflow
     ∷ []
 
+-- the table of the second reading: "in" behind a weekday goes forward, and what else there is reads as in the first
+unfoldable pub secondCases : List (Row DateExpr)
+secondCases =
+    row (lexeme.Friday ∷ lexeme.In ∷ lexeme.Two ∷ lexeme.Week ∷ []) (is (weekdayExpressionAfter 4 (of 2 Week)) 4)
+    ∷ row (lexeme.Friday ∷ lexeme.Two ∷ lexeme.Week ∷ lexeme.Ago ∷ []) (is (weekdayExpressionBefore 4 (of 2 Week)) 4)
+    ∷ row (lexeme.Friday ∷ lexeme.In ∷ lexeme.Two ∷ lexeme.Hour ∷ []) (is (weekday 4) 2)
+    ∷ row (lexeme.March ∷ Num 4 ∷ lexeme.In ∷ Num 3 ∷ lexeme.Year ∷ []) (is (dateExpressionAfter (MonthDay 3 4) (of 3 Year)) 5)
+    ∷ []
+
 -- each row is what `dateExprOf` gives
-pub read-as-listed : map (λ c. dateExprOf (c .lexemes)) cases ≡ map (λ c. c .reading) cases
-unfolding cases get isAt within fitsOf number.isEnding number.wordOf number.literalOf number.onesOf number.teensOf number.tensOf
+pub read-as-listed : (map (λ c. dateExprOf First (c .lexemes)) cases ≡ map (λ c. c .reading) cases)
+    × (map (λ c. dateExprOf Second (c .lexemes)) secondCases ≡ map (λ c. c .reading) secondCases)
+unfolding cases secondCases get isAt within fitsOf number.isEnding number.wordOf number.literalOf number.onesOf number.teensOf number.tensOf
     number.tensOnesOf number.numDoubleOf number.sumOf number.tailOf number.hundredsOf number.numTripleOf number.numTripleUnitOf
     number.unitsOf number.numStep turns again number.numOf isArticle unitOf monthOf weekdayOf relativeSpecifierOf specificOf articleOf
     concreteOf durationTurn durationOf namedDayOf dayMonthYearOf monthDayOf isDelim threeNumbersOf twoNumbersOf behindSecondOf
     delimitedOf dateOf inTailOf durationTailOf tailOf withDurationOf relativeExprOf weekdayExprOf undatedOf dateExprOf
-read-as-listed = refl
+read-as-listed = (refl, refl)

@@ -9,11 +9,11 @@ use Rattle.dates.specs.declared.duration.Part.the-variants.{Article}
 use Rattle.dates.specs.declared.duration.Parts.{Parts}
 use Rattle.dates.specs.declared.units.Unit.the-variants.{Day}
 use Rattle.expressions.specs.Tree.{DateExpr, date, dateRelative, dateExpressionAfter, dateExpressionBefore, unitRelative}
-use Rattle.expressions.specs.Tree.{relativeWeekday, weekdayRelative, weekdayExpressionBefore, before, after, weekday, empty}
+use Rattle.expressions.specs.Tree.{relativeWeekday, weekdayRelative, weekdayExpressionBefore, weekdayExpressionAfter, before, after, weekday, empty}
 use Rattle.expressions.specs.declared.expr.Expr.{Expr}
 use Rattle.expressions.specs.declared.expr.Expr.the-variants.{Date as Dated, DateRelative, DateExpressionAfter, DateExpressionBefore}
 use Rattle.expressions.specs.declared.expr.Expr.the-variants.{UnitRelative, RelativeWeekday, WeekdayRelative, WeekdayExpressionBefore}
-use Rattle.expressions.specs.declared.expr.Expr.the-variants.{Before, After, Weekday, Empty}
+use Rattle.expressions.specs.declared.expr.Expr.the-variants.{WeekdayExpressionAfter, Before, After, Weekday, Empty}
 
 -- a date expression without its duration
 abbrev pub shape : DateExpr → Expr
@@ -25,6 +25,7 @@ shape (unitRelative s u) = UnitRelative s u
 shape (relativeWeekday s w) = RelativeWeekday s w
 shape (weekdayRelative w s u) = WeekdayRelative w s u
 shape (weekdayExpressionBefore w dur) = WeekdayExpressionBefore w
+shape (weekdayExpressionAfter w dur) = WeekdayExpressionAfter w
 shape (before dur d) = Before d
 shape (after dur d) = After d
 shape (weekday w) = Weekday w
@@ -40,6 +41,7 @@ ownOf (unitRelative s u) = []
 ownOf (relativeWeekday s w) = []
 ownOf (weekdayRelative w s u) = []
 ownOf (weekdayExpressionBefore w dur) = dur ∷ []
+ownOf (weekdayExpressionAfter w dur) = dur ∷ []
 ownOf (before dur d) = dur ∷ []
 ownOf (after dur d) = dur ∷ []
 ownOf (weekday w) = []
@@ -55,6 +57,7 @@ exprFrom (UnitRelative s u) dur = unitRelative s u
 exprFrom (RelativeWeekday s w) dur = relativeWeekday s w
 exprFrom (WeekdayRelative w s u) dur = weekdayRelative w s u
 exprFrom (WeekdayExpressionBefore w) dur = weekdayExpressionBefore w dur
+exprFrom (WeekdayExpressionAfter w) dur = weekdayExpressionAfter w dur
 exprFrom (Before d) dur = before dur d
 exprFrom (After d) dur = after dur d
 exprFrom (Weekday w) dur = weekday w

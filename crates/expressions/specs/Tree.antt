@@ -5,7 +5,7 @@ use Rattle.dates.specs.declared.date.Date.{Date}
 use Rattle.dates.specs.declared.units.Unit.{Unit}
 use Rattle.dates.specs.declared.units.RelativeSpecifier.{RelativeSpecifier}
 
--- `enum DateExpr`, without `WeekdayExpressionAfter`, which no parser gives
+-- `enum DateExpr`; `weekdayExpressionAfter` is the Rust's "Tuesday in two weeks", which its own parser never gives
 pub data DateExpr : Type 0 where
   date : Date → DateExpr
   dateRelative : Date → RelativeSpecifier → Unit → DateExpr
@@ -15,6 +15,7 @@ pub data DateExpr : Type 0 where
   relativeWeekday : RelativeSpecifier → ℕ → DateExpr
   weekdayRelative : ℕ → RelativeSpecifier → Unit → DateExpr
   weekdayExpressionBefore : ℕ → Duration → DateExpr
+  weekdayExpressionAfter : ℕ → Duration → DateExpr
   before : Duration → Date → DateExpr
   after : Duration → Date → DateExpr
   weekday : ℕ → DateExpr

@@ -16,6 +16,7 @@ use lexer::lexeme::AFTER;
 use lexer::lexeme::AGO;
 use lexer::lexeme::FROM;
 use lexer::lexeme::IN;
+use lexer::reading::Reading;
 use numbers::slices::is_at;
 use numbers::slices::rest;
 ghost use mathlib.Core.Path.{_≡_};
@@ -40,16 +41,17 @@ pub enum Expr {
     RelativeWeekday(RelativeSpecifier, u32),
     WeekdayRelative(u32, RelativeSpecifier, Unit),
     WeekdayExpressionBefore(u32),
+    WeekdayExpressionAfter(u32),
     Before(Date),
     After(Date),
     Weekday(u32),
     Empty,
 }
 
-// What a tail stands behind.
+// What a tail stands behind; the reading says what "in" gives behind a weekday.
 enum Head {
     Date(Date),
-    Weekday(u32),
+    Weekday(Reading, u32),
 }
 
 // A date expression, the lexemes taken, and the place of the first lexeme of its duration, 0 where it has none; `Overflow` is refusal 6.
@@ -67,6 +69,7 @@ pub fn has_duration(e: Expr) -> bool
         Expr::DateExpressionAfter(_)
         | Expr::DateExpressionBefore(_)
         | Expr::WeekdayExpressionBefore(_)
+        | Expr::WeekdayExpressionAfter(_)
         | Expr::Before(_)
         | Expr::After(_) => true,
         _ => false,
@@ -79,7 +82,7 @@ fn stray(h: Head, t: usize, s: usize) -> ExprTaken
 {
     match h {
         Head::Date(d) => ExprTaken::Is(Expr::Date(d), t, 0),
-        Head::Weekday(w) => ExprTaken::Is(Expr::Weekday(w), s, 0),
+        Head::Weekday(_, w) => ExprTaken::Is(Expr::Weekday(w), s, 0),
     }
 }
 
@@ -89,7 +92,7 @@ fn relative(h: Head, spec: RelativeSpecifier, unit: Unit, s: usize) -> ExprTaken
 {
     match h {
         Head::Date(d) => ExprTaken::Is(Expr::DateRelative(d, spec, unit), s, 0),
-        Head::Weekday(w) => ExprTaken::Is(Expr::WeekdayRelative(w, spec, unit), s, 0),
+        Head::Weekday(_, w) => ExprTaken::Is(Expr::WeekdayRelative(w, spec, unit), s, 0),
     }
 }
 
@@ -99,17 +102,20 @@ fn ago(h: Head, t: usize, s: usize) -> ExprTaken
 {
     match h {
         Head::Date(d) => ExprTaken::Is(Expr::DateExpressionBefore(d), s, t),
-        Head::Weekday(w) => ExprTaken::Is(Expr::WeekdayExpressionBefore(w), s, t),
+        Head::Weekday(_, w) => ExprTaken::Is(Expr::WeekdayExpressionBefore(w), s, t),
     }
 }
 
-// A head and a tail with "in", whose duration begins at p, and which ends at s: behind a weekday it goes back as "ago" does.
+// A head and a tail with "in", whose duration begins at p, and which ends at s: behind a weekday it goes back in the first reading.
 fn inside(h: Head, p: usize, s: usize) -> ExprTaken
     ensures { λ r. ⌜ ((dur : Duration) (t u : ℕ) → p ≡ t + 1 → s ≡ t + u → r ≡ tailedAnswer h t (is (inside dur) u)) ⌝ }
 {
     match h {
         Head::Date(d) => ExprTaken::Is(Expr::DateExpressionAfter(d), s, p),
-        Head::Weekday(w) => ExprTaken::Is(Expr::WeekdayExpressionBefore(w), s, p),
+        Head::Weekday(reading, w) => match reading {
+            Reading::First => ExprTaken::Is(Expr::WeekdayExpressionBefore(w), s, p),
+            Reading::Second => ExprTaken::Is(Expr::WeekdayExpressionAfter(w), s, p),
+        },
     }
 }
 
@@ -244,37 +250,37 @@ fn read_relative(l: &[u64]) -> ExprTaken
 }
 
 // A weekday and its tail, or a relative specifier.
-fn read_weekday_expr(l: &[u64]) -> ExprTaken
-    ensures { λ r. ⌜ r ≡ answerAt (weekdayPlace (now (l .entry))) (weekdayExprOf (now (l .entry))) ⌝ }
+fn read_weekday_expr(reading: Reading, l: &[u64]) -> ExprTaken
+    ensures { λ r. ⌜ r ≡ answerAt (weekdayPlace (now (l .entry))) (weekdayExprOf reading (now (l .entry))) ⌝ }
 {
     let WeekdayFound::Is(w) = read_weekday(l) else {
         return read_relative(l);
     };
-    read_tail(l, Head::Weekday(w), 1)
+    read_tail(l, Head::Weekday(reading, w), 1)
 }
 
 // A duration and what stands behind it, or what begins with a weekday or a relative specifier.
-fn read_undated(l: &[u64]) -> ExprTaken
-    ensures { λ r. ⌜ r ≡ answerAt (undatedPlace (now (l .entry))) (undatedOf (now (l .entry))) ⌝ }
+fn read_undated(reading: Reading, l: &[u64]) -> ExprTaken
+    ensures { λ r. ⌜ r ≡ answerAt (undatedPlace (now (l .entry))) (undatedOf reading (now (l .entry))) ⌝ }
 {
     match read_duration(l) {
         Taken::Is {
             taken: t,
             sub_daily,
         } => with_duration(l, t, sub_daily),
-        Taken::Nothing => read_weekday_expr(l),
+        Taken::Nothing => read_weekday_expr(reading, l),
         Taken::Overflow => ExprTaken::Overflow,
     }
 }
 
 // DateExpr::parse: its shape, and where its duration begins
-pub fn read_expr(l: &[u64]) -> ExprTaken
-    ensures { λ r. ⌜ r ≡ exprAnswer (now (l .entry)) (dateExprOf (now (l .entry))) ⌝ }
+pub fn read_expr(reading: Reading, l: &[u64]) -> ExprTaken
+    ensures { λ r. ⌜ r ≡ exprAnswer (now (l .entry)) (dateExprOf reading (now (l .entry))) ⌝ }
     ensures { λ r. ⌜ ExprCounted r (length (now (l .entry))) ⌝ }
 {
     match read_date(l) {
         DateFound::Is(d, t) => read_tail(l, Head::Date(d), t),
-        DateFound::Nothing => read_undated(l),
+        DateFound::Nothing => read_undated(reading, l),
         DateFound::Overflow => ExprTaken::Overflow,
     }
 }

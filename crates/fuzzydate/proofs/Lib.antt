@@ -1,3 +1,4 @@
 pub mod ReadyNumbers
-pub mod Back
+pub mod Readings
+pub mod WrittenBack
 pub mod StampNumbers

@@ -7,6 +7,7 @@ use lib.ListN.{length}
 use Rattle.refusals.specs.Answers.{given, refused}
 use Rattle.refusals.proofs.Holds.{Bounded, number-zero, number-other, refusal-holds}
 use Rattle.lexer.specs.Keywords.{keywords}
+use Rattle.lexer.specs.declared.reading.Reading.{Reading}
 use Rattle.steps.specs.Plans.{planOf, stepsIn}
 use Rattle.steps.specs.declared.plan.Step.{Step}
 use Rattle.steps.proofs.Planned.{steps-in}
@@ -15,24 +16,24 @@ use Rattle.ready.specs.declared.Ready.{Ready}
 use Rattle.ready.proofs.ReadyPhrases.{made-ready}
 
 -- the steps that a struct holds
-pub record ListMade (s : List ℕ) (r : Ready) : Type 0 where
+pub record ListMade (reading : Reading) (s : List ℕ) (r : Ready) : Type 0 where
   pub list : List Step
-  pub is : readyOf keywords s ≡ given list
+  pub is : readyOf reading keywords s ≡ given list
   pub plan : stepsIn (r .plan) ≡ list
   pub count : r .plan .n ≡ length list
   pub few : length list ≤ 24
 
 -- a refusal that a struct holds
-pub record NoneMade (s : List ℕ) (r : Ready) : Type 0 where
-  pub is : readyOf keywords s ≡ refused (r .refusal)
+pub record NoneMade (reading : Reading) (s : List ℕ) (r : Ready) : Type 0 where
+  pub is : readyOf reading keywords s ≡ refused (r .refusal)
   pub part : Bounded 1 7 (min (length s) 256) (r .refusal)
 
-module _ (s : List ℕ) {r : Ready} (answer : r ≡ readyAnswer (readyOf keywords s)) where
+module _ (reading : Reading) (s : List ℕ) {r : Ready} (answer : r ≡ readyAnswer (readyOf reading keywords s)) where
   -- number 0
-  pub list-made : r .refusal .number ≡ 0 → ListMade s r
+  pub list-made : r .refusal .number ≡ 0 → ListMade reading s r
   unfolding planOf
   list-made z =
-      let made = number-zero (made-ready s) (omega arith) (rw answer at z) in
+      let made = number-zero (made-ready reading s) (omega arith) (rw answer at z) in
       let ss = made .value in
       let few = made .holds .most in
       let same : r ≡ readyAnswer (given ss) = answer ∙ ap readyAnswer (made .is) in
@@ -45,7 +46,7 @@ module _ (s : List ℕ) {r : Ready} (answer : r ≡ readyAnswer (readyOf keyword
       }
 
   -- any other
-  pub none-made : (r .refusal .number ≡ 0 → ⊥) → NoneMade s r
+  pub none-made : (r .refusal .number ≡ 0 → ⊥) → NoneMade reading s r
   none-made other =
-      let is = number-other (readyOf keywords s) (λ z. other (rw answer z)) ∙ ap (λ (q : Ready). refused (q .refusal)) (sym answer) in
-      record { is = is; part = refusal-holds (made-ready s) is }
+      let is = number-other (readyOf reading keywords s) (λ z. other (rw answer z)) ∙ ap (λ (q : Ready). refused (q .refusal)) (sym answer) in
+      record { is = is; part = refusal-holds (made-ready reading s) is }

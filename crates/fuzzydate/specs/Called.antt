@@ -1,15 +1,41 @@
 -- What an app gets: one number, and what is written into the array that it lends.
 use Prim.Native.Nat.{ℕ, _+_, _-_, _*_}
+use mathlib.Core.Bool.{cond}
 use mathlib.Core.List.{List, [], _∷_, _++_}
+use lib.Dec.{eqb}
 use lib.ListN.{length}
 use lib.Seq.{sets}
-use Rattle.refusals.specs.Answers.{Answer, given, refused}
+use Rattle.refusals.specs.Table.{NoReading}
+use Rattle.refusals.specs.Answers.{Answer, given, refused, refuse, andThen}
 use Rattle.refusals.specs.declared.Refusal.{Refusal}
 use Rattle.calendar.specs.Moments.{momentOf}
 use Rattle.calendar.specs.declared.moments.Moment.{Moment}
-use Rattle.ready.specs.Ready.{ReadyPhrase}
+use Rattle.lexer.specs.Keywords.{keywords}
+use Rattle.lexer.specs.declared.reading.Reading.{Reading}
+use Rattle.lexer.specs.declared.reading.Reading.the-variants.{First, Second}
+use Rattle.answer.specs.Answer.{answerOf}
+use Rattle.ready.specs.Ready.{ReadyPhrase, readyOf}
 use Rattle.records.specs.Records.{encodeOf}
 use Rattle.stamp.specs.declared.Stamp.{Stamp}
+use Rattle.fuzzydate.specs.declared.Chosen.{Chosen}
+use Rattle.fuzzydate.specs.declared.Chosen.the-variants.{As, Neither}
+
+-- "chosen by the caller as 1 or 2": "15 for any other reading number, before 1"
+abbrev pub readingOf : ℕ → Answer Reading
+readingOf k = cond (eqb k 1) (given First) (cond (eqb k 2) (given Second) (refuse NoReading 0 0))
+
+-- the code's choice
+abbrev pub chosenFrom : Chosen → Answer Reading
+chosenFrom (As reading) = given reading
+chosenFrom Neither = refuse NoReading 0 0
+
+-- a phrase at a now in the reading of a number
+abbrev pub answerIn : ℕ → List ℕ → Moment → Answer Moment
+answerIn k s n = andThen (readingOf k) (λ reading. answerOf reading keywords s n)
+
+-- a phrase made ready in the reading of a number
+abbrev pub readyIn : ℕ → List ℕ → ReadyPhrase
+readyIn k s = andThen (readingOf k) (λ reading. readyOf reading keywords s)
 
 -- a refusal's number, its place from bit 16 on, and the length of its part from bit 32 on
 abbrev pub code : Refusal → ℕ

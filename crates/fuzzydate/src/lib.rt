@@ -3,9 +3,11 @@ use answer::Answered;
 use answer::answer;
 use calendar::moments::Moment;
 use calendar::moments::Reached;
+use lexer::reading::Reading;
 use ready::make_ready;
 use records::record::encode;
 use records::run::run_ready;
+use refusals::NO_READING;
 use refusals::Refusal;
 use stamp::Offset;
 use stamp::Stamp;
@@ -15,19 +17,37 @@ use stamp::write::write_stamp;
 ghost use mathlib.Core.Path.{_≡_};
 ghost use Prim.Native.Nat.{_≤_};
 ghost use lib.ListN.{length};
-ghost use Rattle.lexer.specs.Keywords.{keywords};
 ghost use Rattle.calendar.specs.Moments.{momentOf};
-ghost use Rattle.answer.specs.Answer.{placed, answerOf};
+ghost use Rattle.answer.specs.Answer.{placed};
 ghost use Rattle.steps.specs.Running.{runOf};
-ghost use Rattle.ready.specs.Ready.{readyOf};
 ghost use Rattle.records.specs.Records.{decodeOf};
 ghost use Rattle.stamp.specs.Stamps.{stampOf, writtenOf, bufferOf};
-ghost use Rattle.fuzzydate.specs.Called.{code, codeOf, momentAfter, readyCode, readyAfter, stampAfter, numbersStamp, writtenCode};
+ghost use Rattle.fuzzydate.specs.Called.{readingOf, chosenFrom, answerIn, readyIn, code, codeOf, momentAfter, readyCode, readyAfter};
+ghost use Rattle.fuzzydate.specs.Called.{stampAfter, numbersStamp, writtenCode};
 
 // Where the place of a refusal stands in an answer, and where the length of its part does.
 const PLACE: u64 = 65536;
 
 const LENGTH: u64 = 4294967296;
+
+// The reading that a caller asks for, or refusal 15.
+enum Chosen {
+    As(Reading),
+    Neither,
+}
+
+// The reading of a number.
+fn choose(reading: u32) -> Chosen
+    ensures { λ r. ⌜ chosenFrom r ≡ readingOf reading ⌝ }
+{
+    if reading == 1 {
+        return Chosen::As(Reading::First);
+    }
+    if reading == 2 {
+        return Chosen::As(Reading::Second);
+    }
+    Chosen::Neither
+}
 
 // A refusal as one number.
 fn code(refusal: Refusal) -> u64
@@ -38,9 +58,10 @@ fn code(refusal: Refusal) -> u64
     (refusal.number as u64) + PLACE * (refusal.place as u64) + LENGTH * (part as u64)
 }
 
-// A phrase at a now: 0 and the moment's six numbers, or a refusal and nothing written.
+// A phrase at a now, in reading 1 or 2: 0 and the moment's six numbers, or a refusal and nothing written.
 #[no_mangle]
 pub extern "C" fn fuzzy_read(
+    reading: u32,
     phrase: &[u8],
     year: u32,
     month: u32,
@@ -50,9 +71,12 @@ pub extern "C" fn fuzzy_read(
     second: u32,
     moment: &mut [u32; 6],
 ) -> u64
-    ensures { λ r. ⌜ r ≡ codeOf (answerOf keywords (now (phrase .entry)) (momentOf year month day hour minute second)) ⌝ }
-    ensures { λ r. ⌜ now (moment .exit) ≡ momentAfter (answerOf keywords (now (phrase .entry)) (momentOf year month day hour minute second)) (now (moment .entry)) ⌝ }
+    ensures { λ r. ⌜ r ≡ codeOf (answerIn reading (now (phrase .entry)) (momentOf year month day hour minute second)) ⌝ }
+    ensures { λ r. ⌜ now (moment .exit) ≡ momentAfter (answerIn reading (now (phrase .entry)) (momentOf year month day hour minute second)) (now (moment .entry)) ⌝ }
 {
+    let Chosen::As(chosen) = choose(reading) else {
+        return NO_READING as u64;
+    };
     let now = Moment {
         year,
         month,
@@ -61,7 +85,7 @@ pub extern "C" fn fuzzy_read(
         minute,
         second,
     };
-    match answer(phrase, now) {
+    match answer(chosen, phrase, now) {
         Answered::At(t) => {
             *moment = [t.year, t.month, t.day, t.hour, t.minute, t.second];
             0
@@ -70,14 +94,17 @@ pub extern "C" fn fuzzy_read(
     }
 }
 
-// A phrase made ready without a now: the length of its records in bytes, and they from the start of the lent array on; or what reading
+// A phrase made ready in reading 1 or 2 without a now: the length of its records in bytes, and they from the start of the lent array on; or what reading
 // refuses, and nothing written.
 #[no_mangle]
-pub extern "C" fn fuzzy_make_ready(phrase: &[u8], ready: &mut [u8; 384]) -> u64
-    ensures { λ r. ⌜ r ≡ readyCode (readyOf keywords (now (phrase .entry))) ⌝ }
-    ensures { λ r. ⌜ now (ready .exit) ≡ readyAfter (readyOf keywords (now (phrase .entry))) (now (ready .entry)) ⌝ }
+pub extern "C" fn fuzzy_make_ready(reading: u32, phrase: &[u8], ready: &mut [u8; 384]) -> u64
+    ensures { λ r. ⌜ r ≡ readyCode (readyIn reading (now (phrase .entry))) ⌝ }
+    ensures { λ r. ⌜ now (ready .exit) ≡ readyAfter (readyIn reading (now (phrase .entry))) (now (ready .entry)) ⌝ }
 {
-    let made = make_ready(phrase);
+    let Chosen::As(chosen) = choose(reading) else {
+        return NO_READING as u64;
+    };
+    let made = make_ready(chosen, phrase);
     let refusal = made.refusal;
     if refusal.number == 0 {
         let plan = made.plan;

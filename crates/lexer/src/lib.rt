@@ -5,6 +5,7 @@ mod find;
 pub mod lex;
 pub mod lexeme;
 pub mod part;
+pub mod reading;
 mod run;
 mod table;
 mod word;

@@ -13,7 +13,7 @@ use Rattle.dates.specs.declared.duration.Parts.{Parts}
 use Rattle.dates.specs.declared.duration.Slot.{Slot}
 use Rattle.dates.proofs.Durations.{into-n}
 use Rattle.expressions.specs.Tree.{DateExpr, date, dateRelative, dateExpressionAfter, dateExpressionBefore, unitRelative}
-use Rattle.expressions.specs.Tree.{relativeWeekday, weekdayRelative, weekdayExpressionBefore, before, after, weekday, empty}
+use Rattle.expressions.specs.Tree.{relativeWeekday, weekdayRelative, weekdayExpressionBefore, weekdayExpressionAfter, before, after, weekday, empty}
 use Rattle.phrase.specs.Tree.{DateTime}
 use Rattle.phrase.specs.Tree.{dateTime, timeDate, durationAfter, durationBefore, now, around}
 use Rattle.expressions.specs.Shapes.{shape, ownOf, ofOwn, intoExpr, exprFrom, sizeExpr}
@@ -95,6 +95,7 @@ expr-back (unitRelative s u) ps h = refl
 expr-back (relativeWeekday s w) ps h = refl
 expr-back (weekdayRelative w s u) ps h = refl
 expr-back (weekdayExpressionBefore w dur) ps h = ap (weekdayExpressionBefore w) (put-back dur ps h (into dur ps .items) refl)
+expr-back (weekdayExpressionAfter w dur) ps h = ap (weekdayExpressionAfter w) (put-back dur ps h (into dur ps .items) refl)
 expr-back (before dur d) ps h = ap (λ (x : Duration). before x d) (put-back dur ps h (into dur ps .items) refl)
 expr-back (after dur d) ps h = ap (λ (x : Duration). after x d) (put-back dur ps h (into dur ps .items) refl)
 expr-back (weekday w) ps h = refl

@@ -13,7 +13,7 @@ use Rattle.dates.proofs.Durations.{into-n}
 use Rattle.dates.specs.declared.duration.Parts.{Parts}
 use Rattle.dates.specs.declared.time.Time.{Time}
 use Rattle.expressions.specs.Tree.{DateExpr, date, dateRelative, dateExpressionAfter, dateExpressionBefore, unitRelative, relativeWeekday}
-use Rattle.expressions.specs.Tree.{weekdayRelative, weekdayExpressionBefore, before, after, weekday, empty}
+use Rattle.expressions.specs.Tree.{weekdayRelative, weekdayExpressionBefore, weekdayExpressionAfter, before, after, weekday, empty}
 use Rattle.expressions.specs.Shapes.{shape, hasDuration, sizeExpr}
 use Rattle.phrase.specs.Tree.{DateTime, dateTime, timeDate, durationAfter, durationBefore, now}
 use Rattle.phrase.specs.Chains.{linkedParts, based, chainFrom, chainOf, blank, blankLink, sizeTree}
@@ -71,6 +71,7 @@ own-part (unitRelative s u) h = absurd (false≢true h)
 own-part (relativeWeekday s w) h = absurd (false≢true h)
 own-part (weekdayRelative w s u) h = absurd (false≢true h)
 own-part (weekdayExpressionBefore w dur) h = some dur
+own-part (weekdayExpressionAfter w dur) h = some dur
 own-part (before dur d) h = some dur
 own-part (after dur d) h = some dur
 own-part (weekday w) h = absurd (false≢true h)

@@ -7,6 +7,7 @@ use mathlib.Core.List.{List}
 use lib.Dec.{ltb}
 use lib.ListN.{length, drop, set, length-drop}
 use lib.Seq.{drop-drop}
+use Rattle.lexer.specs.declared.reading.Reading.{Reading}
 use Rattle.dates.specs.Parsed.{Parsed, is, nothing, overflow}
 use Rattle.dates.specs.Durations.{Duration, into, durationOf, rowed}
 use Rattle.dates.specs.declared.duration.Parts.{Parts}
@@ -14,7 +15,7 @@ use Rattle.dates.specs.declared.duration.Rowed.{Rowed}
 use Rattle.dates.specs.declared.time.Time.the-variants.{Empty}
 use Rattle.dates.proofs.Durations.{duration-bounds, into-n}
 use Rattle.expressions.specs.Tree.{DateExpr, date, dateRelative, dateExpressionAfter, dateExpressionBefore, unitRelative}
-use Rattle.expressions.specs.Tree.{relativeWeekday, weekdayRelative, weekdayExpressionBefore, before, after, weekday, empty}
+use Rattle.expressions.specs.Tree.{relativeWeekday, weekdayRelative, weekdayExpressionBefore, weekdayExpressionAfter, before, after, weekday, empty}
 use Rattle.expressions.specs.Shapes.{shape, hasDuration, ownOf, intoExpr, OwnStands}
 use Rattle.phrase.specs.Tree.{DateTime, dateTime, timeDate, durationAfter, durationBefore, now, around}
 use Rattle.phrase.specs.DateTimes.{dateTimeOf}
@@ -45,13 +46,17 @@ pub record Gathering (l : List ℕ) (k : Count) (o : Outline) (goal : Chain) (ps
   pub room : 3 * ps .n + length l ≤ 64 + at
   pub few : i ≤ ps .n
 
+-- the same under every reading that has this outline: the loop itself has no reading
+abbrev pub Gathers : List ℕ → ℕ → Outline → Parts → List Link → ℕ → ℕ → Type 0
+Gathers l n o ps ks i at = (reading : Reading) → let w = kept n (dateTimeOf reading l) in
+    o ≡ outlineAnswer l w → Gathering l (countOf w) o (chainOf (treeIn w)) ps ks i at
+
 -- nothing yet
-pub begin : (l : List ℕ) (n : ℕ) {o : Outline} → length l ≤ 64 → let w = kept n (dateTimeOf l) in
-    o ≡ outlineAnswer l w → Gathering l (countOf w) o (chainOf (treeIn w)) (blank .parts) (blank .links) 0 0
-begin l n h answer =
+pub begin : (l : List ℕ) (n : ℕ) {o : Outline} → length l ≤ 64 → Gathers l n o (blank .parts) (blank .links) 0 0
+begin l n h reading answer =
     record {
-      left = treeIn (kept n (dateTimeOf l));
-      stands = go (dateTimeOf l) (date-time-holds l);
+      left = treeIn (kept n (dateTimeOf reading l));
+      stands = go (dateTimeOf reading l) (date-time-holds reading l);
       outlined = rw answer;
       flattened = refl;
       within = omega arith;
@@ -127,6 +132,7 @@ own-into (unitRelative s u) l ps h = refl
 own-into (relativeWeekday s w) l ps h = refl
 own-into (weekdayRelative w s u) l ps h = refl
 own-into (weekdayExpressionBefore w dur) l ps h = rw (h .reading)
+own-into (weekdayExpressionAfter w dur) l ps h = rw (h .reading)
 own-into (before dur d) l ps h = rw (h .reading)
 own-into (after dur d) l ps h = rw (h .reading)
 own-into (weekday w) l ps h = refl

@@ -9,6 +9,7 @@ use lib.Seq.{drop-drop}
 use types.Run.{OneOf}
 use denote.Enum.Declared.{tagOf}
 use Rattle.lexer.specs.Lexemes as lexeme
+use Rattle.lexer.specs.declared.reading.Reading.{Reading}
 use Rattle.numbers.specs.Slices.{isAt, oneIf}
 use Rattle.numbers.proofs.Again.{again-is}
 use Rattle.numbers.proofs.NumberAnswers.{neither}
@@ -44,9 +45,10 @@ use Rattle.phrase.proofs.date_time.Count.{the-type as count-type}
 use Rattle.dates.proofs.Each.{Each}
 use Rattle.phrase.proofs.Stands.{TurnHolds, Bare, turn-holds, link-taken}
 
-step-agree : (D E : List ℕ → Parsed DateTime) (l : List ℕ) → ((m : List ℕ) → length m < length l → D m ≡ E m) → dateTimeStep D l ≡ dateTimeStep E l
+step-agree : (reading : Reading) (D E : List ℕ → Parsed DateTime) (l : List ℕ) → ((m : List ℕ) → length m < length l → D m ≡ E m) →
+    dateTimeStep reading D l ≡ dateTimeStep reading E l
 unfolding dateTimeStep
-step-agree D E l agree = go (turnOf l) (turn-holds l)
+step-agree reading D E l agree = go (turnOf reading l) (turn-holds reading l)
   where
     go : (w : Parsed Turn) → Each (TurnHolds l) w → andThen w (againOf D l) ≡ andThen w (againOf E l)
     go (is (whole x) t) h = refl
@@ -56,9 +58,9 @@ step-agree D E l agree = go (turnOf l) (turn-holds l)
     go overflow h = refl
 
 -- `DateTime::parse` calls itself
-pub date-time-is : (l : List ℕ) → dateTimeOf l ≡ dateTimeStep dateTimeOf l
+pub date-time-is : (reading : Reading) (l : List ℕ) → dateTimeOf reading l ≡ dateTimeStep reading (dateTimeOf reading) l
 unfolding dateTimeOf
-date-time-is l = again-is nothing dateTimeStep step-agree l
+date-time-is reading l = again-is nothing (dateTimeStep reading) (step-agree reading) l
 
 -- the outline of what is read at l, behind m links of at lexemes
 abbrev pub linked : ℕ → ℕ → List ℕ → Parsed DateTime → Outline
@@ -67,14 +69,14 @@ linked m at l nothing = outline Nothing 0 l now
 linked m at l overflow = outline Overflow 0 l now
 
 -- m links of at lexemes are passed
-pub record Turning (l : List ℕ) (at m : ℕ) : Type 0 where
-  pub outlined : outlineAnswer l (dateTimeOf l) ≡ linked m at (drop at l) (dateTimeOf (drop at l))
+pub record Turning (reading : Reading) (l : List ℕ) (at m : ℕ) : Type 0 where
+  pub outlined : outlineAnswer l (dateTimeOf reading l) ≡ linked m at (drop at l) (dateTimeOf reading (drop at l))
   pub within : at ≤ length l
   pub few : m ≤ at
 
 -- none yet
-pub unlinked : (l : List ℕ) → Turning l 0 0
-unlinked l = record { outlined = go (dateTimeOf l); within = omega arith; few = omega arith }
+pub unlinked : (reading : Reading) (l : List ℕ) → Turning reading l 0 0
+unlinked reading l = record { outlined = go (dateTimeOf reading l); within = omega arith; few = omega arith }
   where
     go : (w : Parsed DateTime) → outlineAnswer l w ≡ linked 0 0 l w
     go (is x t) = let e : 0 + t ≡ t = omega arith in rw e
@@ -96,18 +98,18 @@ around-outline true dur x k m l = refl
 around-outline false dur x k m l = refl
 
 -- what the code's answer for a turn says of the outline
-abbrev Said : List ℕ → ℕ → ℕ → TurnTaken → Type 0
-Said l at m (Whole b time own t) =
-    (outlineAnswer l (dateTimeOf l) ≡ record { taken = Is (at + t); base = b; time = time; own = own; m = m }) × (at + t ≤ length l)
-Said l at m (Ago t) =
-    (outlineAnswer l (dateTimeOf l) ≡ record { taken = Is (at + t); base = Now; time = Empty; own = 0; m = m + 1 })
+abbrev Said : Reading → List ℕ → ℕ → ℕ → TurnTaken → Type 0
+Said reading l at m (Whole b time own t) =
+    (outlineAnswer l (dateTimeOf reading l) ≡ record { taken = Is (at + t); base = b; time = time; own = own; m = m }) × (at + t ≤ length l)
+Said reading l at m (Ago t) =
+    (outlineAnswer l (dateTimeOf reading l) ≡ record { taken = Is (at + t); base = Now; time = Empty; own = 0; m = m + 1 })
     × (at + t ≤ length l)
     × (m < at + t)
-Said l at m (Link t) = Turning l (at + t) (m + 1)
-Said l at m NoTurn = outlineAnswer l (dateTimeOf l) ≡ outline Nothing 0 [] now
-Said l at m TurnOverflow = outlineAnswer l (dateTimeOf l) ≡ outline Overflow 0 [] now
+Said reading l at m (Link t) = Turning reading l (at + t) (m + 1)
+Said reading l at m NoTurn = outlineAnswer l (dateTimeOf reading l) ≡ outline Nothing 0 [] now
+Said reading l at m TurnOverflow = outlineAnswer l (dateTimeOf reading l) ≡ outline Overflow 0 [] now
 
-module _ {l : List ℕ} {at m : ℕ} (g : Turning l at m) where
+module _ {reading : Reading} {l : List ℕ} {at m : ℕ} (g : Turning reading l at m) where
   abbrev left : List ℕ
   left = drop at l
 
@@ -120,27 +122,27 @@ module _ {l : List ℕ} {at m : ℕ} (g : Turning l at m) where
   behind back dur t e overflow = refl
 
   turn-said : (w : Parsed Turn) → Each (TurnHolds left) w →
-      outlineAnswer l (dateTimeOf l) ≡ linked m at left (andThen w (againOf dateTimeOf left)) → Said l at m (turnAnswer left w)
+      outlineAnswer l (dateTimeOf reading l) ≡ linked m at left (andThen w (againOf (dateTimeOf reading) left)) → Said reading l at m (turnAnswer left w)
   turn-said (is x t) h e = go x (h .bounds) e
     where
-      go : (x : Turn) → TurnHolds left x t → outlineAnswer l (dateTimeOf l) ≡ linked m at left (againOf dateTimeOf left x t) →
-          Said l at m (turnAnswer left (is x t))
+      go : (x : Turn) → TurnHolds left x t → outlineAnswer l (dateTimeOf reading l) ≡ linked m at left (againOf (dateTimeOf reading) left x t) →
+          Said reading l at m (turnAnswer left (is x t))
       go (whole x) h e =
           let all = length-drop at l in
           (e ∙ whole-outline x (h .stands .1) left (Is (at + t)) (Is t) m 0, omega arith)
       go (ago dur) h e = let all = length-drop at l in (e, omega arith, omega arith)
       go (link back dur) h e =
           let all = length-drop at l in
-          let more = e ∙ behind back dur t (link-taken (h .stands)) (dateTimeOf (drop t left)) in
+          let more = e ∙ behind back dur t (link-taken (h .stands)) (dateTimeOf reading (drop t left)) in
           record { outlined = rw (drop-drop t at l) at more; within = omega arith; few = omega arith }
   turn-said nothing h e = e
   turn-said overflow h e = e
 
   -- what a turn that the code took apart says
-  pub turn-learnt : {n : List ℕ} {r z : TurnTaken} → n ≡ drop at l → r ≡ turnAnswer n (turnOf n) → r ≡ z → Said l at m z
+  pub turn-learnt : {n : List ℕ} {r z : TurnTaken} → n ≡ drop at l → r ≡ turnAnswer n (turnOf reading n) → r ≡ z → Said reading l at m z
   unfolding dateTimeStep
   turn-learnt same answer e =
-      rw (← e, answer, same) (turn-said (turnOf left) (turn-holds left) (g .outlined ∙ ap (linked m at left) (date-time-is left)))
+      rw (← e, answer, same) (turn-said (turnOf reading left) (turn-holds reading left) (g .outlined ∙ ap (linked m at left) (date-time-is reading left)))
 
 -- an outline has the count of what was read
 outline-count : (x : DateTime) (k : Count) (m : ℕ) (l : List ℕ) → outline k m l x .taken ≡ k
@@ -196,10 +198,10 @@ timedAnswer time s (IsExpr x u p) = Whole (Timed x) time (s + p) (s + u)
 timedAnswer time s NoExpr = Whole (Timed NoDate) time s s
 timedAnswer time s ExprOverflow = TurnOverflow
 
-timed-is : (l m : List ℕ) {time : Time} {t : ℕ} → timeOf l ≡ is time t → m ≡ drop (commaOr l t lexeme.On) l →
-    turnAnswer l (timedTurnOf l) ≡ timedAnswer time (commaOr l t lexeme.On) (exprAnswer m (dateExprOf m))
+timed-is : (reading : Reading) (l m : List ℕ) {time : Time} {t : ℕ} → timeOf l ≡ is time t → m ≡ drop (commaOr l t lexeme.On) l →
+    turnAnswer l (timedTurnOf reading l) ≡ timedAnswer time (commaOr l t lexeme.On) (exprAnswer m (dateExprOf reading m))
 unfolding timedTurnOf
-timed-is l m {time} {t} e same = rw (same, e) (go (dateExprOf (drop (commaOr l t lexeme.On) l)))
+timed-is reading l m {time} {t} e same = rw (same, e) (go (dateExprOf reading (drop (commaOr l t lexeme.On) l)))
   where
     go : (w : Parsed DateExpr) →
         turnAnswer l (ifLet w (λ x u. is (whole (timeDate time x)) (commaOr l t lexeme.On + u)) (is (whole (timeDate time empty)) (commaOr l t lexeme.On)))
@@ -209,12 +211,12 @@ timed-is l m {time} {t} e same = rw (same, e) (go (dateExprOf (drop (commaOr l t
     go overflow = refl
 
 -- the same by what the code learns on its way
-pub timed-turn : (l : List ℕ) {w : TimeFound} {time : Time} {t c : ℕ} {m : List ℕ} {r z : ExprTaken} →
+pub timed-turn : (reading : Reading) (l : List ℕ) {w : TimeFound} {time : Time} {t c : ℕ} {m : List ℕ} {r z : ExprTaken} →
     parsedTime w ≡ timeOf l → w ≡ IsTime time t → c ≡ oneIf (isAt l t lexeme.Comma || isAt l t lexeme.On) → m ≡ drop (t + c) l →
-    r ≡ exprAnswer m (dateExprOf m) → r ≡ z → timedAnswer time (t + c) z ≡ turnAnswer l (timedTurnOf l)
-timed-turn l {m = m} answer e comma here expr f =
+    r ≡ exprAnswer m (dateExprOf reading m) → r ≡ z → timedAnswer time (t + c) z ≡ turnAnswer l (timedTurnOf reading l)
+timed-turn reading l {m = m} answer e comma here expr f =
     let time = rw (e) at (sym answer) in
-    rw (← f, expr, comma) (sym (timed-is l m time (rw comma at here)))
+    rw (← f, expr, comma) (sym (timed-is reading l m time (rw comma at here)))
 
 -- a date expression at the place p, and the time behind it
 abbrev timeAnswer : Expr → ℕ → Parsed Time → TurnTaken
@@ -231,15 +233,15 @@ time-stopped x p w k e = rw (← e) (go w k)
     go NoTime k = refl
     go TimeOverflow k = refl
 
-abbrev datedAnswer : List ℕ → ExprTaken → TurnTaken
-datedAnswer l (IsExpr x t p) = timeAnswer x p (timeBehindOf t l)
-datedAnswer l NoExpr = turnAnswer l (undatedTurnOf l)
-datedAnswer l ExprOverflow = TurnOverflow
+abbrev datedAnswer : Reading → List ℕ → ExprTaken → TurnTaken
+datedAnswer reading l (IsExpr x t p) = timeAnswer x p (timeBehindOf t l)
+datedAnswer reading l NoExpr = turnAnswer l (undatedTurnOf reading l)
+datedAnswer reading l ExprOverflow = TurnOverflow
 
-pub dated-turn : (l : List ℕ) {b : Bool} {r z : ExprTaken} → b ≡ isAt l 0 lexeme.Now → b ≡ false → r ≡ exprAnswer l (dateExprOf l) →
-    r ≡ z → datedAnswer l z ≡ turnAnswer l (turnOf l)
+pub dated-turn : (reading : Reading) (l : List ℕ) {b : Bool} {r z : ExprTaken} → b ≡ isAt l 0 lexeme.Now → b ≡ false → r ≡ exprAnswer l (dateExprOf reading l) →
+    r ≡ z → datedAnswer reading l z ≡ turnAnswer l (turnOf reading l)
 unfolding turnOf
-dated-turn l test e expr f = rw (← f, expr, ← test, e) (sym (go (dateExprOf l)))
+dated-turn reading l test e expr f = rw (← f, expr, ← test, e) (sym (go (dateExprOf reading l)))
   where
     dated : (x : DateExpr) (w : Parsed Time) → turnAnswer l (andThen w (λ time n. is (whole (dateTime x time)) n)) ≡ timeAnswer (shape x) (ownPlace l x) w
     dated x (is time n) = refl
@@ -247,8 +249,8 @@ dated-turn l test e expr f = rw (← f, expr, ← test, e) (sym (go (dateExprOf 
     dated x overflow = refl
 
     go : (w : Parsed DateExpr) →
-        turnAnswer l (ifLet w (λ x t. andThen (timeBehindOf t l) (λ time n. is (whole (dateTime x time)) n)) (undatedTurnOf l))
-        ≡ datedAnswer l (exprAnswer l w)
+        turnAnswer l (ifLet w (λ x t. andThen (timeBehindOf t l) (λ time n. is (whole (dateTime x time)) n)) (undatedTurnOf reading l))
+        ≡ datedAnswer reading l (exprAnswer l w)
     go (is x t) = dated x (timeBehindOf t l)
     go nothing = refl
     go overflow = refl

@@ -14,6 +14,7 @@ use Rattle.refusals.proofs.Holds.{Holds, of-given, of-refusal, Bounded, number-
 use Rattle.lexer.specs.Keywords.{keywords}
 use Rattle.lexer.specs.Lex.{Item, Lexed, lexed, front, codesOf, startsOf, endedOf}
 use Rattle.lexer.specs.declared.lex.Ended.{Ended}
+use Rattle.lexer.specs.declared.reading.Reading.{Reading}
 use Rattle.digits.proofs.Stores.{sets-taken, sets-at}
 use Rattle.lexer.proofs.Lines.{front-whole}
 use Rattle.lexer.proofs.Places.{start-below, Whole, lexed-holds, placed}
@@ -66,62 +67,63 @@ kept-count n (is x t) = refl
 kept-count n nothing = refl
 kept-count n overflow = refl
 
--- what `lex` answers to a phrase and stores, read
-module _ (s : List ℕ) where
+-- the codes of what `lex` answers to a phrase and stores are as many as the lexemes, and there is room for them
+pub codes-stored : (s : List ℕ) {line : Ended} {codes : List ℕ} → line ≡ endedOf (lexed keywords s) →
+    codes ≡ sets (replicate 64 0) 0 (codesOf (front keywords s)) →
+    (line .count ≤ length codes) × (length (take (line .count) codes) ≡ line .count) × (line .count ≤ 64)
+codes-stored s {line} {codes} e f =
+    let most = placed keywords s e .count-most in
+    let all : length codes ≡ 64 = rw (f, length-sets (replicate 64 0) 0 (codesOf (front keywords s))) in
+    (omega arith, length-take-le (line .count) codes (omega arith), most)
+
+-- the same, read
+module _ (reading : Reading) (s : List ℕ) where
   abbrev lineRead : Ended → List Item → PhraseRead
   lineRead line items =
-      let w = dateTimeOf (take (line .count) (sets (replicate 64 0) 0 (codesOf items))) in
+      let w = dateTimeOf reading (take (line .count) (sets (replicate 64 0) 0 (codesOf items))) in
       endedWith (judgedOf line (countOf w) (sets (replicate 64 0) 0 (startsOf items)) (length s)) (chainOf (treeIn (kept (line .count) w)))
 
-  line-answered : lineRead (endedOf (lexed keywords s)) (front keywords s) ≡ phraseAnswer (readOf keywords s)
+  line-answered : lineRead (endedOf (lexed keywords s)) (front keywords s) ≡ phraseAnswer (readOf reading keywords s)
   unfolding readOf
   line-answered = go refl (lexed-holds keywords s)
     where
       go : {w : Lexed} → lexed keywords s ≡ w → Holds (Whole s) (Bounded 1 4 (min (length s) 256)) w →
-          lineRead (endedOf w) (front keywords s) ≡ phraseAnswer (andThen w (readItems (length s)))
+          lineRead (endedOf w) (front keywords s) ≡ phraseAnswer (andThen w (readItems reading (length s)))
       go same (of-given {x = items} whole) =
           let codes = length-map items (λ (i : Item). i .code) in
           rw (front-whole keywords s items same, sets-taken (codesOf items) (replicate 64 0) (omega arith) (length items) codes)
-          (codes-answer items (replicate 64 0) (whole .lexemes) (length s) (dateTimeOf (codesOf items)))
-      go same (of-refusal {r} bounds) = rw (ne-eqb (r .number) 0 (λ z. omega arith), none-kept (dateTimeOf []) (date-time-holds []))
-
-  -- the codes are as many as the lexemes, and there is room for them
-  pub codes-stored : {line : Ended} {codes : List ℕ} → line ≡ endedOf (lexed keywords s) →
-      codes ≡ sets (replicate 64 0) 0 (codesOf (front keywords s)) →
-      (line .count ≤ length codes) × (length (take (line .count) codes) ≡ line .count) × (line .count ≤ 64)
-  codes-stored {line} {codes} e f =
-      let most = placed keywords s e .count-most in
-      let all : length codes ≡ 64 = rw (f, length-sets (replicate 64 0) 0 (codesOf (front keywords s))) in
-      (omega arith, length-take-le (line .count) codes (omega arith), most)
+          (codes-answer items (replicate 64 0) (whole .lexemes) (length s) (dateTimeOf reading (codesOf items)))
+      go same (of-refusal {r} bounds) = rw (ne-eqb (r .number) 0 (λ z. omega arith), none-kept (dateTimeOf reading []) (date-time-holds reading []))
 
   pub read-answered : {line r : Ended} {codes starts : List ℕ} {x : Gathered} → line ≡ endedOf (lexed keywords s) →
       codes ≡ sets (replicate 64 0) 0 (codesOf (front keywords s)) → starts ≡ sets (replicate 64 0) 0 (startsOf (front keywords s)) →
-      x ≡ gathered (kept (line .count) (dateTimeOf (take (line .count) codes))) →
+      x ≡ gathered (kept (line .count) (dateTimeOf reading (take (line .count) codes))) →
       r ≡ judgedOf line (x .taken) starts (length s) →
-      endedWith r (x .chain) ≡ phraseAnswer (readOf keywords s)
+      endedWith r (x .chain) ≡ phraseAnswer (readOf reading keywords s)
   read-answered {line} {r} {codes} {starts} {x} e f g gives ends =
-      let w = dateTimeOf (take (line .count) codes) in
+      let w = dateTimeOf reading (take (line .count) codes) in
       let count : x .taken ≡ countOf w = rw gives (kept-count (line .count) w) in
       rw (ends, count, gives, e, f, g) line-answered
 
 -- a phrase that is read: its lexemes, all of them taken, and the tree that `DateTime::parse` gives, of at most 21 parts
-pub record ReadWhole (s : List ℕ) (x : TreeRead) : Type 0 where
+pub record ReadWhole (reading : Reading) (s : List ℕ) (x : TreeRead) : Type 0 where
   pub items : List Item
   pub lexemes : lexed keywords s ≡ given items
-  pub parsed : dateTimeOf (codesOf items) ≡ is (x .tree) (x .taken)
+  pub parsed : dateTimeOf reading (codesOf items) ≡ is (x .tree) (x .taken)
   pub all : x .taken ≡ length items
   pub few : sizeTree (x .tree) ≤ 21
 
 -- what is read is read whole, and a phrase is refused by 1 to 7, with a part within the phrase and the 256 bytes that it may have
-abbrev ReadHolds : List ℕ → ReadPhrase → Type 0
-ReadHolds s w = Holds (ReadWhole s) (Bounded 1 7 (min (length s) 256)) w
+abbrev ReadHolds : Reading → List ℕ → ReadPhrase → Type 0
+ReadHolds reading s w = Holds (ReadWhole reading s) (Bounded 1 7 (min (length s) 256)) w
 
-module _ (s : List ℕ) (items : List Item) (lexemes : lexed keywords s ≡ given items) (whole : Whole s items) where
-  codes-hold : (w : Parsed DateTime) → dateTimeOf (codesOf items) ≡ w → ReadHolds s (readCodes w (length items) (startsOf items) (length s))
+module _ (reading : Reading) (s : List ℕ) (items : List Item) (lexemes : lexed keywords s ≡ given items) (whole : Whole s items) where
+  codes-hold : (w : Parsed DateTime) → dateTimeOf reading (codesOf items) ≡ w →
+      ReadHolds reading s (readCodes w (length items) (startsOf items) (length s))
   codes-hold (is x t) e = go (ltb t (length items)) refl
     where
       go : (b : Bool) → ltb t (length items) ≡ b →
-          ReadHolds s (cond b (refuse table.LeftOver (getD (startsOf items) t 0) (length s)) (reads x t))
+          ReadHolds reading s (cond b (refuse table.LeftOver (getD (startsOf items) t 0) (length s)) (reads x t))
       go true h =
           let start = rw (front-whole keywords s items lexemes) at (start-below keywords s t) in
           let below = start (ltb-true t (length items) h) in
@@ -129,38 +131,38 @@ module _ (s : List ℕ) (items : List Item) (lexemes : lexed keywords s ≡ give
       go false h =
           let same = length-map items (λ (i : Item). i .code) in
           let left = ltb-false t (length items) h in
-          let took = (rw e at (date-time-holds (codesOf items))) .bounds in
+          let took = (rw e at (date-time-holds reading (codesOf items))) .bounds in
           of-given (record { items = items; lexemes = lexemes; parsed = e; all = omega arith; few = omega arith })
   codes-hold nothing e = of-refusal {r = refusalAt table.Nothing 0 0} (omega arith)
   codes-hold overflow e = of-refusal {r = refusalAt table.LargeSum 0 0} (omega arith)
 
-pub read-holds : (s : List ℕ) → ReadHolds s (readOf keywords s)
+pub read-holds : (reading : Reading) (s : List ℕ) → ReadHolds reading s (readOf reading keywords s)
 unfolding readOf
-read-holds s = go refl (lexed-holds keywords s)
+read-holds reading s = go refl (lexed-holds keywords s)
   where
     go : {w : Lexed} → lexed keywords s ≡ w → Holds (Whole s) (Bounded 1 4 (min (length s) 256)) w →
-        ReadHolds s (andThen w (readItems (length s)))
-    go h (of-given {x = items} whole) = codes-hold s items h whole (dateTimeOf (codesOf items)) refl
+        ReadHolds reading s (andThen w (readItems reading (length s)))
+    go h (of-given {x = items} whole) = codes-hold reading s items h whole (dateTimeOf reading (codesOf items)) refl
     go h (of-refusal {r} bounds) = of-refusal {r = r} (omega arith)
 
 -- what `read` answers with number 0: the reading, and a formed chain that stands for its tree
-pub record WasRead (s : List ℕ) (r : PhraseRead) : Type 0 where
-  pub reading : TreeRead
-  pub is : readOf keywords s ≡ given reading
-  pub whole : ReadWhole s reading
-  pub taken : r .taken ≡ reading .taken
-  pub stands : treeOf (r .chain) ≡ reading .tree
+pub record WasRead (reading : Reading) (s : List ℕ) (r : PhraseRead) : Type 0 where
+  pub tree-read : TreeRead
+  pub is : readOf reading keywords s ≡ given tree-read
+  pub whole : ReadWhole reading s tree-read
+  pub taken : r .taken ≡ tree-read .taken
+  pub stands : treeOf (r .chain) ≡ tree-read .tree
   pub formed : Formed (r .chain)
 
 -- a phrase that `read` answers with number 0 is read whole
-pub was-read : (s : List ℕ) {r : PhraseRead} → r ≡ phraseAnswer (readOf keywords s) → r .refusal .number ≡ 0 → WasRead s r
-was-read s {r} answer z =
-    let read = number-zero (read-holds s) (omega arith) (rw answer at z) in
+pub was-read : (reading : Reading) (s : List ℕ) {r : PhraseRead} → r ≡ phraseAnswer (readOf reading keywords s) → r .refusal .number ≡ 0 → WasRead reading s r
+was-read reading s {r} answer z =
+    let read = number-zero (read-holds reading s) (omega arith) (rw answer at z) in
     let x = read .value .tree in
     let few = read .holds .few in
     let same : r ≡ phraseAnswer (given (read .value)) = answer ∙ ap phraseAnswer (read .is) in
     record {
-      reading = read .value;
+      tree-read = read .value;
       is = read .is;
       whole = read .holds;
       taken = ap (λ (q : PhraseRead). q .taken) same;
@@ -170,7 +172,7 @@ was-read s {r} answer z =
 
 -- one that it answers with any other number is refused so
 pub was-refused :
-    (s : List ℕ) {r : PhraseRead} → r ≡ phraseAnswer (readOf keywords s) → (r .refusal .number ≡ 0 → ⊥) →
-    readOf keywords s ≡ refused (r .refusal)
-was-refused s answer other =
-    number-other (readOf keywords s) (λ z. other (rw answer z)) ∙ ap (λ (q : PhraseRead). refused (q .refusal)) (sym answer)
+    (reading : Reading) (s : List ℕ) {r : PhraseRead} → r ≡ phraseAnswer (readOf reading keywords s) → (r .refusal .number ≡ 0 → ⊥) →
+    readOf reading keywords s ≡ refused (r .refusal)
+was-refused reading s answer other =
+    number-other (readOf reading keywords s) (λ z. other (rw answer z)) ∙ ap (λ (q : PhraseRead). refused (q .refusal)) (sym answer)

@@ -9,6 +9,7 @@ use Rattle.refusals.specs.Answers.{given, refused, refuse, andThen}
 use Rattle.refusals.proofs.Holds.{Holds, of-given, of-refusal}
 use Rattle.lexer.specs.Lexemes as lexeme
 use Rattle.lexer.specs.Words.{Word}
+use Rattle.lexer.specs.declared.reading.Reading.{Reading}
 use Rattle.lexer.specs.Lex.{Lexed, lexed, codesOf, startsOf}
 use Rattle.numbers.specs.Slices.{isAt}
 use Rattle.numbers.proofs.Again.{again-keeps}
@@ -48,13 +49,13 @@ with-duration-small dur t l a =
     (pick-gives (isAt l t lexeme.Before) (is-gives a)
     (pick-gives (isAt l t lexeme.Ago) (is-gives a) nothing-gives)))
 
-turn-small : (l : List ℕ) → Gives SmallTurn (turnOf l)
+turn-small : (reading : Reading) (l : List ℕ) → Gives SmallTurn (turnOf reading l)
 unfolding turnOf undatedTurnOf timedTurnOf
-turn-small l =
+turn-small reading l =
     pick-gives (isAt l 0 lexeme.Now) (is-gives tt)
-    (if-let-gives _ (expr-small l) (λ e t a. then-gives _ (time-behind-small t l) (λ time n b. is-gives (a, b)))
+    (if-let-gives _ (expr-small reading l) (λ e t a. then-gives _ (time-behind-small t l) (λ time n b. is-gives (a, b)))
     (if-let-gives _ (duration-small l) (λ dur t a. with-duration-small dur t l a)
-    (then-gives _ (time-small l) (λ time t a. if-let-gives _ (expr-small _) (λ e u b. is-gives (b, a)) (is-gives (tt, a))))))
+    (then-gives _ (time-small l) (λ time t a. if-let-gives _ (expr-small reading _) (λ e u b. is-gives (b, a)) (is-gives (tt, a))))))
 
 around-small : (back : Bool) (dur : Duration) (x : DateTime) → SmallDuration dur → SmallTree x → SmallTree (around back dur x)
 around-small true dur x a b = (a, b)
@@ -66,14 +67,15 @@ again-small D small l (whole x) t a = is-gives a
 again-small D small l (ago dur) t a = is-gives (a, tt)
 again-small D small l (link back dur) t a = then-gives _ (small (drop t l)) (λ x u b. is-gives (around-small back dur x a b))
 
-step-small : (D : List ℕ → Parsed DateTime) → ((m : List ℕ) → Gives SmallTree (D m)) → (l : List ℕ) → Gives SmallTree (dateTimeStep D l)
+step-small : (reading : Reading) (D : List ℕ → Parsed DateTime) → ((m : List ℕ) → Gives SmallTree (D m)) → (l : List ℕ) →
+    Gives SmallTree (dateTimeStep reading D l)
 unfolding dateTimeStep
-step-small D small l = then-gives _ (turn-small l) (λ x t a. again-small D small l x t a)
+step-small reading D small l = then-gives _ (turn-small reading l) (λ x t a. again-small D small l x t a)
 
 -- a tree
-tree-small : (l : List ℕ) → Gives SmallTree (dateTimeOf l)
+tree-small : (reading : Reading) (l : List ℕ) → Gives SmallTree (dateTimeOf reading l)
 unfolding dateTimeOf
-tree-small l = again-keeps nothing dateTimeStep (λ m w. Gives SmallTree w) (λ m. nothing-gives) step-small l
+tree-small reading l = again-keeps nothing (dateTimeStep reading) (λ m w. Gives SmallTree w) (λ m. nothing-gives) (step-small reading) l
 
 -- of what reading gives
 abbrev pub SmallRead : ReadPhrase → Type 0
@@ -89,10 +91,10 @@ codes-small nothing count starts n h = of-refusal tt
 codes-small overflow count starts n h = of-refusal tt
 
 -- a phrase, with the words of any list
-pub read-small : (ws : List Word) (s : List ℕ) → SmallRead (readOf ws s)
+pub read-small : (reading : Reading) (ws : List Word) (s : List ℕ) → SmallRead (readOf reading ws s)
 unfolding readOf
-read-small ws s = go (lexed ws s)
+read-small reading ws s = go (lexed ws s)
   where
-    go : (w : Lexed) → SmallRead (andThen w (readItems (length s)))
-    go (given items) = codes-small _ (length items) (startsOf items) (length s) (tree-small (codesOf items))
+    go : (w : Lexed) → SmallRead (andThen w (readItems reading (length s)))
+    go (given items) = codes-small _ (length items) (startsOf items) (length s) (tree-small reading (codesOf items))
     go (refused r) = of-refusal tt

@@ -7,6 +7,7 @@ use mathlib.Core.List.{List, []}
 use lib.ListN.{length, drop, length-drop}
 use lib.Seq.{drop-drop}
 use Rattle.lexer.specs.Lexemes as lexeme
+use Rattle.lexer.specs.declared.reading.Reading.{Reading}
 use Rattle.numbers.specs.Slices.{isAt, oneIf}
 use Rattle.numbers.proofs.Again.{again-keeps}
 use Rattle.numbers.proofs.LexemeAt.{at-most, there}
@@ -103,9 +104,9 @@ time-behind-took t l h =
     (record { bounds = (omega arith, omega arith) })
 
 -- the duration of a date expression
-expr-base : (l : List ℕ) (x : DateExpr) (t : ℕ) → dateExprOf l ≡ is x t → BaseStands (ownOf x) (ownPlace l x) l
-expr-base l x t e =
-    let b = (rw e at (expr-few l)) .bounds in
+expr-base : (reading : Reading) (l : List ℕ) (x : DateExpr) (t : ℕ) → dateExprOf reading l ≡ is x t → BaseStands (ownOf x) (ownPlace l x) l
+expr-base reading l x t e =
+    let b = (rw e at (expr-few reading l)) .bounds in
     record { stands = b .stands; within = omega arith }
 
 -- the same from s lexemes before on
@@ -114,21 +115,21 @@ further own p s l h b =
     let left = length-drop s l in
     record { stands = rw (drop-drop p s l) at (b .stands); within = omega arith }
 
-timed-holds : (l : List ℕ) → Each (TurnHolds l) (timedTurnOf l)
+timed-holds : (reading : Reading) (l : List ℕ) → Each (TurnHolds l) (timedTurnOf reading l)
 unfolding timedTurnOf
-timed-holds l =
+timed-holds reading l =
     then-each (timeOf l) _ (λ time t e.
     let b = found e (time-took l) in
     let s = commaOr l t lexeme.On in
     let most = comma-most l t lexeme.On (omega arith) in
     let left = length-drop s l in
-    if-let-each (dateExprOf (drop s l)) _ _
-    (λ x u f. let k = (rw f at (expr-few (drop s l))) .bounds in record {
+    if-let-each (dateExprOf reading (drop s l)) _ _
+    (λ x u f. let k = (rw f at (expr-few reading (drop s l))) .bounds in record {
       bounds = record {
         one = omega arith;
         most = omega arith;
         few = omega arith;
-        stands = rw e (further (ownOf x) (ownPlace (drop s l) x) s l most (expr-base (drop s l) x u f), tt);
+        stands = rw e (further (ownOf x) (ownPlace (drop s l) x) s l most (expr-base reading (drop s l) x u f), tt);
       };
     })
     (record {
@@ -165,24 +166,24 @@ module _ (l : List ℕ) (dur : Duration) (t : ℕ) (e : durationOf l ≡ is dur 
       (λ c. pick-each (isAt l t lexeme.Ago) (λ d. behind (ago dur) true lexeme.Ago d (rw (a, b)) refl (λ s. s))
       (λ d. record { bounds = tt }))))
 
-undated-holds : (l : List ℕ) → Each (TurnHolds l) (undatedTurnOf l)
+undated-holds : (reading : Reading) (l : List ℕ) → Each (TurnHolds l) (undatedTurnOf reading l)
 unfolding undatedTurnOf
-undated-holds l = if-let-each (durationOf l) _ _ (λ dur t e. duration-holds l dur t e) (timed-holds l)
+undated-holds reading l = if-let-each (durationOf l) _ _ (λ dur t e. duration-holds l dur t e) (timed-holds reading l)
 
 -- one turn
-pub turn-holds : (l : List ℕ) → Each (TurnHolds l) (turnOf l)
+pub turn-holds : (reading : Reading) (l : List ℕ) → Each (TurnHolds l) (turnOf reading l)
 unfolding turnOf
-turn-holds l =
+turn-holds reading l =
     pick-each (isAt l 0 lexeme.Now)
     (λ e. let some = there (at-most l 0 lexeme.Now) e in record {
       bounds = record { one = omega arith; most = omega arith; few = omega arith; stands = (tt, tt) };
     })
-    (λ e. if-let-each (dateExprOf l) _ _
-    (λ x t f. let b = (rw f at (expr-few l)) .bounds in
+    (λ e. if-let-each (dateExprOf reading l) _ _
+    (λ x t f. let b = (rw f at (expr-few reading l)) .bounds in
     then-each (timeBehindOf t l) _ (λ time n g. let k = found g (time-behind-took t l (omega arith)) in record {
-      bounds = record { one = omega arith; most = omega arith; few = omega arith; stands = (expr-base l x t f, tt) };
+      bounds = record { one = omega arith; most = omega arith; few = omega arith; stands = (expr-base reading l x t f, tt) };
     }))
-    (undated-holds l))
+    (undated-holds reading l))
 
 -- the lexemes of a link are those of its duration and one
 pub link-taken : {l : List ℕ} {back : Bool} {dur : Duration} {t : ℕ} → LinkStands l back dur t → linkTaken l ≡ t
@@ -198,9 +199,9 @@ around-size : (back : Bool) (dur : Duration) (x : DateTime) → sizeTree (around
 around-size true dur x = refl
 around-size false dur x = refl
 
-step-holds : (D : List ℕ → Parsed DateTime) → ((m : List ℕ) → Each (TreeHolds m) (D m)) → (l : List ℕ) → Each (TreeHolds l) (dateTimeStep D l)
+step-holds : (reading : Reading) (D : List ℕ → Parsed DateTime) → ((m : List ℕ) → Each (TreeHolds m) (D m)) → (l : List ℕ) → Each (TreeHolds l) (dateTimeStep reading D l)
 unfolding dateTimeStep
-step-holds D holds l = then-each (turnOf l) _ (λ x t e. go x t ((rw e at (turn-holds l)) .bounds))
+step-holds reading D holds l = then-each (turnOf reading l) _ (λ x t e. go x t ((rw e at (turn-holds reading l)) .bounds))
   where
     go : (x : Turn) (t : ℕ) → TurnHolds l x t → Each (TreeHolds l) (againOf D l x t)
     go (whole x) t h = record { bounds = record { one = h .one; most = h .most; few = h .few; stands = h .stands .0 } }
@@ -222,6 +223,6 @@ step-holds D holds l = then-each (turnOf l) _ (λ x t e. go x t ((rw e at (turn-
         })
 
 -- a whole tree
-pub date-time-holds : (l : List ℕ) → Each (TreeHolds l) (dateTimeOf l)
+pub date-time-holds : (reading : Reading) (l : List ℕ) → Each (TreeHolds l) (dateTimeOf reading l)
 unfolding dateTimeOf
-date-time-holds l = again-keeps nothing dateTimeStep (λ m w. Each (TreeHolds m) w) (λ m. record { bounds = tt }) step-holds l
+date-time-holds reading l = again-keeps nothing (dateTimeStep reading) (λ m w. Each (TreeHolds m) w) (λ m. record { bounds = tt }) (step-holds reading) l

@@ -5,6 +5,7 @@ use Prim.Native.Nat.{ℕ}
 use Prim.Native.String.{String}
 use Rattle.digits.specs.Bytes.{bytesOf}
 use Rattle.lexer.specs.Keywords.{keywords}
+use Rattle.lexer.specs.declared.reading.Reading.the-variants.{First}
 use Rattle.lexer.specs.Classes.{classOf, markOf}
 use Rattle.refusals.specs.Table as table
 use Rattle.refusals.specs.Answers.{refuse}
@@ -41,7 +42,7 @@ pub record Case : Type 0 where
 abbrev row : String → ReadPhrase → Case
 row s r = record { phrase = bytesOf s; reading = r }
 
--- the table
+-- the table of the first reading
 unfoldable pub cases : List Case
 cases =
     -- each alternative of `DateTime::parse`
@@ -76,7 +77,7 @@ cases =
     ∷ []
 
 -- each row is what `readOf` gives
-pub read-as-listed : map (λ c. readOf keywords (c .phrase)) cases ≡ map (λ c. c .reading) cases
+pub read-as-listed : map (λ c. readOf First keywords (c .phrase)) cases ≡ map (λ c. c .reading) cases
 unfolding cases keywords classOf markOf numberOf wordAt numberAt tokenAt lexed get isAt within isEnding wordOf literalOf onesOf teensOf
     tensOf tensOnesOf numDoubleOf sumOf numTailOf hundredsOf numTripleOf numTripleUnitOf fitsOf unitsOf numStep turns again numOf
     isArticle unitOf monthOf weekdayOf relativeSpecifierOf specificOf articleOf concreteOf durationTurn durationOf namedDayOf

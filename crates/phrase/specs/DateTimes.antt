@@ -1,9 +1,10 @@
--- `DateTime::parse`, alternatives in the text's order.
+-- `DateTime::parse`, alternatives in the text's order, under either reading.
 use Prim.Native.Nat.{ℕ, _+_}
 use mathlib.Core.Bool.{Bool, true, false, _||_}
 use mathlib.Core.List.{List}
 use lib.ListN.{drop}
 use Rattle.lexer.specs.Lexemes as lexeme
+use Rattle.lexer.specs.declared.reading.Reading.{Reading}
 use Rattle.numbers.specs.Again.{again}
 use Rattle.numbers.specs.Slices.{isAt, oneIf}
 use Rattle.dates.specs.Parsed.{Parsed, is, nothing, pick, ifLet, andThen}
@@ -40,21 +41,21 @@ withDurationOf dur t l =
     nothing)))
 
 -- <time> [, | on] [<date_expr>]: the comma or "on" is taken also with no date behind it
-unfoldable pub timedTurnOf : List ℕ → Parsed Turn
-timedTurnOf l =
+unfoldable pub timedTurnOf : Reading → List ℕ → Parsed Turn
+timedTurnOf reading l =
     andThen (timeOf l) (λ time t. let s = commaOr l t lexeme.On in
-    ifLet (dateExprOf (drop s l)) (λ expr u. is (whole (timeDate time expr)) (s + u)) (is (whole (timeDate time empty)) s))
+    ifLet (dateExprOf reading (drop s l)) (λ expr u. is (whole (timeDate time expr)) (s + u)) (is (whole (timeDate time empty)) s))
 
 -- from the duration on
-unfoldable pub undatedTurnOf : List ℕ → Parsed Turn
-undatedTurnOf l = ifLet (durationOf l) (λ dur t. withDurationOf dur t l) (timedTurnOf l)
+unfoldable pub undatedTurnOf : Reading → List ℕ → Parsed Turn
+undatedTurnOf reading l = ifLet (durationOf l) (λ dur t. withDurationOf dur t l) (timedTurnOf reading l)
 
 -- now; then a dated phrase before a duration, and a bare time last
-unfoldable pub turnOf : List ℕ → Parsed Turn
-turnOf l =
+unfoldable pub turnOf : Reading → List ℕ → Parsed Turn
+turnOf reading l =
     pick (isAt l 0 lexeme.Now) (is (whole now) 1)
-    (ifLet (dateExprOf l) (λ expr t. andThen (timeBehindOf t l) (λ time n. is (whole (dateTime expr time)) n))
-    (undatedTurnOf l))
+    (ifLet (dateExprOf reading l) (λ expr t. andThen (timeBehindOf t l) (λ time n. is (whole (dateTime expr time)) n))
+    (undatedTurnOf reading l))
 
 -- behind "after", "from" and "before" a datetime is read again, and with none there is nothing
 abbrev pub againOf : (List ℕ → Parsed DateTime) → List ℕ → Turn → ℕ → Parsed DateTime
@@ -63,9 +64,9 @@ againOf D l (ago dur) t = is (durationBefore dur now) t
 againOf D l (link back dur) t = andThen (D (drop t l)) (λ x u. is (around back dur x) (t + u))
 
 -- `DateTime::parse`, with D for the datetime that is read again
-unfoldable pub dateTimeStep : (List ℕ → Parsed DateTime) → List ℕ → Parsed DateTime
-dateTimeStep D l = andThen (turnOf l) (againOf D l)
+unfoldable pub dateTimeStep : Reading → (List ℕ → Parsed DateTime) → List ℕ → Parsed DateTime
+dateTimeStep reading D l = andThen (turnOf reading l) (againOf D l)
 
--- `DateTime::parse`, which calls itself behind a link (`date-time-is`: dateTimeOf l ≡ dateTimeStep dateTimeOf l)
-unfoldable pub dateTimeOf : List ℕ → Parsed DateTime
-dateTimeOf l = again nothing dateTimeStep l
+-- `DateTime::parse`, which calls itself behind a link (`date-time-is`: dateTimeOf reading l ≡ dateTimeStep reading (dateTimeOf reading) l)
+unfoldable pub dateTimeOf : Reading → List ℕ → Parsed DateTime
+dateTimeOf reading l = again nothing (dateTimeStep reading) l

@@ -9,6 +9,7 @@ use Rattle.refusals.specs.Answers.{Answer, given, refused, refusalAt, refuse, a
 use Rattle.lexer.specs.Words.{Word}
 use Rattle.lexer.specs.Lex.{Item, lexed, codesOf, startsOf, endedOf}
 use Rattle.lexer.specs.declared.lex.Ended.{Ended}
+use Rattle.lexer.specs.declared.reading.Reading.{Reading}
 use Rattle.dates.specs.Parsed.{Parsed, is, nothing, overflow}
 use Rattle.phrase.specs.Tree.{DateTime, now}
 use Rattle.phrase.specs.DateTimes.{dateTimeOf}
@@ -38,12 +39,12 @@ readCodes nothing count starts n = refuse table.Nothing 0 0
 readCodes overflow count starts n = refuse table.LargeSum 0 0
 
 -- the lexemes of a phrase of n bytes
-abbrev pub readItems : ℕ → List Item → ReadPhrase
-readItems n items = readCodes (dateTimeOf (codesOf items)) (length items) (startsOf items) n
+abbrev pub readItems : Reading → ℕ → List Item → ReadPhrase
+readItems reading n items = readCodes (dateTimeOf reading (codesOf items)) (length items) (startsOf items) n
 
--- a phrase, with the words of a list: 1 to 4 are the lexer's
-unfoldable pub readOf : List Word → List ℕ → ReadPhrase
-readOf ws s = andThen (lexed ws s) (readItems (length s))
+-- a phrase in one of the readings, with the words of a list: 1 to 4 are the lexer's
+unfoldable pub readOf : Reading → List Word → List ℕ → ReadPhrase
+readOf reading ws s = andThen (lexed ws s) (readItems reading (length s))
 
 -- how the reading of so many lexemes ended, by those that it took: as in `readCodes`
 abbrev pub countEnded : Count → ℕ → List ℕ → ℕ → Ended

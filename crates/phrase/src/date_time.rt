@@ -16,6 +16,7 @@ use lexer::lexeme::COMMA;
 use lexer::lexeme::FROM;
 use lexer::lexeme::NOW;
 use lexer::lexeme::ON;
+use lexer::reading::Reading;
 use numbers::slices::is_at;
 use numbers::slices::rest;
 use numbers::slices::take_if;
@@ -114,15 +115,15 @@ fn turn_stopped(a: TimeFound) -> TurnTaken
 }
 
 // <time> [, | on] [<date_expr>]
-fn read_timed(l: &[u64]) -> TurnTaken
-    ensures { λ r. ⌜ r ≡ turnAnswer (now (l .entry)) (timedTurnOf (now (l .entry))) ⌝ }
+fn read_timed(reading: Reading, l: &[u64]) -> TurnTaken
+    ensures { λ r. ⌜ r ≡ turnAnswer (now (l .entry)) (timedTurnOf reading (now (l .entry))) ⌝ }
 {
     let a = read_time(l);
     let TimeFound::Is(time, t) = a else {
         return turn_stopped(a);
     };
     let s = t + take_comma_or(l, t, ON);
-    let e = read_expr(rest(l, s));
+    let e = read_expr(reading, rest(l, s));
     match e {
         ExprTaken::Is(expr, u, own) => TurnTaken::Whole(Base::TimeDate(expr), time, s + own, s + u),
         ExprTaken::Nothing => TurnTaken::Whole(Base::TimeDate(Expr::Empty), time, s, s),
@@ -131,8 +132,8 @@ fn read_timed(l: &[u64]) -> TurnTaken
 }
 
 // A duration and its connection, or a bare time.
-fn read_undated(l: &[u64]) -> TurnTaken
-    ensures { λ r. ⌜ r ≡ turnAnswer (now (l .entry)) (undatedTurnOf (now (l .entry))) ⌝ }
+fn read_undated(reading: Reading, l: &[u64]) -> TurnTaken
+    ensures { λ r. ⌜ r ≡ turnAnswer (now (l .entry)) (undatedTurnOf reading (now (l .entry))) ⌝ }
 {
     let taken = read_duration(l);
     match taken {
@@ -140,19 +141,19 @@ fn read_undated(l: &[u64]) -> TurnTaken
             taken: t,
             sub_daily: _,
         } => with_duration(l, t),
-        Taken::Nothing => read_timed(l),
+        Taken::Nothing => read_timed(reading, l),
         Taken::Overflow => TurnTaken::Overflow,
     }
 }
 
 // One turn of DateTime::parse: now, a dated phrase, a duration, or a bare time last.
-fn read_turn(l: &[u64]) -> TurnTaken
-    ensures { λ r. ⌜ r ≡ turnAnswer (now (l .entry)) (turnOf (now (l .entry))) ⌝ }
+fn read_turn(reading: Reading, l: &[u64]) -> TurnTaken
+    ensures { λ r. ⌜ r ≡ turnAnswer (now (l .entry)) (turnOf reading (now (l .entry))) ⌝ }
 {
     if is_at(l, 0, NOW) {
         return TurnTaken::Whole(Base::Now, Time::Empty, 0, 1);
     }
-    let e = read_expr(l);
+    let e = read_expr(reading, l);
     match e {
         ExprTaken::Is(expr, t, own) => {
             let a = time_behind(l, t);
@@ -161,7 +162,7 @@ fn read_turn(l: &[u64]) -> TurnTaken
             };
             TurnTaken::Whole(Base::DateTime(expr), time, own, n)
         }
-        ExprTaken::Nothing => read_undated(l),
+        ExprTaken::Nothing => read_undated(reading, l),
         ExprTaken::Overflow => TurnTaken::Overflow,
     }
 }
@@ -180,13 +181,13 @@ fn ended(taken: Count) -> Outline
 }
 
 // DateTime::parse, turn after turn: behind a link a datetime is read again.
-fn read_date_time(l: &[u64]) -> Outline
-    ensures { λ r. ⌜ r ≡ outlineAnswer (now (l .entry)) (dateTimeOf (now (l .entry))) ⌝ }
+fn read_date_time(reading: Reading, l: &[u64]) -> Outline
+    ensures { λ r. ⌜ r ≡ outlineAnswer (now (l .entry)) (dateTimeOf reading (now (l .entry))) ⌝ }
 {
     let mut at: usize = 0;
     let mut m: usize = 0;
     loop {
-        let turn = read_turn(rest(l, at));
+        let turn = read_turn(reading, rest(l, at));
         match turn {
             TurnTaken::Whole(base, time, own, t) => {
                 return Outline {
@@ -221,10 +222,10 @@ fn read_date_time(l: &[u64]) -> Outline
 }
 
 // The same, kept only where at least n lexemes are taken.
-pub(crate) fn read_outline(l: &[u64], n: usize) -> Outline
-    ensures { λ r. ⌜ r ≡ outlineAnswer (now (l .entry)) (kept n (dateTimeOf (now (l .entry)))) ⌝ }
+pub(crate) fn read_outline(reading: Reading, l: &[u64], n: usize) -> Outline
+    ensures { λ r. ⌜ r ≡ outlineAnswer (now (l .entry)) (kept n (dateTimeOf reading (now (l .entry)))) ⌝ }
 {
-    let o = read_date_time(l);
+    let o = read_date_time(reading, l);
     let taken = o.taken;
     let Count::Is(t) = taken else {
         return o;

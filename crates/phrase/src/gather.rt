@@ -12,6 +12,7 @@ use dates::units::Unit;
 use expressions::expr::has_duration;
 use lexer::lexeme::AFTER;
 use lexer::lexeme::FROM;
+use lexer::reading::Reading;
 use numbers::slices::is_at;
 use numbers::slices::rest;
 ghost use mathlib.Core.Path.{_≡_};
@@ -63,11 +64,11 @@ fn with_own(base: Base, l: &[u64], parts: Parts) -> Parts
 }
 
 // The chain of what is read of l, kept only where at least n lexemes are taken.
-pub fn gather(l: &[u64], n: usize) -> Gathered
+pub fn gather(reading: Reading, l: &[u64], n: usize) -> Gathered
     requires { ⌜ length (now l) ≤ 64 ⌝ }
-    ensures { λ r. ⌜ r ≡ gathered (kept n (dateTimeOf (now (l .entry)))) ⌝ }
+    ensures { λ r. ⌜ r ≡ gathered (kept n (dateTimeOf reading (now (l .entry)))) ⌝ }
 {
-    let o = read_outline(l, n);
+    let o = read_outline(reading, l, n);
     let items = [Slot {
         part: Part::Article(Unit::Day),
     }; 21];

@@ -6,6 +6,7 @@ use lexer::lex::Ended;
 use lexer::lex::lex;
 use lexer::lex::refuse;
 use lexer::part::part;
+use lexer::reading::Reading;
 use refusals::LARGE_SUM;
 use refusals::LEFT_OVER;
 use refusals::NONE;
@@ -54,16 +55,16 @@ fn judged(line: Ended, taken: Count, starts: &[u8; 64], n: usize) -> Ended
     }
 }
 
-// A phrase read: a reading, or a refusal of 1 to 7 in their order. What is left behind the reading is refusal 7, from its first byte to
+// A phrase read: its tree in one of the readings, or a refusal of 1 to 7 in their order. What is left behind the reading is refusal 7, from its first byte to
 // the end of the phrase. Where lexing refuses there are no lexemes, so that one reading is made for every answer.
-pub fn read(phrase: &[u8]) -> PhraseRead
-    ensures { λ r. ⌜ r ≡ phraseAnswer (readOf keywords (now (phrase .entry))) ⌝ }
+pub fn read(reading: Reading, phrase: &[u8]) -> PhraseRead
+    ensures { λ r. ⌜ r ≡ phraseAnswer (readOf reading keywords (now (phrase .entry))) ⌝ }
 {
     let mut codes = [0u64; 64];
     let mut starts = [0u8; 64];
     let line = lex(phrase, &mut codes, &mut starts);
     let n = line.count;
-    let x = gather(&codes[..n], n);
+    let x = gather(reading, &codes[..n], n);
     let taken = x.taken;
     let chain = x.chain;
     let end = judged(line, taken, &starts, phrase.len());
@@ -76,11 +77,11 @@ pub fn read(phrase: &[u8]) -> PhraseRead
 }
 
 // The offending part of the caller's own phrase; empty where nothing is refused.
-pub fn offending(phrase: &[u8]) -> &[u8]
-    ensures { λ r. ⌜ now r ≡ offendingOf (now (phrase .entry)) (readOf keywords (now (phrase .entry))) ⌝ }
-    ensures own { λ r. ⌜ r .ptr ≡ ((phrase .entry) .ptr .0, placeOf (readOf keywords (now (phrase .entry))) + (phrase .entry) .ptr .1) ⌝ }
+pub fn offending(reading: Reading, phrase: &[u8]) -> &[u8]
+    ensures { λ r. ⌜ now r ≡ offendingOf (now (phrase .entry)) (readOf reading keywords (now (phrase .entry))) ⌝ }
+    ensures own { λ r. ⌜ r .ptr ≡ ((phrase .entry) .ptr .0, placeOf (readOf reading keywords (now (phrase .entry))) + (phrase .entry) .ptr .1) ⌝ }
 {
-    let r = read(phrase);
+    let r = read(reading, phrase);
     let refusal = r.refusal;
     part(phrase, refusal.place, refusal.end)
 }

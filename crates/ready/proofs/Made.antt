@@ -14,7 +14,7 @@ use Rattle.dates.specs.declared.units.RelativeSpecifier.the-variants.{This, Nex
 use Rattle.dates.specs.declared.units.Unit.{Unit}
 use Rattle.expressions.specs.Shapes.{sizeExpr}
 use Rattle.expressions.specs.Tree.{DateExpr, date, dateRelative, dateExpressionAfter, dateExpressionBefore, unitRelative}
-use Rattle.expressions.specs.Tree.{relativeWeekday, weekdayRelative, weekdayExpressionBefore, before, after, weekday, empty}
+use Rattle.expressions.specs.Tree.{relativeWeekday, weekdayRelative, weekdayExpressionBefore, weekdayExpressionAfter, before, after, weekday, empty}
 use Rattle.phrase.specs.Chains.{sizeTree}
 use Rattle.phrase.specs.Tree.{DateTime, dateTime, timeDate, durationAfter, durationBefore, now}
 use Rattle.evaluation.specs.Evaluate.{isYear, isWeek, isMonthAndDay}
@@ -25,7 +25,7 @@ use Rattle.steps.specs.declared.plan.Plan.{Plan}
 use Rattle.steps.specs.declared.plan.Start.{Start}
 use Rattle.steps.specs.declared.plan.Start.the-variants.{Now, Senseless, OnDate, InWeek, FromToday}
 use Rattle.steps.specs.declared.plan.Move.{Move}
-use Rattle.steps.specs.declared.plan.Move.the-variants.{Years, BackTo}
+use Rattle.steps.specs.declared.plan.Move.the-variants.{Years, BackTo, ForwardTo}
 use Rattle.steps.specs.declared.plan.Step.{Step}
 use Rattle.steps.specs.declared.plan.Step.the-variants.{From, By, AtTime}
 use Rattle.steps.proofs.Joined.{length-add, apart-add}
@@ -134,6 +134,8 @@ expr-kept (date d) = wider (start-open (OnDate d) refl) (omega arith)
 expr-kept (dateRelative d s u) = by-test (isYear u && isMonthAndDay d) _ _ _ _ (year-open s d) none-open
 expr-kept (weekdayExpressionBefore w dur) =
     wider (open-more (date-open Today true dur) (BackTo w)) (omega arith)
+expr-kept (weekdayExpressionAfter w dur) =
+    wider (open-more (date-open Today false dur) (ForwardTo w)) (omega arith)
 expr-kept (dateExpressionAfter d dur) = wider (date-open d false dur) (omega arith)
 expr-kept (dateExpressionBefore d dur) = wider (date-open d true dur) (omega arith)
 expr-kept (before dur d) = wider (date-open d true dur) (omega arith)

@@ -11,6 +11,7 @@ use Rattle.refusals.specs.declared.Refusal.{Refusal}
 use Rattle.refusals.proofs.Holds.{Holds, of-given, of-refusal, Bounded, given-holds, refusal-holds}
 use Rattle.calendar.specs.declared.moments.Moment.{Moment}
 use Rattle.lexer.specs.Keywords.{keywords}
+use Rattle.lexer.specs.declared.reading.Reading.{Reading}
 use Rattle.phrase.specs.Chains.{sizeTree}
 use Rattle.phrase.specs.Read.{ReadPhrase, readOf}
 use Rattle.phrase.specs.Tree.{DateTime}
@@ -32,28 +33,28 @@ use Rattle.ready.proofs.Runs.{tree-runs}
 made-list : (x : DateTime) → sizeTree x ≤ 21 → isList (stepsOf x) ≡ true
 made-list x few = rw (le-leb (length (stepsOf x)) 24 (at-most-24 x few), made-formed x)
 
--- for every phrase and every now, valid or not, running what was made equals `answerOf`
-pub ready-answers : (s : List ℕ) (n : Moment) → runReady (readyOf keywords s) n ≡ answerOf keywords s n
+-- for every reading, every phrase and every now, valid or not, running what was made equals `answerOf`
+pub ready-answers : (reading : Reading) (s : List ℕ) (n : Moment) → runReady (readyOf reading keywords s) n ≡ answerOf reading keywords s n
 unfolding readyOf answerOf runOf
-ready-answers s n = go (read-holds s)
+ready-answers reading s n = go (read-holds reading s)
   where
-    go : {w : ReadPhrase} → Holds (ReadWhole s) (Bounded 1 7 (min (length s) 256)) w →
+    go : {w : ReadPhrase} → Holds (ReadWhole reading s) (Bounded 1 7 (min (length s) 256)) w →
         runReady (andThen w (λ x. given (stepsOf (x .tree)))) n ≡ andThen w (readingAt n)
     go (of-given {x} whole) = rw (made-list (x .tree) (whole .few), tree-runs (x .tree) n)
     go (of-refusal b) = refl
 
 -- making ready refuses exactly when reading refuses, with the same number, place and part
-pub refuses-as-reading : (s : List ℕ) {r : Refusal} → readyOf keywords s ≡ refused r → readOf keywords s ≡ refused r
+pub refuses-as-reading : (reading : Reading) (s : List ℕ) {r : Refusal} → readyOf reading keywords s ≡ refused r → readOf reading keywords s ≡ refused r
 unfolding readyOf
-refuses-as-reading s {r} h = go (readOf keywords s) h
+refuses-as-reading reading s {r} h = go (readOf reading keywords s) h
   where
     go : (w : ReadPhrase) → andThen w (λ x. given (stepsOf (x .tree))) ≡ refused r → w ≡ refused r
     go (given x) h = cc
     go (refused q) h = cc
 
-pub reading-refuses : (s : List ℕ) {r : Refusal} → readOf keywords s ≡ refused r → readyOf keywords s ≡ refused r
+pub reading-refuses : (reading : Reading) (s : List ℕ) {r : Refusal} → readOf reading keywords s ≡ refused r → readyOf reading keywords s ≡ refused r
 unfolding readyOf
-reading-refuses s h = rw h
+reading-refuses reading s h = rw h
 
 -- what every list has that a phrase is made ready as: "at most 24 calendar steps, no two fixed lengths of one direction side by side",
 -- the form that running asks for, and numbers that fit
@@ -64,18 +65,18 @@ pub record MadeReady (ss : List Step) : Type 0 where
   pub small : All (SmallStep (24 * widest)) ss
 
 -- such a list is made, or the refusal is of 1 to 7, with a part within the phrase and the 256 bytes that it may have
-pub made-ready : (s : List ℕ) → Holds MadeReady (Bounded 1 7 (min (length s) 256)) (readyOf keywords s)
+pub made-ready : (reading : Reading) (s : List ℕ) → Holds MadeReady (Bounded 1 7 (min (length s) 256)) (readyOf reading keywords s)
 unfolding readyOf
-made-ready s = go (readOf keywords s) refl
+made-ready reading s = go (readOf reading keywords s) refl
   where
-    go : (w : ReadPhrase) → readOf keywords s ≡ w →
+    go : (w : ReadPhrase) → readOf reading keywords s ≡ w →
         Holds MadeReady (Bounded 1 7 (min (length s) 256)) (andThen w (λ x. given (stepsOf (x .tree))))
     go (given x) h =
-        let few = given-holds (read-holds s) h .few in
+        let few = given-holds (read-holds reading s) h .few in
         of-given (record {
           most = at-most-24 (x .tree) few;
           apart = neighbours-apart (x .tree);
           list = made-list (x .tree) few;
-          small = all-smaller (omega arith) (tree-parts (x .tree) (given-holds (read-small keywords s) h) .all);
+          small = all-smaller (omega arith) (tree-parts (x .tree) (given-holds (read-small reading keywords s) h) .all);
         })
-    go (refused r) h = of-refusal (refusal-holds (read-holds s) h)
+    go (refused r) h = of-refusal (refusal-holds (read-holds reading s) h)

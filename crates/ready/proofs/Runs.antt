@@ -16,7 +16,7 @@ use Rattle.dates.specs.declared.units.RelativeSpecifier.the-variants.{This, Nex
 use Rattle.dates.specs.declared.units.Unit.{Unit}
 use Rattle.dates.specs.declared.units.Unit.the-variants.{Day, Week, Hour, Minute, Month, Year}
 use Rattle.expressions.specs.Tree.{DateExpr, date, dateRelative, dateExpressionAfter, dateExpressionBefore, unitRelative}
-use Rattle.expressions.specs.Tree.{relativeWeekday, weekdayRelative, weekdayExpressionBefore, before, after, weekday, empty}
+use Rattle.expressions.specs.Tree.{relativeWeekday, weekdayRelative, weekdayExpressionBefore, weekdayExpressionAfter, before, after, weekday, empty}
 use Rattle.phrase.specs.Tree.{DateTime, dateTime, timeDate, durationAfter, durationBefore, now}
 use Rattle.evaluation.specs.Steps.{unitStep, partStep, durationStep}
 use Rattle.evaluation.specs.Dates.{dateAt}
@@ -27,11 +27,12 @@ use Rattle.steps.specs.Joining.{addStep}
 use Rattle.steps.specs.Running.{startAt, moveBy, actOf, walkOf}
 use Rattle.steps.specs.declared.plan.Start.{Start}
 use Rattle.steps.specs.declared.plan.Start.the-variants.{Senseless, OnDate, InWeek}
-use Rattle.steps.specs.declared.plan.Move.the-variants.{Years, BackTo}
+use Rattle.steps.specs.declared.plan.Move.{Move}
+use Rattle.steps.specs.declared.plan.Move.the-variants.{Years, BackTo, ForwardTo}
 use Rattle.steps.specs.declared.plan.Step.{Step}
 use Rattle.steps.specs.declared.plan.Step.the-variants.{From, By, AtTime}
 use Rattle.steps.proofs.Joined.{then-assoc, walk-add}
-use Rattle.ready.specs.Made.{lengthMove, moveOfPart, addDuration, addYear, addUnit, exprSteps, treeSteps, listed, stepsOf}
+use Rattle.ready.specs.Made.{lengthMove, moveOfPart, addDuration, addYear, addUnit, weekdaySteps, exprSteps, treeSteps, listed, stepsOf}
 
 -- a unit's move does what the unit's length does
 length-moves : (back : Bool) (k : ℕ) (u : Unit) (t : Moment) → moveBy (lengthMove back k u) t ≡ unitStep back k u t
@@ -96,14 +97,20 @@ by-test :
 by-test true xs ys n e f = e
 by-test false xs ys n e f = f
 
+-- today, a duration from it, and the step to a weekday
+to-weekday : (back : Bool) (dur : Duration) (to : Move) (n : Moment) →
+    walkOf (weekdaySteps listed back dur to) n n ≡ andThen (durationStep back dur n) (moveBy to)
+to-weekday back dur to n =
+    walk-add (addDuration listed back (From (OnDate Today) ∷ []) dur) (By to) n n
+    ∙ ap (λ (o : Outcome). andThen o (moveBy to)) (started back (OnDate Today) dur n)
+
 -- the steps of a date expression
 pub expr-runs : (e : DateExpr) (n : Moment) → walkOf (exprSteps listed e) n n ≡ dateExprAt e n
 unfolding exprSteps
 expr-runs (date d) n = then-moment (dateAt d n)
 expr-runs (dateRelative d s u) n = by-test (isYear u && isMonthAndDay d) (addYear listed s (From (OnDate d) ∷ [])) (From Senseless ∷ []) n (by-year s d n) refl
-expr-runs (weekdayExpressionBefore w dur) n =
-    walk-add (addDuration listed true (From (OnDate Today) ∷ []) dur) (By (BackTo w)) n n
-    ∙ ap (λ (o : Outcome). andThen o (moveBy (BackTo w))) (started true (OnDate Today) dur n)
+expr-runs (weekdayExpressionBefore w dur) n = to-weekday true dur (BackTo w) n
+expr-runs (weekdayExpressionAfter w dur) n = to-weekday false dur (ForwardTo w) n
 expr-runs (dateExpressionAfter d dur) n = started false (OnDate d) dur n
 expr-runs (dateExpressionBefore d dur) n = started true (OnDate d) dur n
 expr-runs (before dur d) n = started true (OnDate d) dur n

@@ -19,7 +19,7 @@ use Rattle.steps.specs.Running.{startAt, moveBy, actOf, walkOf, isList, runOf}
 use Rattle.steps.specs.declared.plan.Start.{Start}
 use Rattle.steps.specs.declared.plan.Start.the-variants.{Now, Senseless, OnDate, InWeek, FromToday}
 use Rattle.steps.specs.declared.plan.Move.{Move}
-use Rattle.steps.specs.declared.plan.Move.the-variants.{Minutes, Months, Years, BackTo}
+use Rattle.steps.specs.declared.plan.Move.the-variants.{Minutes, Months, Years, BackTo, ForwardTo}
 use Rattle.steps.specs.declared.plan.Step.{Step}
 use Rattle.steps.specs.declared.plan.Step.the-variants.{From, By, AtTime}
 
@@ -35,6 +35,7 @@ move-leads (Minutes back k) t v = minutes-lead kept-moment back k t v (inl refl)
 move-leads (Months back k) t v = months-lead kept-moment back k t v
 move-leads (Years back k) t v = years-lead kept-moment back k t v
 move-leads (BackTo d) t v = days-back-lead t v _ _
+move-leads (ForwardTo d) t v = on-day-leads t v _
 
 act-leads : (s : Step) (n t : Moment) → IsMoment n → IsMoment t → Leads IsMoment (actOf s n t)
 act-leads (From s) n t w v = start-leads s t v

@@ -19,7 +19,7 @@ use Rattle.dates.specs.declared.units.Unit.{Unit as OfTime}
 use Rattle.dates.specs.declared.units.Unit.the-variants.{Day, Week, Hour, Minute, Month, Year}
 use Rattle.expressions.specs.Shapes.{sizeExpr}
 use Rattle.expressions.specs.Tree.{DateExpr, date, dateRelative, dateExpressionAfter, dateExpressionBefore, unitRelative}
-use Rattle.expressions.specs.Tree.{relativeWeekday, weekdayRelative, weekdayExpressionBefore, before, after, weekday, empty}
+use Rattle.expressions.specs.Tree.{relativeWeekday, weekdayRelative, weekdayExpressionBefore, weekdayExpressionAfter, before, after, weekday, empty}
 use Rattle.phrase.specs.Chains.{sizeTree}
 use Rattle.phrase.specs.Tree.{DateTime, dateTime, timeDate, durationAfter, durationBefore, now}
 use Rattle.evaluation.specs.Evaluate.{isYear, isWeek, isMonthAndDay}
@@ -96,6 +96,8 @@ expr-parts (date d) h = alone (OnDate d) h
 expr-parts (dateRelative d s u) h = by-test (isYear u && isMonthAndDay d) (year-parts s d h) (alone Senseless tt)
 expr-parts (weekdayExpressionBefore w dur) h =
     wider (omega arith) (one-more (date-parts Today true dur (tt, h .1)) (record { numbers = h .0; minutes = omega arith }))
+expr-parts (weekdayExpressionAfter w dur) h =
+    wider (omega arith) (one-more (date-parts Today false dur (tt, h .1)) (record { numbers = h .0; minutes = omega arith }))
 expr-parts (dateExpressionAfter d dur) h = wider (omega arith) (date-parts d false dur h)
 expr-parts (dateExpressionBefore d dur) h = wider (omega arith) (date-parts d true dur h)
 expr-parts (before dur d) h = wider (omega arith) (date-parts d true dur h)

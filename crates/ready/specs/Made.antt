@@ -13,7 +13,7 @@ use Rattle.dates.specs.declared.units.RelativeSpecifier.the-variants.{This, Nex
 use Rattle.dates.specs.declared.units.Unit.{Unit}
 use Rattle.dates.specs.declared.units.Unit.the-variants.{Day, Week, Hour, Minute, Month, Year}
 use Rattle.expressions.specs.Tree.{DateExpr, date, dateRelative, dateExpressionAfter, dateExpressionBefore, unitRelative}
-use Rattle.expressions.specs.Tree.{relativeWeekday, weekdayRelative, weekdayExpressionBefore, before, after, weekday, empty}
+use Rattle.expressions.specs.Tree.{relativeWeekday, weekdayRelative, weekdayExpressionBefore, weekdayExpressionAfter, before, after, weekday, empty}
 use Rattle.phrase.specs.Tree.{DateTime, dateTime, timeDate, durationAfter, durationBefore, now}
 use Rattle.evaluation.specs.Evaluate.{isYear, isWeek, isMonthAndDay}
 use Rattle.steps.specs.Joining.{addStep}
@@ -22,7 +22,7 @@ use Rattle.steps.specs.declared.plan.Plan.{Plan}
 use Rattle.steps.specs.declared.plan.Start.{Start}
 use Rattle.steps.specs.declared.plan.Start.the-variants.{Now, Senseless, OnDate, InWeek, FromToday}
 use Rattle.steps.specs.declared.plan.Move.{Move}
-use Rattle.steps.specs.declared.plan.Move.the-variants.{Minutes, Months, Years, BackTo}
+use Rattle.steps.specs.declared.plan.Move.the-variants.{Minutes, Months, Years, BackTo, ForwardTo}
 use Rattle.steps.specs.declared.plan.Step.{Step}
 use Rattle.steps.specs.declared.plan.Step.the-variants.{From, By, AtTime}
 
@@ -74,15 +74,16 @@ unitRelativeSteps g s u = cond (isSubDailyUnit u) (g .start Senseless) (addUnit 
 abbrev pub weekdayRelativeSteps : {A : Type 0} → Gathering A → ℕ → RelativeSpecifier → Unit → A
 weekdayRelativeSteps g w s u = cond (isWeek u) (g .start (InWeek s w)) (g .start Senseless)
 
--- "a weekday expression starts at today, and its duration parts are steps like any others"
-abbrev pub weekdaySteps : {A : Type 0} → Gathering A → ℕ → Duration → A
-weekdaySteps g w dur = g .add (addDuration g true (g .start (OnDate Today)) dur) (By (BackTo w))
+-- "a weekday expression starts at today, and its duration parts are steps like any others"; then the step to its weekday
+abbrev pub weekdaySteps : {A : Type 0} → Gathering A → Bool → Duration → Move → A
+weekdaySteps g back dur to = g .add (addDuration g back (g .start (OnDate Today)) dur) (By to)
 
 -- the steps of a date expression: "A date rule is one date of the reading with its own numbers, and holds no duration and no time"
 unfoldable pub exprSteps : {A : Type 0} → Gathering A → DateExpr → A
 exprSteps g (date d) = g .start (OnDate d)
 exprSteps g (dateRelative d s u) = dateRelativeSteps g d s u
-exprSteps g (weekdayExpressionBefore w dur) = weekdaySteps g w dur
+exprSteps g (weekdayExpressionBefore w dur) = weekdaySteps g true dur (BackTo w)
+exprSteps g (weekdayExpressionAfter w dur) = weekdaySteps g false dur (ForwardTo w)
 exprSteps g (dateExpressionAfter d dur) = addDuration g false (g .start (OnDate d)) dur
 exprSteps g (dateExpressionBefore d dur) = addDuration g true (g .start (OnDate d)) dur
 exprSteps g (before dur d) = addDuration g true (g .start (OnDate d)) dur

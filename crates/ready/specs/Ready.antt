@@ -4,6 +4,7 @@ use mathlib.Core.List.{List}
 use Rattle.refusals.specs.Answers.{Answer, given, refused, andThen, refusalOf}
 use Rattle.calendar.specs.declared.moments.Moment.{Moment}
 use Rattle.lexer.specs.Words.{Word}
+use Rattle.lexer.specs.declared.reading.Reading.{Reading}
 use Rattle.phrase.specs.Read.{readOf}
 use Rattle.answer.specs.Answer.{placed}
 use Rattle.steps.specs.Plans.{blankPlan, planOf}
@@ -17,9 +18,9 @@ use Rattle.ready.specs.declared.Ready.{Ready}
 abbrev pub ReadyPhrase : Type 0
 ReadyPhrase = Answer (List Step)
 
--- a phrase, with the words of a list: "Making ready refuses only 1 to 7, as reading does, with the same number, place and part."
-unfoldable pub readyOf : List Word → List ℕ → ReadyPhrase
-readyOf ws s = andThen (readOf ws s) (λ x. given (stepsOf (x .tree)))
+-- a phrase in one of the readings, with the words of a list: "Making ready refuses only 1 to 7, as reading does, with the same number, place and part."
+unfoldable pub readyOf : Reading → List Word → List ℕ → ReadyPhrase
+readyOf reading ws s = andThen (readOf reading ws s) (λ x. given (stepsOf (x .tree)))
 
 -- the steps in the code's struct, and none where the phrase is refused
 abbrev pub planIn : ReadyPhrase → Plan

@@ -1,4 +1,5 @@
 // Phrases made ready without a now.
+use lexer::reading::Reading;
 use phrase::read::read;
 use refusals::NONE;
 use refusals::Refusal;
@@ -18,11 +19,11 @@ pub struct Ready {
     pub refusal: Refusal,
 }
 
-// A phrase made ready: its steps, or what reading refuses.
-pub fn make_ready(phrase: &[u8]) -> Ready
-    ensures { λ r. ⌜ r ≡ readyAnswer (readyOf keywords (now (phrase .entry))) ⌝ }
+// A phrase made ready in one of the readings: its steps, or what reading refuses.
+pub fn make_ready(reading: Reading, phrase: &[u8]) -> Ready
+    ensures { λ r. ⌜ r ≡ readyAnswer (readyOf reading keywords (now (phrase .entry))) ⌝ }
 {
-    let x = read(phrase);
+    let x = read(reading, phrase);
     let refusal = x.refusal;
     if refusal.number == 0 {
         let chain = x.chain;

@@ -167,6 +167,10 @@ fn expr_plan(expr: Expr, parts: Parts, own: u8) -> Plan
             from_date(Date::Today, parts, own, true),
             Step::By(Move::BackTo(w)),
         ),
+        Expr::WeekdayExpressionAfter(w) => add(
+            from_date(Date::Today, parts, own, false),
+            Step::By(Move::ForwardTo(w)),
+        ),
         Expr::Before(d) => from_date(d, parts, own, true),
         Expr::After(d) => from_date(d, parts, own, false),
         Expr::Weekday(w) => single(Start::FromToday(w)),

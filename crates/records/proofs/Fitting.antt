@@ -12,7 +12,7 @@ use Rattle.dates.specs.declared.units.RelativeSpecifier.the-variants.{This, Nex
 use Rattle.steps.proofs.Small.{SmallStart, SmallStep}
 use Rattle.steps.specs.declared.plan.Start.{Start}
 use Rattle.steps.specs.declared.plan.Start.the-variants.{Now, Senseless, OnDate, InWeek, FromToday}
-use Rattle.steps.specs.declared.plan.Move.the-variants.{Minutes, Months, Years, BackTo}
+use Rattle.steps.specs.declared.plan.Move.the-variants.{Minutes, Months, Years, BackTo, ForwardTo}
 use Rattle.steps.specs.declared.plan.Step.{Step}
 use Rattle.steps.specs.declared.plan.Step.the-variants.{From, By, AtTime}
 use Rattle.records.specs.Words.{wide, wordsOf, startWords, dateWords, weekWords, timeWords}
@@ -63,4 +63,5 @@ in-bytes (By (Minutes back k)) h = omega arith
 in-bytes (By (Months back k)) h = omega arith
 in-bytes (By (Years back k)) h = omega arith
 in-bytes (By (BackTo w)) h = omega arith
+in-bytes (By (ForwardTo w)) h = omega arith
 in-bytes (AtTime t) h = time-fits t (h .numbers)

@@ -15,7 +15,7 @@ use Rattle.dates.specs.declared.units.RelativeSpecifier.the-variants.{This, Nex
 use Rattle.steps.specs.declared.plan.Start.{Start}
 use Rattle.steps.specs.declared.plan.Start.the-variants.{Now, Senseless, OnDate, InWeek, FromToday}
 use Rattle.steps.specs.declared.plan.Move.{Move}
-use Rattle.steps.specs.declared.plan.Move.the-variants.{Minutes, Months, Years, BackTo}
+use Rattle.steps.specs.declared.plan.Move.the-variants.{Minutes, Months, Years, BackTo, ForwardTo}
 use Rattle.steps.specs.declared.plan.Step.{Step}
 use Rattle.steps.specs.declared.plan.Step.the-variants.{From, By, AtTime}
 use Rattle.records.specs.Words.{dateWords, weekWords, startWords, moveWords, timeWords, wide, wordsOf, stepFrom}
@@ -72,6 +72,7 @@ of-move (Months true k) = (refl, refl, refl)
 of-move (Years false k) = (refl, refl, refl)
 of-move (Years true k) = (refl, refl, refl)
 of-move (BackTo w) = (refl, refl, refl)
+of-move (ForwardTo w) = (refl, refl, refl)
 
 of-step : (s : Step) → Numbers (wordsOf s) s
 of-step (From s) = of-start s

@@ -13,7 +13,7 @@ use Rattle.dates.specs.declared.units.RelativeSpecifier.the-variants.{This, Nex
 use Rattle.steps.specs.declared.plan.Start.{Start}
 use Rattle.steps.specs.declared.plan.Start.the-variants.{Now, Senseless, OnDate, InWeek, FromToday}
 use Rattle.steps.specs.declared.plan.Move.{Move}
-use Rattle.steps.specs.declared.plan.Move.the-variants.{Minutes, Months, Years, BackTo}
+use Rattle.steps.specs.declared.plan.Move.the-variants.{Minutes, Months, Years, BackTo, ForwardTo}
 use Rattle.steps.specs.declared.plan.Step.{Step}
 use Rattle.steps.specs.declared.plan.Step.the-variants.{From, By, AtTime}
 use Rattle.records.specs.declared.words.Words.{Words}
@@ -64,6 +64,7 @@ moveWords (Minutes back k) = words 6 (direction back) (k % wide) (k / wide) 0
 moveWords (Months back k) = words 7 (direction back) k 0 0
 moveWords (Years back k) = words 8 (direction back) k 0 0
 moveWords (BackTo w) = words 9 0 w 0 0
+moveWords (ForwardTo w) = words 11 0 w 0 0
 
 -- a time of day: now's, or stated, without a half of the day, am or pm
 abbrev pub timeWords : Time → Words
@@ -121,5 +122,6 @@ stepFrom w =
     ∷ row 8 (By (Years (eqb (w .form) 1) (w .a)))
     ∷ row 9 (By (BackTo (w .a)))
     ∷ row 10 (AtTime (timeFrom (w .form) (w .a) (w .b)))
+    ∷ row 11 (By (ForwardTo (w .a)))
     ∷ [])
     (From Now)

@@ -113,6 +113,7 @@ fn move_words(way: Move) -> Words
         Move::Months { back, count } => numbers(7, direction(back), count, 0, 0),
         Move::Years { back, count } => numbers(8, direction(back), count, 0, 0),
         Move::BackTo(w) => numbers(9, 0, w, 0, 0),
+        Move::ForwardTo(w) => numbers(11, 0, w, 0, 0),
     }
 }
 
@@ -190,6 +191,7 @@ pub(crate) fn step_from(w: Words) -> Step
         8 => Step::By(Move::Years { back, count: a }),
         9 => Step::By(Move::BackTo(a)),
         10 => Step::AtTime(time_from(form, a, b)),
+        11 => Step::By(Move::ForwardTo(a)),
         _ => Step::From(Start::Now),
     }
 }

@@ -1,4 +1,4 @@
--- The paper's table of refusal numbers, "tested in this order".
+-- The paper's table of refusal numbers, 1 to 13 "tested in this order".
 use Prim.Native.Nat.{ℕ}
 
 -- "phrase longer than 256 bytes"
@@ -56,6 +56,10 @@ NoLeapDay = 13
 -- "any other form or an impossible date, time or offset"; in writing "an offset out of range"
 abbrev pub NoStamp : ℕ
 NoStamp = 14
+
+-- "15 for any other reading number, before 1"
+abbrev pub NoReading : ℕ
+NoReading = 15
 
 -- "a buffer too short"
 abbrev pub NoRoom : ℕ

@@ -1,4 +1,4 @@
-// The paper's refusal numbers, in the order in which they are tested, under the names of include/fuzzy.h; and a refusal's place.
+// The paper's refusal numbers, 1 to 13 in the order in which they are tested, under the names of include/fuzzy.h; and a refusal's place.
 
 // A refusal: its number, its place in the phrase and the end of its part. Number 0: nothing is refused.
 pub struct Refusal {
@@ -55,6 +55,9 @@ pub const NO_LEAP_DAY: u8 = 13;
 
 // The text is no stamp: another form, or an impossible date, time or offset.
 pub const NO_STAMP: u8 = 14;
+
+// The reading that is asked for is neither 1 nor 2; tested before all the others.
+pub const NO_READING: u8 = 15;
 
 // The buffer is too short.
 pub const NO_ROOM: u8 = 17;

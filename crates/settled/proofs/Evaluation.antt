@@ -8,7 +8,7 @@ use Rattle.evaluation.proofs.expr.is_month_and_day.Reads as is-month-and-day'
 use Rattle.evaluation.proofs.chain.evaluate.Reads as evaluate'
 use Rattle.evaluation.proofs.time.time_at.Reads as time-at'
 use Rattle.evaluation.proofs.weekday.in_week.Reads as in-week'
-use Rattle.evaluation.proofs.weekday.from_today.Reads as from-today'
+use Rattle.evaluation.proofs.weekday.forward_to.Reads as forward-to'
 use Rattle.evaluation.proofs.weekday.back_to.Reads as back-to'
 
 pub date-at : Settled date-at'.Post
@@ -32,8 +32,8 @@ time-at = through time-at'.Post _ (λ κs. reached-one) (same time-at'.Post _ _ 
 pub in-week : Settled in-week'.Post
 in-week = through in-week'.Post _ (λ κs. reached-one) (same in-week'.Post _ _ (λ κs a z e p. p .0))
 
-pub from-today : Settled from-today'.Post
-from-today = through from-today'.Post _ (λ κs. reached-one) (same from-today'.Post _ _ (λ κs a z e p. p .0))
+pub forward-to : Settled forward-to'.Post
+forward-to = through forward-to'.Post _ (λ κs. reached-one) (same forward-to'.Post _ _ (λ κs a z e p. p .0))
 
 pub back-to : Settled back-to'.Post
 back-to = through back-to'.Post _ (λ κs. reached-one) (same back-to'.Post _ _ (λ κs a z e p. p .0))

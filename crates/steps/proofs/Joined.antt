@@ -14,7 +14,7 @@ use Rattle.calendar.proofs.Outcomes.{then-same, then-moment}
 use Rattle.steps.specs.Joining.{refuses, fixedOf, together, joinOf, joined, addStep, areApart, allApart}
 use Rattle.steps.specs.Running.{actOf, walkOf, isStart, isTimeStep, countOf, starts, times}
 use Rattle.steps.specs.declared.plan.Start.the-variants.{Now, Senseless, OnDate, InWeek, FromToday}
-use Rattle.steps.specs.declared.plan.Move.the-variants.{Minutes, Months, Years, BackTo}
+use Rattle.steps.specs.declared.plan.Move.the-variants.{Minutes, Months, Years, BackTo, ForwardTo}
 use Rattle.steps.specs.declared.plan.Step.{Step}
 use Rattle.steps.specs.declared.plan.Step.the-variants.{From, By, AtTime}
 use Rattle.steps.specs.declared.plan.Fixed.{Fixed}
@@ -41,6 +41,7 @@ behind-minutes false m (By (Minutes false k)) = lengths false m k refl refl refl
 behind-minutes back m (By (Months too k)) = apart refl
 behind-minutes back m (By (Years too k)) = apart refl
 behind-minutes back m (By (BackTo w)) = apart refl
+behind-minutes back m (By (ForwardTo w)) = apart refl
 behind-minutes back m (AtTime time) = apart refl
 
 pub meeting : (x s : Step) → Meeting x s
@@ -53,6 +54,7 @@ meeting (By (Minutes back m)) s = behind-minutes back m s
 meeting (By (Months back k)) s = apart refl
 meeting (By (Years back k)) s = apart refl
 meeting (By (BackTo w)) s = apart refl
+meeting (By (ForwardTo w)) s = apart refl
 meeting (AtTime time) s = apart refl
 
 -- of three steps the last two may be taken together

@@ -7,7 +7,7 @@ use Rattle.steps.specs.Joining.{joinOf, joined, addStep, minutesOf}
 use Rattle.steps.specs.declared.plan.Start.{Start}
 use Rattle.steps.specs.declared.plan.Start.the-variants.{Now, Senseless, OnDate, InWeek, FromToday}
 use Rattle.steps.specs.declared.plan.Move.{Move}
-use Rattle.steps.specs.declared.plan.Move.the-variants.{Minutes, Months, Years, BackTo}
+use Rattle.steps.specs.declared.plan.Move.the-variants.{Minutes, Months, Years, BackTo, ForwardTo}
 use Rattle.steps.specs.declared.plan.Step.{Step}
 use Rattle.steps.specs.declared.plan.Step.the-variants.{From, By, AtTime}
 use Rattle.steps.proofs.Joined.{minutes, Meeting, refusal, apart, lengths, meeting}
@@ -26,6 +26,7 @@ SmallMove (Minutes back k) = Unit
 SmallMove (Months back k) = Small k
 SmallMove (Years back k) = Small k
 SmallMove (BackTo w) = Small w
+SmallMove (ForwardTo w) = Small w
 
 -- of a step
 abbrev pub SmallNumbers : Step → Type 0

@@ -5,7 +5,7 @@ use mathlib.Core.List.{List, [], _∷_}
 use Rattle.steps.specs.declared.plan.Start.{Start}
 use Rattle.steps.specs.declared.plan.Start.the-variants.{Now, Senseless, OnDate, InWeek, FromToday}
 use Rattle.steps.specs.declared.plan.Move.{Move}
-use Rattle.steps.specs.declared.plan.Move.the-variants.{Minutes, Months, Years, BackTo}
+use Rattle.steps.specs.declared.plan.Move.the-variants.{Minutes, Months, Years, BackTo, ForwardTo}
 use Rattle.steps.specs.declared.plan.Step.{Step}
 use Rattle.steps.specs.declared.plan.Step.the-variants.{From, By, AtTime}
 use Rattle.steps.specs.declared.plan.Fixed.{Fixed}
@@ -33,6 +33,7 @@ lengthOf (Minutes back k) = Length back k
 lengthOf (Months back k) = Other
 lengthOf (Years back k) = Other
 lengthOf (BackTo w) = Other
+lengthOf (ForwardTo w) = Other
 
 -- and a step
 abbrev pub fixedOf : Step → Fixed

@@ -8,13 +8,13 @@ use Rattle.calendar.specs.Moments.{Outcome, moment, refused, isMoment, andThen,
 use Rattle.calendar.specs.declared.moments.Moment.{Moment}
 use Rattle.numbers.specs.Slices.{oneIf}
 use Rattle.refusals.specs.Table as refusal
-use Rattle.evaluation.specs.Weekdays.{inWeek, fromToday, backTo}
+use Rattle.evaluation.specs.Weekdays.{inWeek, forwardTo, backTo}
 use Rattle.evaluation.specs.Dates.{dateAt}
 use Rattle.evaluation.specs.Times.{timeAt}
 use Rattle.steps.specs.declared.plan.Start.{Start}
 use Rattle.steps.specs.declared.plan.Start.the-variants.{Now, Senseless, OnDate, InWeek, FromToday}
 use Rattle.steps.specs.declared.plan.Move.{Move}
-use Rattle.steps.specs.declared.plan.Move.the-variants.{Minutes, Months, Years, BackTo}
+use Rattle.steps.specs.declared.plan.Move.the-variants.{Minutes, Months, Years, BackTo, ForwardTo}
 use Rattle.steps.specs.declared.plan.Step.{Step}
 use Rattle.steps.specs.declared.plan.Step.the-variants.{From, By, AtTime}
 
@@ -24,14 +24,15 @@ startAt Now t = moment t
 startAt Senseless t = refused refusal.NoSense
 startAt (OnDate d) t = dateAt d t
 startAt (InWeek s w) t = inWeek s (w % 7) t
-startAt (FromToday w) t = fromToday (w % 7) t
+startAt (FromToday w) t = forwardTo (w % 7) t
 
--- "fixed length, months, years, back to a weekday", from t
+-- "fixed length, months, years, back to a weekday" or on to one, from t
 abbrev pub moveBy : Move → Moment → Outcome
 moveBy (Minutes back k) t = minutesStep back k t
 moveBy (Months back k) t = monthsStep back k t
 moveBy (Years back k) t = yearsStep back k t
 moveBy (BackTo w) t = backTo (w % 7) t
+moveBy (ForwardTo w) t = forwardTo (w % 7) t
 
 -- these, or the "time of day": a step from t, at the now n
 abbrev pub actOf : Step → Moment → Moment → Outcome

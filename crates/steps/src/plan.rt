@@ -22,6 +22,7 @@ pub enum Move {
     Months { back: bool, count: u32 },
     Years { back: bool, count: u32 },
     BackTo(u32),
+    ForwardTo(u32),
 }
 
 // One step: from a start, by a move, or to a time of day.
@@ -128,6 +129,7 @@ fn length_of(way: Move) -> Fixed
         Move::Months { back: _, count: _ } => Fixed::Other,
         Move::Years { back: _, count: _ } => Fixed::Other,
         Move::BackTo(_) => Fixed::Other,
+        Move::ForwardTo(_) => Fixed::Other,
     }
 }
 

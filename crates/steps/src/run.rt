@@ -7,7 +7,7 @@ use calendar::moments::Reached;
 use evaluation::date::date_at;
 use evaluation::time::time_at;
 use evaluation::weekday::back_to;
-use evaluation::weekday::from_today;
+use evaluation::weekday::forward_to;
 use evaluation::weekday::in_week;
 use refusals::NO_SENSE;
 ghost use mathlib.Core.Path.{_≡_};
@@ -26,7 +26,7 @@ fn start_at(start: Start, t: Moment) -> Reached
         Start::Senseless => Reached::Refused(NO_SENSE),
         Start::OnDate(date) => date_at(date, t),
         Start::InWeek(s, w) => in_week(s, w % 7, t),
-        Start::FromToday(w) => from_today(w % 7, t),
+        Start::FromToday(w) => forward_to(w % 7, t),
     }
 }
 
@@ -40,6 +40,7 @@ fn move_by(way: Move, t: Moment) -> Reached
         Move::Months { back, count } => t.months_step(back, count as u64),
         Move::Years { back, count } => t.years_step(back, count as u64),
         Move::BackTo(w) => back_to(w % 7, t),
+        Move::ForwardTo(w) => forward_to(w % 7, t),
     }
 }
 

@@ -177,6 +177,7 @@ fn open_expr(e: Expr) {
             write_unit(u);
         }
         Expr::WeekdayExpressionBefore(w) => on_weekday(b"WeekdayExpressionBefore(", w),
+        Expr::WeekdayExpressionAfter(w) => on_weekday(b"WeekdayExpressionAfter(", w),
         Expr::Before(_) => text(b"Before("),
         Expr::After(_) => text(b"After("),
         Expr::Weekday(w) => {

@@ -6,6 +6,7 @@ use bytes::scan;
 use calendar::fixed::moment_in;
 use calendar::moments::Moment;
 use calendar::moments::Reached;
+use lexer::reading::Reading;
 use phrase::read::offending;
 use ready::make_ready;
 use records::record::encode;
@@ -27,7 +28,7 @@ fn write_refusal(n: u8, place: usize, end: usize) {
 
 // The answer to a phrase at a now.
 fn write_answer(phrase: &[u8], t: Moment) {
-    match answer(phrase, t) {
+    match answer(Reading::First, phrase, t) {
         Answered::At(u) => moment(u),
         Answered::Refused(r) => write_refusal(r.number, r.place, r.end),
     }
@@ -58,7 +59,7 @@ fn write_run(plan: Plan, t: Moment) {
 
 // The phrase made ready, run at a now, and the count of its steps; or the refusal, no step and the offending part.
 fn write_ready(phrase: &[u8], t: Moment) {
-    let made = make_ready(phrase);
+    let made = make_ready(Reading::First, phrase);
     let refusal = made.refusal;
     if refusal.number == 0 {
         let plan = made.plan;
@@ -66,7 +67,7 @@ fn write_ready(phrase: &[u8], t: Moment) {
     } else {
         write_refusal(refusal.number, refusal.place, refusal.end);
         text(b"|0|");
-        text(offending(phrase));
+        text(offending(Reading::First, phrase));
     }
 }
 

@@ -15,7 +15,7 @@ use Rattle.lexer.specs.Lex.{lexed}
 use Rattle.refusals.specs.Table as refusal
 use Rattle.calendar.specs.declared.moments.Moment.{Moment}
 use Rattle.phrase.specs.Read.{readOf}
-use Rattle.text.specs.Answers.{refuse, answerOf}
+use Rattle.text.specs.Answers.{refuse, First, answerOf}
 use Rattle.text.specs.Nows.{nowForm, noNow, nowOf}
 use Rattle.text.specs.Lines.{feed, wholeFrom, restFrom, lastOf}
 use Rattle.text.specs.Output.{kept, lineText, afterLine, linesText, afterLines}
@@ -45,7 +45,7 @@ alike-kept l m e = go (leb (length l) 256) refl
         long many (omega arith)
 
 -- "phrase longer than 256 bytes" is refusal 1 at every now
-pub too-long : (l : List ℕ) (n : Moment) → 256 < length l → answerOf keywords l n ≡ refuse refusal.TooLong 0 0
+pub too-long : (l : List ℕ) (n : Moment) → 256 < length l → answerOf First keywords l n ≡ refuse refusal.TooLong 0 0
 unfolding answerOf readOf lexed
 too-long l n h = rw (lt-leb (length l) 256 h)
 

@@ -12,7 +12,7 @@ use Rattle.digits.proofs.Stores.{sets-append}
 use Rattle.digits.proofs.Widths.{digits-length, width-limit}
 use Rattle.lexer.specs.Keywords.{keywords}
 use Rattle.calendar.specs.declared.moments.Moment.{Moment}
-use Rattle.text.specs.Answers.{Answer, given, refused, answerOf}
+use Rattle.text.specs.Answers.{Answer, given, refused, First, answerOf}
 use Rattle.text.specs.Texts.{refusalText, textOf, fitting}
 use Rattle.text.specs.Output.{answerLine}
 
@@ -31,7 +31,7 @@ text-limit (refused r) = omega (arith, refusal-length (r .number) (r .place), wi
 
 -- nor its line
 pub answer-limit : (n : Moment) (p : List ℕ) → length (answerLine n p) ≤ 53
-answer-limit n p = simp length-append (omega (arith, text-limit (answerOf keywords p n)))
+answer-limit n p = simp length-append (omega (arith, text-limit (answerOf First keywords p n)))
 
 -- a refusal, written part by part
 pub refusal-stored :

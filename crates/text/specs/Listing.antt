@@ -10,7 +10,7 @@ use Rattle.lexer.specs.Classes.{classOf, markOf}
 use Rattle.lexer.specs.Lex.{wordAt, tokenAt, lexed}
 use Rattle.phrase.specs.Read.{readOf}
 use Rattle.calendar.specs.declared.moments.Moment.{Moment}
-use Rattle.text.specs.Answers.{Answer, given, refuse, momentOf, answerOf, starred, starred-as-listed}
+use Rattle.text.specs.Answers.{Answer, given, refuse, momentOf, First, answerOf, starred, starred-as-listed}
 use Rattle.text.specs.Nows.{nowOf}
 use Rattle.text.specs.Lines.{feed}
 use Rattle.text.specs.Texts.{textOf}
@@ -26,20 +26,20 @@ phrases = bytesOf "next friday" ∷ bytesOf "forty days ago" ∷ bytesOf "5/2" �
 -- row i of the starred table
 starred-row :
     (i : ℕ) →
-    getD (map (λ c. answerOf keywords (c .phrase) (c .from)) starred) i (refuse 0 0 0)
+    getD (map (λ c. answerOf First keywords (c .phrase) (c .from)) starred) i (refuse 0 0 0)
     ≡ getD (map (λ c. c .answer) starred) i (refuse 0 0 0)
-starred-row i = ap (λ (l : List (Answer Moment)). getD l i (refuse 0 0 0)) starred-as-listed
+starred-row i = ap (λ (l : List (Answer Moment)). getD l i (refuse 0 0 0)) (starred-as-listed .0)
 
-next-friday : answerOf keywords (bytesOf "next friday") A ≡ given (momentOf 2026 2 20 9 30 15)
+next-friday : answerOf First keywords (bytesOf "next friday") A ≡ given (momentOf 2026 2 20 9 30 15)
 unfolding starred
 next-friday = starred-row 1
 
 -- "forty" is no word of the Rust's
-forty-days-ago : answerOf keywords (bytesOf "forty days ago") A ≡ refuse 2 0 5
+forty-days-ago : answerOf First keywords (bytesOf "forty days ago") A ≡ refuse 2 0 5
 unfolding answerOf readOf lexed tokenAt wordAt classOf markOf keywords
 forty-days-ago = refl
 
-five-two : answerOf keywords (bytesOf "5/2") A ≡ refuse 7 1 3
+five-two : answerOf First keywords (bytesOf "5/2") A ≡ refuse 7 1 3
 unfolding starred
 five-two = starred-row 6
 
@@ -54,8 +54,8 @@ first-line = refl
 
 answered : answerLines A phrases ≡ answers (given (momentOf 2026 2 20 9 30 15)) (refuse 2 0 5) (refuse 7 1 3)
 answered =
-    ap (λ (x : Answer Moment). answers x (answerOf keywords (bytesOf "forty days ago") A) (answerOf keywords (bytesOf "5/2") A)) next-friday
-    ∙ ap (λ (y : Answer Moment). answers (given (momentOf 2026 2 20 9 30 15)) y (answerOf keywords (bytesOf "5/2") A)) forty-days-ago
+    ap (λ (x : Answer Moment). answers x (answerOf First keywords (bytesOf "forty days ago") A) (answerOf First keywords (bytesOf "5/2") A)) next-friday
+    ∙ ap (λ (y : Answer Moment). answers (given (momentOf 2026 2 20 9 30 15)) y (answerOf First keywords (bytesOf "5/2") A)) forty-days-ago
     ∙ ap (λ (z : Answer Moment). answers (given (momentOf 2026 2 20 9 30 15)) (refuse 2 0 5) z) five-two
 
 spelled :

@@ -5,7 +5,7 @@ use mathlib.Core.List.{List, [], _∷_, _++_}
 use lib.ListN.{length, take, drop}
 use Rattle.lexer.specs.Keywords.{keywords}
 use Rattle.calendar.specs.declared.moments.Moment.{Moment}
-use Rattle.text.specs.Answers.{answerOf}
+use Rattle.text.specs.Answers.{First, answerOf}
 use Rattle.text.specs.Nows.{nowOf}
 use Rattle.text.specs.Lines.{feed, wholeOf, restOf, lastOf, linesOf}
 use Rattle.text.specs.Texts.{textOf}
@@ -14,9 +14,9 @@ use Rattle.text.specs.declared.stream.Known.the-variants.{Nothing, Now}
 use Rattle.text.specs.declared.stream.Passed.{Passed}
 use Rattle.text.specs.declared.stream.Piece.{Piece}
 
--- the answer to a phrase at a now, on a line of its own
+-- the answer to a phrase at a now in the first reading, on a line of its own
 abbrev pub answerLine : Moment → List ℕ → List ℕ
-answerLine n p = textOf (answerOf keywords p n) ++ (feed ∷ [])
+answerLine n p = textOf (answerOf First keywords p n) ++ (feed ∷ [])
 
 -- an answer for each phrase
 abbrev pub answerLines : Moment → List (List ℕ) → List ℕ

@@ -6,6 +6,7 @@ use calendar::moments::Moment;
 use digits::digit::width;
 use digits::put::put_bytes;
 use digits::put::put_number;
+use lexer::reading::Reading;
 ghost use mathlib.Core.Path.{_≡_};
 ghost use Prim.Native.Nat.{_+_, _≤_};
 ghost use lib.ListN.{length};
@@ -57,12 +58,12 @@ fn write_answer(a: Answered, out: &mut [u8]) -> usize
     }
 }
 
-// The answer to a phrase at a now, on a line of its own, at the front of a lent buffer; the count.
+// The answer to a phrase at a now in the first reading, on a line of its own, at the front of a lent buffer; the count.
 pub(crate) fn write_line(phrase: &[u8], t: Moment, out: &mut [u8]) -> usize
     requires { ⌜ 53 ≤ length (now out) ⌝ }
     ensures { λ r. ⌜ Written (answerLine t (now (phrase .entry))) r (now (out .entry)) (now (out .exit)) ⌝ }
 {
-    let a = answer(phrase, t);
+    let a = answer(Reading::First, phrase, t);
     let n = write_answer(a, out);
     out[n] = b'\n';
     n + 1

@@ -11,8 +11,9 @@ use Rattle.answer.proofs.answer.Statement.{statement}
 use Rattle.answer.proofs.answer.Tie as tie
 
 -- the phrase was read
-read-of : (c : tie.Then1) → let read = c .before .before .before in WasRead (now (read .before .before .args .phrase)) (read .read .result)
-read-of c = was-read _ (c .before .before .before .read .ensures) (c .if1 .taken)
+read-of : (c : tie.Then1) → let read = c .before .before .before in
+    let args = read .before .before .args in WasRead (args .reading) (now (args .phrase)) (read .read .result)
+read-of c = was-read _ _ (c .before .before .before .read .ensures) (c .if1 .taken)
 
 read-requires : tie.Need-read-requires
 read-requires c κs = search needs
@@ -35,7 +36,7 @@ returns c =
     let read = read-of (valid .before) in
     c .place .ensures ∙ ap placed (c .before .evaluate .ensures .0)
     ∙ ap (λ (x : DateTime). placed (evaluate x (args .at))) (read .stands)
-    ∙ sym (at-now (now (args .phrase)) (read .is) (args .at) (sym (valid .valid .ensures) ∙ c .before .before .before .if2 .taken))
+    ∙ sym (at-now (args .reading) (now (args .phrase)) (read .is) (args .at) (sym (valid .valid .ensures) ∙ c .before .before .before .if2 .taken))
 
 place-requires-2 : tie.Need-place-requires-2
 place-requires-2 c κs = search needs
@@ -45,13 +46,13 @@ returns-2 c =
     let valid = c .before .before in
     let args = valid .before .before .before .before .before .before .args in
     let none = sym (valid .valid .ensures) ∙ c .before .if2 .left in
-    c .place2 .ensures ∙ sym (at-no-now (now (args .phrase)) (read-of (valid .before) .is) (args .at) none)
+    c .place2 .ensures ∙ sym (at-no-now (args .reading) (now (args .phrase)) (read-of (valid .before) .is) (args .at) none)
 
 returns-3 : tie.Need-returns-3
 returns-3 c =
     let read = c .before .before .before in
     let args = read .before .before .args in
-    sym (refused-reading (now (args .phrase)) (was-refused _ (read .read .ensures) (c .if1 .left)) (args .at))
+    sym (refused-reading (args .reading) (now (args .phrase)) (was-refused _ _ (read .read .ensures) (c .if1 .left)) (args .at))
 
 pub answer-spec : {M : Type 1} → statement M
 answer-spec =

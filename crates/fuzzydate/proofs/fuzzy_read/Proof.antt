@@ -1,25 +1,49 @@
 use native.Mathlib.Omega.{arith}
 use mathlib.Core.Path.{_≡_, ap, sym, _∙_}
 use denote.Ref.{now}
-use Rattle.lexer.specs.Keywords.{keywords}
 use Rattle.refusals.specs.Answers.{Answer}
 use Rattle.refusals.proofs.Holds.{refusal-holds}
 use Rattle.calendar.specs.Moments.{momentOf}
 use Rattle.calendar.specs.declared.moments.Moment.{Moment}
-use Rattle.answer.specs.Answer.{answerFrom, answerOf}
+use Rattle.answer.specs.Answer.{answerFrom}
 use Rattle.answer.specs.declared.Answered.{Answered}
-use Rattle.answer.proofs.PhraseAtNow.{settled}
+use Rattle.fuzzydate.specs.Called.{answerIn}
+use Rattle.fuzzydate.proofs.Readings.{settled-in}
 use borrow.Author.Needs.{needs}
 use Rattle.fuzzydate.proofs.fuzzy_read.Statement.{statement}
 use Rattle.fuzzydate.proofs.fuzzy_read.Tie as tie
 
--- the phrase's answer at the now of six numbers
+-- the now of six numbers
+abbrev nowOf : tie.Start → Moment
+nowOf c = let a = c .args in momentOf (a .year) (a .month) (a .day) (a .hour) (a .minute) (a .second)
+
+-- the phrase's answer at it
 abbrev answerAt : tie.Start → Answer Moment
-answerAt c = let a = c .args in answerOf keywords (now (a .phrase)) (momentOf (a .year) (a .month) (a .day) (a .hour) (a .minute) (a .second))
+answerAt c = answerIn (c .args .reading) (now (c .args .phrase)) (nowOf c)
 
 -- it is what the code's answer stands for
-stands : (c : tie.After-answer) {r : Answered} → c .answer .result ≡ r → answerAt (c .before .before) ≡ answerFrom r
-stands c e = sym (c .answer .ensures) ∙ ap answerFrom e
+stands : (c : tie.After-answer) {r : Answered} → c .answer .result ≡ r → answerAt (c .before .before .before .before .before .before) ≡ answerFrom r
+stands c e =
+    rw (← (c .before .before .before .before .choose .ensures), c .before .before .chosen .given .1)
+    (sym (c .answer .ensures) ∙ ap answerFrom e)
+
+choose-requires : tie.Need-choose-requires
+choose-requires c κs = search needs
+
+enum-known-chosen : tie.Need-enum-known-chosen
+enum-known-chosen c = search needs
+
+enum-told : tie.Need-enum-told
+enum-told c = search needs
+
+cast-result : tie.Need-cast-result
+cast-result c = search needs
+
+-- a number that is no reading
+returns : tie.Need-returns
+returns c =
+    let choose = c .before .before .choose in
+    (rw (← (choose .ensures), c .enum-told .given .1), rw (← (choose .ensures), c .enum-told .given .1) (search needs))
 
 answer-requires : tie.Need-answer-requires
 answer-requires c κs = search needs
@@ -32,16 +56,31 @@ enum-known-refusal c = search needs
 
 code-requires : tie.Need-code-requires
 code-requires c κs =
-    let part = refusal-holds (settled _ _) (stands (c .before .before .before) (c .before .refusal .given .1)) in
+    let start = c .before .before .before .before .before .before .before .before .before in
+    let bounds = settled-in (start .args .reading) (now (start .args .phrase)) (nowOf start) in
+    let part = refusal-holds bounds (stands (c .before .before .before) (c .before .refusal .given .1)) in
     omega arith
 
-returns : tie.Need-returns
-returns c = let same = stands (c .before .before .before .before) (c .before .before .t .given .1) in (rw same, rw same (search needs))
-
 returns-2 : tie.Need-returns-2
-returns-2 c =
+returns-2 c = let same = stands (c .before .before .before .before) (c .before .before .t .given .1) in (rw same, rw same (search needs))
+
+returns-3 : tie.Need-returns-3
+returns-3 c =
     let same = stands (c .before .before .before .before) (c .before .before .refusal .given .1) in
     (rw same (c .code .ensures), rw same (search needs))
 
 pub fuzzy-read-spec : {M : Type 1} → statement M
-fuzzy-read-spec = tie.close (tie.spec answer-requires enum-known-t enum-known-refusal code-requires returns returns-2)
+fuzzy-read-spec =
+    tie.close
+    (tie.spec
+    choose-requires
+    enum-known-chosen
+    enum-told
+    cast-result
+    returns
+    answer-requires
+    enum-known-t
+    enum-known-refusal
+    code-requires
+    returns-2
+    returns-3)

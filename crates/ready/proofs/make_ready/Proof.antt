@@ -7,8 +7,9 @@ use Rattle.ready.proofs.make_ready.Statement.{statement}
 use Rattle.ready.proofs.make_ready.Tie as tie
 
 -- the phrase was read
-read-of : (c : tie.Then1) → let read = c .before .before .before in WasRead (now (read .before .before .args .phrase)) (read .read .result)
-read-of c = was-read _ (c .before .before .before .read .ensures) (c .if1 .taken)
+read-of : (c : tie.Then1) → let read = c .before .before .before in
+    let args = read .before .before .args in WasRead (args .reading) (now (args .phrase)) (read .read .result)
+read-of c = was-read _ _ (c .before .before .before .read .ensures) (c .if1 .taken)
 
 read-requires : tie.Need-read-requires
 read-requires c κs = search needs
@@ -29,7 +30,7 @@ returns-2 : tie.Need-returns-2
 unfolding readyOf
 returns-2 c =
     let read = c .before .before .before .before in
-    rw (c .none .ensures, was-refused _ (read .read .ensures) (c .before .if1 .left))
+    rw (c .none .ensures, was-refused _ _ (read .read .ensures) (c .before .if1 .left))
 
 pub make-ready-spec : {M : Type 1} → statement M
 make-ready-spec =

@@ -65,32 +65,38 @@ weekday-relative-requires c κs = search needs
 enum-known-expr-8 : tie.Need-enum-known-expr-8
 enum-known-expr-8 c = search needs
 
-weekday-before-requires : tie.Need-weekday-before-requires
-weekday-before-requires c κs = own (c .before .before .before) (c .before .expr8 .given .1) refl (c .before .before .before .pre .0)
+to-weekday-requires : tie.Need-to-weekday-requires
+to-weekday-requires c κs = own (c .before .before .before) (c .before .expr8 .given .1) refl (c .before .before .before .pre .0)
 
 enum-known-expr-9 : tie.Need-enum-known-expr-9
 enum-known-expr-9 c = search needs
+
+to-weekday-requires-2 : tie.Need-to-weekday-requires-2
+to-weekday-requires-2 c κs = own (c .before .before .before) (c .before .expr9 .given .1) refl (c .before .before .before .pre .0)
+
+enum-known-expr-10 : tie.Need-enum-known-expr-10
+enum-known-expr-10 c = search needs
 
 date-at-requires-4 : tie.Need-date-at-requires-4
 date-at-requires-4 c κs = search needs
 
 from-date-requires-3 : tie.Need-from-date-requires-3
-from-date-requires-3 c κs = own (c .before .before .before .before) (c .before .before .expr9 .given .1) refl (c .date-at4 .ensures .1)
+from-date-requires-3 c κs = own (c .before .before .before .before) (c .before .before .expr10 .given .1) refl (c .date-at4 .ensures .1)
 
-enum-known-expr-10 : tie.Need-enum-known-expr-10
-enum-known-expr-10 c = search needs
+enum-known-expr-11 : tie.Need-enum-known-expr-11
+enum-known-expr-11 c = search needs
 
 date-at-requires-5 : tie.Need-date-at-requires-5
 date-at-requires-5 c κs = search needs
 
 from-date-requires-4 : tie.Need-from-date-requires-4
-from-date-requires-4 c κs = own (c .before .before .before .before) (c .before .before .expr10 .given .1) refl (c .date-at5 .ensures .1)
+from-date-requires-4 c κs = own (c .before .before .before .before) (c .before .before .expr11 .given .1) refl (c .date-at5 .ensures .1)
 
-enum-known-expr-11 : tie.Need-enum-known-expr-11
-enum-known-expr-11 c = search needs
+enum-known-expr-12 : tie.Need-enum-known-expr-12
+enum-known-expr-12 c = search needs
 
-from-today-requires : tie.Need-from-today-requires
-from-today-requires c κs = search needs
+forward-to-requires : tie.Need-forward-to-requires
+forward-to-requires c κs = search needs
 
 enum-told : tie.Need-enum-told
 enum-told c = search needs
@@ -117,19 +123,22 @@ returns-7 : tie.Need-returns-7
 returns-7 c = rw (c .before .before .expr7 .given .1) (c .weekday-relative .ensures)
 
 returns-8 : tie.Need-returns-8
-returns-8 c = rw (c .before .before .expr8 .given .1) (c .weekday-before .ensures)
+returns-8 c = rw (c .before .before .expr8 .given .1) (c .to-weekday .ensures)
 
 returns-9 : tie.Need-returns-9
-returns-9 c = rw (c .before .before .before .expr9 .given .1, ← (c .before .date-at4 .ensures .0)) (c .from-date3 .ensures)
+returns-9 c = rw (c .before .before .expr9 .given .1) (c .to-weekday2 .ensures)
 
 returns-10 : tie.Need-returns-10
-returns-10 c = rw (c .before .before .before .expr10 .given .1, ← (c .before .date-at5 .ensures .0)) (c .from-date4 .ensures)
+returns-10 c = rw (c .before .before .before .expr10 .given .1, ← (c .before .date-at4 .ensures .0)) (c .from-date3 .ensures)
 
 returns-11 : tie.Need-returns-11
-returns-11 c = rw (c .before .before .expr11 .given .1) (c .from-today .ensures)
+returns-11 c = rw (c .before .before .before .expr11 .given .1, ← (c .before .date-at5 .ensures .0)) (c .from-date4 .ensures)
 
 returns-12 : tie.Need-returns-12
-returns-12 c = rw (c .enum-told .given .1) (refl, moment-valid (c .before .before .pre .0))
+returns-12 c = rw (c .before .before .expr12 .given .1) (c .forward-to .ensures)
+
+returns-13 : tie.Need-returns-13
+returns-13 c = rw (c .enum-told .given .1) (refl, moment-valid (c .before .before .pre .0))
 
 pub expr-at-spec : {M : Type 1} → statement M
 expr-at-spec =
@@ -152,15 +161,17 @@ expr-at-spec =
     enum-known-expr-7
     weekday-relative-requires
     enum-known-expr-8
-    weekday-before-requires
+    to-weekday-requires
     enum-known-expr-9
+    to-weekday-requires-2
+    enum-known-expr-10
     date-at-requires-4
     from-date-requires-3
-    enum-known-expr-10
+    enum-known-expr-11
     date-at-requires-5
     from-date-requires-4
-    enum-known-expr-11
-    from-today-requires
+    enum-known-expr-12
+    forward-to-requires
     enum-told
     returns
     returns-2
@@ -173,4 +184,5 @@ expr-at-spec =
     returns-9
     returns-10
     returns-11
-    returns-12)
+    returns-12
+    returns-13)

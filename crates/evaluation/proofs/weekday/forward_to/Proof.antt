@@ -1,33 +1,27 @@
-use Prim.Native.Nat.{_+_, _-_, _%_, _≤_}
-use native.Mathlib.Omega.{arith}
+use mathlib.Core.Path.{_∙_}
+use Rattle.evaluation.proofs.Days.{that-day, way-on}
+use borrow.Author.Needs.{needs}
 use Rattle.evaluation.proofs.weekday.forward_to.Statement.{statement}
 use Rattle.evaluation.proofs.weekday.forward_to.Tie as tie
 
-abbrev Inv-loop : tie.InvT-loop
-Inv-loop n w d₀ d = (n ≤ d) × (d ≤ n + (7 + w - n % 7) % 7)
+day-number-requires : tie.Need-day-number-requires
+day-number-requires c κs = search needs
 
-abbrev μ-loop : tie.MeasureT-loop
-μ-loop n w d₀ d = n + (7 + w - n % 7) % 7 - d
+add-forward-from : tie.Need-add-forward-from
+add-forward-from c = search needs
 
-loop-holds : tie.Need-loop-holds Inv-loop μ-loop
-loop-holds c = omega arith
+forward-from-requires : tie.Need-forward-from-requires
+forward-from-requires c κs = search needs
 
-weekday-of-requires : tie.Need-weekday-of-requires Inv-loop μ-loop
-weekday-of-requires c κs = omega arith
+on-counted-requires : tie.Need-on-counted-requires
+on-counted-requires c κs = search needs
 
-add-d : tie.Need-add-d Inv-loop μ-loop
-add-d c = omega arith
-
-loop-less : tie.Need-loop-less Inv-loop μ-loop
-loop-less c = omega arith
-
-loop-again : tie.Need-loop-again Inv-loop μ-loop
-loop-again c = omega arith
-
-returns : tie.Need-returns Inv-loop μ-loop
-returns c = omega arith
+returns : tie.Need-returns
+returns c =
+    let way = rw (c .before .before .day-number .ensures .0) at (c .before .forward-from .ensures) in
+    (c .on-counted .ensures .0 ∙ that-day _ _ _ _ (way-on _ _ _ way), c .on-counted .ensures .1)
 
 pub forward-to-spec : {M : Type 1} → statement M
 forward-to-spec =
     tie.close
-    (tie.spec Inv-loop μ-loop loop-holds weekday-of-requires add-d loop-less loop-again returns)
+    (tie.spec day-number-requires add-forward-from forward-from-requires on-counted-requires returns)

@@ -17,8 +17,8 @@ enum-told c = search needs
 next-week-requires : tie.Need-next-week-requires
 next-week-requires c κs = search needs
 
-forward-to-requires : tie.Need-forward-to-requires
-forward-to-requires c κs = search needs
+forward-from-requires : tie.Need-forward-from-requires
+forward-from-requires c κs = search needs
 
 on-counted-requires : tie.Need-on-counted-requires
 on-counted-requires c κs = search needs
@@ -41,11 +41,11 @@ enum-told-3 c = search needs
 week-before-requires-2 : tie.Need-week-before-requires-2
 week-before-requires-2 c κs = search needs
 
-add-forward-to : tie.Need-add-forward-to
-add-forward-to c = search needs
+add-forward-from : tie.Need-add-forward-from
+add-forward-from c = search needs
 
-forward-to-requires-2 : tie.Need-forward-to-requires-2
-forward-to-requires-2 c κs = search needs
+forward-from-requires-2 : tie.Need-forward-from-requires-2
+forward-from-requires-2 c κs = search needs
 
 on-counted-requires-3 : tie.Need-on-counted-requires-3
 on-counted-requires-3 c κs = search needs
@@ -73,7 +73,7 @@ in-week-spec =
     add-today
     enum-told
     next-week-requires
-    forward-to-requires
+    forward-from-requires
     on-counted-requires
     enum-told-2
     week-before-requires
@@ -81,8 +81,8 @@ in-week-spec =
     on-counted-requires-2
     enum-told-3
     week-before-requires-2
-    add-forward-to
-    forward-to-requires-2
+    add-forward-from
+    forward-from-requires-2
     on-counted-requires-3
     returns
     returns-2

@@ -32,7 +32,7 @@ enum-told-2 c = search needs
 returns : tie.Need-returns
 unfolding dateExprOf
 returns c =
-    expr-promised (now (c .before .before .before .before .before .before .args .l)) (rw (
+    expr-promised (c .before .before .before .before .before .before .args .reading) (now (c .before .before .before .before .before .before .args .l)) (rw (
       ← (c .before .before .before .before .read-date .ensures .0),
       c .before .before .d .given .1,
     ) (c .read-tail .ensures))
@@ -40,7 +40,7 @@ returns c =
 returns-2 : tie.Need-returns-2
 unfolding dateExprOf
 returns-2 c =
-    expr-promised (now (c .before .before .before .before .before .args .l)) (rw (
+    expr-promised (c .before .before .before .before .before .args .reading) (now (c .before .before .before .before .before .args .l)) (rw (
       ← (c .before .before .before .read-date .ensures .0),
       c .before .enum-told .given .1,
     ) (c .read-undated .ensures))
@@ -48,7 +48,7 @@ returns-2 c =
 returns-3 : tie.Need-returns-3
 unfolding dateExprOf
 returns-3 c =
-    expr-promised (now (c .before .before .before .before .args .l)) (rw (
+    expr-promised (c .before .before .before .before .args .reading) (now (c .before .before .before .before .args .l)) (rw (
       ← (c .before .before .read-date .ensures .0),
       c .enum-told2 .given .1,
     ))

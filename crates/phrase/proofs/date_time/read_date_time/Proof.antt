@@ -9,13 +9,13 @@ use Rattle.phrase.proofs.date_time.read_date_time.Statement.{statement}
 use Rattle.phrase.proofs.date_time.read_date_time.Tie as tie
 
 abbrev Inv-loop : tie.InvT-loop
-Inv-loop l at₀ m₀ at m = Turning l at m
+Inv-loop reading l at₀ m₀ at m = Turning reading l at m
 
 abbrev μ-loop : tie.MeasureT-loop
-μ-loop l at₀ m₀ at m = length l - m
+μ-loop reading l at₀ m₀ at m = length l - m
 
 loop-holds : tie.Need-loop-holds Inv-loop μ-loop
-loop-holds c = unlinked (now (c .before .args .l))
+loop-holds c = unlinked (c .before .args .reading) (now (c .before .args .l))
 
 rest-requires : tie.Need-rest-requires Inv-loop μ-loop
 rest-requires c κs = search needs
@@ -26,8 +26,8 @@ read-turn-requires c κs = search needs
 enum-known-turn : tie.Need-enum-known-turn Inv-loop μ-loop
 enum-known-turn c = search needs
 
-add-t12 : tie.Need-add-t12 Inv-loop μ-loop
-add-t12 c =
+add-t13 : tie.Need-add-t13 Inv-loop μ-loop
+add-t13 c =
     let d = c .before .before .before in
     let said = turn-learnt (d .before .before .loop .inv) (d .before .rest .ensures .0) (d .read-turn .ensures) (c .before .turn .given .1) in
     let most = said .1 in omega arith
@@ -40,14 +40,14 @@ returns c =
 enum-known-turn-2 : tie.Need-enum-known-turn-2 Inv-loop μ-loop
 enum-known-turn-2 c = search needs
 
-add-t14 : tie.Need-add-t14 Inv-loop μ-loop
-add-t14 c =
+add-t15 : tie.Need-add-t15 Inv-loop μ-loop
+add-t15 c =
     let d = c .before .before .before in
     let said = turn-learnt (d .before .before .loop .inv) (d .before .rest .ensures .0) (d .read-turn .ensures) (c .before .turn2 .given .1) in
     let most = said .1 in omega arith
 
-add-t18 : tie.Need-add-t18 Inv-loop μ-loop
-add-t18 c =
+add-t19 : tie.Need-add-t19 Inv-loop μ-loop
+add-t19 c =
     let d = c .before .before .before in
     let said = turn-learnt (d .before .before .loop .inv) (d .before .rest .ensures .0) (d .read-turn .ensures) (c .before .turn2 .given .1) in
     let more = said .2 in omega arith
@@ -107,11 +107,11 @@ read-date-time-spec =
     rest-requires
     read-turn-requires
     enum-known-turn
-    add-t12
+    add-t13
     returns
     enum-known-turn-2
-    add-t14
-    add-t18
+    add-t15
+    add-t19
     returns-2
     enum-known-turn-3
     add-at

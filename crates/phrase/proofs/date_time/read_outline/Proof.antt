@@ -17,7 +17,7 @@ returns c =
     let args = c .before .before .before .args in
     let l = now (args .l) in
     let read = c .before .read-date-time .ensures in
-    rw (kept-none (dateTimeOf l) (args .n) (rw (counted l (dateTimeOf l) read) at (c .match .keys2))) read
+    rw (kept-none (dateTimeOf (args .reading) l) (args .n) (rw (counted l (dateTimeOf (args .reading) l) read) at (c .match .keys2))) read
 
 ended-requires : tie.Need-ended-requires
 ended-requires c κs = search needs
@@ -28,7 +28,7 @@ returns-2 c =
     let l = now (args .l) in
     let read = c .before .before .before .before .before .read-date-time .ensures in
     let is = c .before .before .before .taken .given .1 in
-    c .ended .ensures ∙ kept-left l (dateTimeOf l) (args .n) (sym (counted l (dateTimeOf l) read) ∙ is) (c .before .if1 .taken)
+    c .ended .ensures ∙ kept-left l (dateTimeOf (args .reading) l) (args .n) (sym (counted l (dateTimeOf (args .reading) l) read) ∙ is) (c .before .if1 .taken)
 
 returns-3 : tie.Need-returns-3
 returns-3 c =
@@ -36,7 +36,7 @@ returns-3 c =
     let l = now (args .l) in
     let read = c .before .before .before .before .read-date-time .ensures in
     let is = c .before .before .taken .given .1 in
-    rw (kept-all (dateTimeOf l) (args .n) (sym (counted l (dateTimeOf l) read) ∙ is) (c .if1 .left)) read
+    rw (kept-all (dateTimeOf (args .reading) l) (args .n) (sym (counted l (dateTimeOf (args .reading) l) read) ∙ is) (c .if1 .left)) read
 
 pub read-outline-spec : {M : Type 1} → statement M
 read-outline-spec =

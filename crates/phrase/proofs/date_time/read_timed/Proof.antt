@@ -44,13 +44,13 @@ read-expr-requires c κs = search needs
 enum-known-e : tie.Need-enum-known-e
 enum-known-e c = search needs
 
-add-t14 : tie.Need-add-t14
-add-t14 c =
+add-t15 : tie.Need-add-t15
+add-t15 c =
     let b = (rw (c .before .e .given .1) at (c .before .before .before .read-expr .ensures .1)) .bounds in
     omega arith
 
-add-t15 : tie.Need-add-t15
-add-t15 c =
+add-t16 : tie.Need-add-t16
+add-t16 c =
     let b = (rw (c .before .e .given .1) at (c .before .before .before .read-expr .ensures .1)) .bounds in
     omega arith
 
@@ -65,8 +65,8 @@ returns-2 c =
     let d = c .before .before .before in
     let read-time = d .before .before .before .before .before .before .read-time in
     let comma = d .before .before .take-comma-or in
-    let l = now (d .before .before .before .before .before .before .before .before .args .l) in
-    timed-turn l (read-time .ensures .0) (d .before .before .before .before .a .given .1) (comma .ensures .0) (d .before .rest .ensures .0)
+    let args = d .before .before .before .before .before .before .before .before .args in
+    timed-turn (args .reading) (now (args .l)) (read-time .ensures .0) (d .before .before .before .before .a .given .1) (comma .ensures .0) (d .before .rest .ensures .0)
     (d .read-expr .ensures .0)
     (c .before .e .given .1)
 
@@ -75,8 +75,8 @@ returns-3 c =
     let d = c .before .before in
     let read-time = d .before .before .before .before .before .before .read-time in
     let comma = d .before .before .take-comma-or in
-    let l = now (d .before .before .before .before .before .before .before .before .args .l) in
-    timed-turn l (read-time .ensures .0) (d .before .before .before .before .a .given .1) (comma .ensures .0) (d .before .rest .ensures .0)
+    let args = d .before .before .before .before .before .before .before .before .args in
+    timed-turn (args .reading) (now (args .l)) (read-time .ensures .0) (d .before .before .before .before .a .given .1) (comma .ensures .0) (d .before .rest .ensures .0)
     (d .read-expr .ensures .0)
     (c .enum-told .given .1)
 
@@ -85,8 +85,8 @@ returns-4 c =
     let d = c .before .before in
     let read-time = d .before .before .before .before .before .before .read-time in
     let comma = d .before .before .take-comma-or in
-    let l = now (d .before .before .before .before .before .before .before .before .args .l) in
-    timed-turn l (read-time .ensures .0) (d .before .before .before .before .a .given .1) (comma .ensures .0) (d .before .rest .ensures .0)
+    let args = d .before .before .before .before .before .before .before .before .args in
+    timed-turn (args .reading) (now (args .l)) (read-time .ensures .0) (d .before .before .before .before .a .given .1) (comma .ensures .0) (d .before .rest .ensures .0)
     (d .read-expr .ensures .0)
     (c .enum-told2 .given .1)
 
@@ -103,8 +103,8 @@ read-timed-spec =
     rest-requires
     read-expr-requires
     enum-known-e
-    add-t14
     add-t15
+    add-t16
     enum-told
     enum-told-2
     returns-2

@@ -36,8 +36,8 @@ returns-2 c =
     let d = c .before .before .before .before .before .before in
     let e = c .before .before .before .before .e in
     let behind = c .before .before .time-behind in
-    let l = now (d .before .before .before .before .args .l) in
-    let dated = dated-turn l (d .before .before .is-at .ensures .0) (d .before .if1 .left) (d .read-expr .ensures .0) (e .given .1) in
+    let args = d .before .before .before .before .args in
+    let dated = dated-turn (args .reading) (now (args .l)) (d .before .before .is-at .ensures .0) (d .before .if1 .left) (d .read-expr .ensures .0) (e .given .1) in
     let stopped = time-stopped (e .given .0 .0) (e .given .0 .1 .1 .0) (behind .result) (c .before .match2 .keys2) (behind .ensures) in
     c .turn-stopped .ensures ∙ stopped ∙ dated
 
@@ -54,22 +54,22 @@ returns-3 : tie.Need-returns-3
 returns-3 c =
     let d = c .before .before .before .before .before .before .before in
     let e = c .before .before .before .before .before .e in
-    let l = now (d .before .before .before .before .args .l) in
-    let dated = dated-turn l (d .before .before .is-at .ensures .0) (d .before .if1 .left) (d .read-expr .ensures .0) (e .given .1) in
+    let args = d .before .before .before .before .args in
+    let dated = dated-turn (args .reading) (now (args .l)) (d .before .before .is-at .ensures .0) (d .before .if1 .left) (d .read-expr .ensures .0) (e .given .1) in
     rw (← (c .before .before .before .time-behind .ensures), c .before .a .given .1) at dated
 
 returns-4 : tie.Need-returns-4
 returns-4 c =
     let d = c .before .before .before in
-    let l = now (d .before .before .before .before .args .l) in
-    let dated = dated-turn l (d .before .before .is-at .ensures .0) (d .before .if1 .left) (d .read-expr .ensures .0) (c .before .enum-told .given .1) in
+    let args = d .before .before .before .before .args in
+    let dated = dated-turn (args .reading) (now (args .l)) (d .before .before .is-at .ensures .0) (d .before .if1 .left) (d .read-expr .ensures .0) (c .before .enum-told .given .1) in
     c .read-undated .ensures ∙ dated
 
 returns-5 : tie.Need-returns-5
 returns-5 c =
     let d = c .before .before in
-    let l = now (d .before .before .before .before .args .l) in
-    let dated = dated-turn l (d .before .before .is-at .ensures .0) (d .before .if1 .left) (d .read-expr .ensures .0) (c .enum-told2 .given .1) in
+    let args = d .before .before .before .before .args in
+    let dated = dated-turn (args .reading) (now (args .l)) (d .before .before .is-at .ensures .0) (d .before .if1 .left) (d .read-expr .ensures .0) (c .enum-told2 .given .1) in
     dated
 
 pub read-turn-spec : {M : Type 1} → statement M

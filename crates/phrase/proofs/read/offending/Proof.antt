@@ -16,7 +16,8 @@ read-requires c κs = search needs
 part-requires : tie.Need-part-requires
 part-requires c κs =
     let read = c .before in
-    let within = part-within (read-holds (now (read .before .before .args .phrase))) in
+    let args = read .before .before .args in
+    let within = part-within (read-holds (args .reading) (now (args .phrase))) in
     rw (read .read .ensures) (within .0, omega arith)
 
 returns : tie.Need-returns

@@ -32,7 +32,7 @@ returns c =
     let d = c .before in
     let args = d .before .before .before .before .before .before .before .before .before .args in
     let lex = d .before .before .before .before .before .lex in
-    read-answered (now (args .phrase)) (lex .ensures .0) (lex .ensures .1 .0) (lex .ensures .1 .1 .0) (d .before .before .before .gather .ensures)
+    read-answered (args .reading) (now (args .phrase)) (lex .ensures .0) (lex .ensures .1 .0) (lex .ensures .1 .1 .0) (d .before .before .before .gather .ensures)
     (d .judged .ensures)
 
 pub read-spec : {M : Type 1} → statement M

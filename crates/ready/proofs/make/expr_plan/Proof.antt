@@ -1,11 +1,14 @@
-use Prim.Native.Nat.{_≤_, _<_}
+use Prim.Native.Nat.{_+_, _≤_, _<_}
 use native.Mathlib.Omega.{arith}
 use mathlib.Core.Path.{_≡_, refl, ap, _∙_}
 use mathlib.Core.Bool.{true}
 use lib.ListN.{length, length-map}
+use lib.Seq.{slice}
+use Rattle.dates.specs.Durations.{size}
 use Rattle.expressions.specs.declared.expr.Expr.{Expr}
 use Rattle.expressions.specs.Shapes.{hasDuration}
-use Rattle.steps.specs.declared.plan.Move.the-variants.{BackTo}
+use Rattle.phrase.specs.Chains.{rowDuration}
+use Rattle.steps.specs.declared.plan.Move.the-variants.{BackTo, ForwardTo}
 use Rattle.steps.specs.declared.plan.Step.the-variants.{By}
 use Rattle.ready.specs.Made.{exprSteps}
 use Rattle.ready.proofs.Rows.{row-size}
@@ -21,6 +24,14 @@ own c h d = (c .pre .1 (ap hasDuration h ∙ d), c .pre .0)
 -- every part of the row is there
 within : (c : tie.Start) → c .args .parts .n ≤ length (c .args .parts .items)
 within c = let long = simp length-map at (c .good .1 .0 .1 .1 .1 .0 .1 .0 .1) in omega (arith, c .pre .0)
+
+-- as many parts as its duration has, and at most 21 up to its end
+row :
+    (c : tie.Start) {e : Expr} → c .args .expr ≡ e → hasDuration e ≡ true → let parts = c .args .parts in
+    (size (rowDuration (slice (c .args .own) (parts .n) (parts .items))) + c .args .own ≡ parts .n) × (parts .n ≤ 21)
+row c h d =
+    let parts = c .args .parts in
+    (row-size (parts .items) (c .args .own) (parts .n) (own c h d .0) (within c), c .pre .0)
 
 enum-known-expr : tie.Need-enum-known-expr
 enum-known-expr c = search needs
@@ -72,10 +83,7 @@ from-date-requires-3 c κs = own (c .before .before .before) (c .before .expr8 .
 
 add-requires : tie.Need-add-requires
 add-requires c κs =
-    let start = c .before .before .before .before in
-    let parts = start .args .parts in
-    let here = own start (c .before .before .expr8 .given .1) refl in
-    let all = row-size (parts .items) (start .args .own) (parts .n) (here .0) (within start) in
+    let all = row (c .before .before .before .before) (c .before .before .expr8 .given .1) refl in
     may-add (c .from-date3 .ensures .1) (By (BackTo (c .before .before .expr8 .given .0 .0))) (omega arith) (omega arith)
 
 enum-known-expr-9 : tie.Need-enum-known-expr-9
@@ -83,6 +91,11 @@ enum-known-expr-9 c = search needs
 
 from-date-requires-4 : tie.Need-from-date-requires-4
 from-date-requires-4 c κs = own (c .before .before .before) (c .before .expr9 .given .1) refl
+
+add-requires-2 : tie.Need-add-requires-2
+add-requires-2 c κs =
+    let all = row (c .before .before .before .before) (c .before .before .expr9 .given .1) refl in
+    may-add (c .from-date4 .ensures .1) (By (ForwardTo (c .before .before .expr9 .given .0 .0))) (omega arith) (omega arith)
 
 enum-known-expr-10 : tie.Need-enum-known-expr-10
 enum-known-expr-10 c = search needs
@@ -92,6 +105,12 @@ from-date-requires-5 c κs = own (c .before .before .before) (c .before .expr10 
 
 enum-known-expr-11 : tie.Need-enum-known-expr-11
 enum-known-expr-11 c = search needs
+
+from-date-requires-6 : tie.Need-from-date-requires-6
+from-date-requires-6 c κs = own (c .before .before .before) (c .before .expr11 .given .1) refl
+
+enum-known-expr-12 : tie.Need-enum-known-expr-12
+enum-known-expr-12 c = search needs
 
 single-requires-3 : tie.Need-single-requires-3
 single-requires-3 c κs = search needs
@@ -138,7 +157,9 @@ returns-8 c =
 
 returns-9 : tie.Need-returns-9
 unfolding exprSteps
-returns-9 c = rw (c .before .before .expr9 .given .1) (widened (c .from-date4 .ensures) (omega arith))
+returns-9 c =
+    let given = c .before .before .before .expr9 .given in
+    rw (given .1) (behind (c .before .from-date4 .ensures) (By (ForwardTo (given .0 .0))) (c .add2 .ensures) (omega arith) (omega arith))
 
 returns-10 : tie.Need-returns-10
 unfolding exprSteps
@@ -146,11 +167,15 @@ returns-10 c = rw (c .before .before .expr10 .given .1) (widened (c .from-date5 
 
 returns-11 : tie.Need-returns-11
 unfolding exprSteps
-returns-11 c = rw (c .before .before .expr11 .given .1) (started _ (c .single3 .ensures) (omega arith))
+returns-11 c = rw (c .before .before .expr11 .given .1) (widened (c .from-date6 .ensures) (omega arith))
 
 returns-12 : tie.Need-returns-12
 unfolding exprSteps
-returns-12 c = rw (c .before .enum-told .given .1) (started _ (c .single4 .ensures) (omega arith))
+returns-12 c = rw (c .before .before .expr12 .given .1) (started _ (c .single3 .ensures) (omega arith))
+
+returns-13 : tie.Need-returns-13
+unfolding exprSteps
+returns-13 c = rw (c .before .enum-told .given .1) (started _ (c .single4 .ensures) (omega arith))
 
 pub expr-plan-spec : {M : Type 1} → statement M
 expr-plan-spec =
@@ -175,9 +200,12 @@ expr-plan-spec =
     add-requires
     enum-known-expr-9
     from-date-requires-4
+    add-requires-2
     enum-known-expr-10
     from-date-requires-5
     enum-known-expr-11
+    from-date-requires-6
+    enum-known-expr-12
     single-requires-3
     enum-told
     single-requires-4
@@ -192,4 +220,5 @@ expr-plan-spec =
     returns-9
     returns-10
     returns-11
-    returns-12)
+    returns-12
+    returns-13)

@@ -41,6 +41,12 @@ enum-known-way-4 c = search needs
 numbers-requires-4 : tie.Need-numbers-requires-4
 numbers-requires-4 c κs = search needs
 
+enum-known-way-5 : tie.Need-enum-known-way-5
+enum-known-way-5 c = search needs
+
+numbers-requires-5 : tie.Need-numbers-requires-5
+numbers-requires-5 c κs = search needs
+
 returns : tie.Need-returns
 returns c = rw (c .before .before .before .way .given .1, ← (c .before .direction .ensures)) (c .numbers .ensures)
 
@@ -52,6 +58,9 @@ returns-3 c = rw (c .before .before .before .way3 .given .1, ← (c .before .dir
 
 returns-4 : tie.Need-returns-4
 returns-4 c = rw (c .before .before .way4 .given .1) (c .numbers4 .ensures)
+
+returns-5 : tie.Need-returns-5
+returns-5 c = rw (c .before .before .way5 .given .1) (c .numbers5 .ensures)
 
 pub move-words-spec : {M : Type 1} → statement M
 move-words-spec =
@@ -70,7 +79,10 @@ move-words-spec =
     numbers-requires-3
     enum-known-way-4
     numbers-requires-4
+    enum-known-way-5
+    numbers-requires-5
     returns
     returns-2
     returns-3
-    returns-4)
+    returns-4
+    returns-5)

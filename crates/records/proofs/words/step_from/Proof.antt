@@ -63,11 +63,16 @@ returns-9 c = rw (c .before .match .keys9, ← (c .time-from .ensures))
 
 returns-10 : tie.Need-returns-10
 unfolding stepFrom
-returns-10 c =
+returns-10 c = rw (c .match .keys10)
+
+returns-11 : tie.Need-returns-11
+unfolding stepFrom
+returns-11 c =
     let late = c .match .rest in
     let mid = late .0 .0 .0 in
     let early = mid .0 .0 .0 in
     simp (
+      ne-eqb _ _ (early .0 .0 .0 .1),
       ne-eqb _ _ (early .0 .0 .1),
       ne-eqb _ _ (early .0 .1),
       ne-eqb _ _ (early .1),
@@ -99,4 +104,5 @@ step-from-spec =
     returns-7
     returns-8
     returns-9
-    returns-10)
+    returns-10
+    returns-11)

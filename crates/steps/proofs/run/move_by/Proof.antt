@@ -32,6 +32,12 @@ enum-known-way-4 c = search needs
 back-to-requires : tie.Need-back-to-requires
 back-to-requires c κs = search needs
 
+enum-known-way-5 : tie.Need-enum-known-way-5
+enum-known-way-5 c = search needs
+
+forward-to-requires : tie.Need-forward-to-requires
+forward-to-requires c κs = search needs
+
 returns : tie.Need-returns
 returns c = rw (c .before .before .way .given .1) (c .minutes-step .ensures)
 
@@ -43,6 +49,9 @@ returns-3 c = rw (c .before .before .way3 .given .1) (c .years-step .ensures)
 
 returns-4 : tie.Need-returns-4
 returns-4 c = rw (c .before .before .way4 .given .1) (c .back-to .ensures)
+
+returns-5 : tie.Need-returns-5
+returns-5 c = rw (c .before .before .way5 .given .1) (c .forward-to .ensures)
 
 pub move-by-spec : {M : Type 1} → statement M
 move-by-spec =
@@ -58,7 +67,10 @@ move-by-spec =
     years-step-requires
     enum-known-way-4
     back-to-requires
+    enum-known-way-5
+    forward-to-requires
     returns
     returns-2
     returns-3
-    returns-4)
+    returns-4
+    returns-5)

@@ -25,8 +25,8 @@ in-week-requires c κs = search needs
 enum-known-start-3 : tie.Need-enum-known-start-3
 enum-known-start-3 c = search needs
 
-from-today-requires : tie.Need-from-today-requires
-from-today-requires c κs = search needs
+forward-to-requires : tie.Need-forward-to-requires
+forward-to-requires c κs = search needs
 
 returns : tie.Need-returns
 returns c = rw (c .enum-told .given .1) (refl, moment-valid (c .before .before .pre))
@@ -41,7 +41,7 @@ returns-4 : tie.Need-returns-4
 returns-4 c = rw (c .before .before .start2 .given .1) (c .in-week .ensures)
 
 returns-5 : tie.Need-returns-5
-returns-5 c = rw (c .before .before .start3 .given .1) (c .from-today .ensures)
+returns-5 c = rw (c .before .before .start3 .given .1) (c .forward-to .ensures)
 
 pub start-at-spec : {M : Type 1} → statement M
 start-at-spec =
@@ -54,7 +54,7 @@ start-at-spec =
     enum-known-start-2
     in-week-requires
     enum-known-start-3
-    from-today-requires
+    forward-to-requires
     returns
     returns-2
     returns-3
