@@ -8,7 +8,7 @@ use Rattle.lexer.specs.Keywords.{keywords}
 use Rattle.lexer.specs.declared.reading.Reading.{Reading}
 use Rattle.lexer.specs.declared.reading.Reading.the-variants.{First, Second}
 use Rattle.lexer.specs.Classes.{classOf, markOf}
-use Rattle.lexer.specs.Lex.{numberOf, wordAt, numberAt, tokenAt, lexed}
+use Rattle.lexer.specs.Lex.{wordAt, numberAt, tokenAt, lexed}
 use Rattle.numbers.specs.Again.{turns, again}
 use Rattle.numbers.specs.Slices.{get, isAt, within}
 use Rattle.numbers.specs.Answers.{fitsOf}
@@ -93,7 +93,7 @@ both =
 -- each phrase answers as the paper's table has it, in the first reading, and as listed in both
 pub starred-as-listed : (map (λ c. answerOf First keywords (c .phrase) (c .from)) starred ≡ map (λ c. c .answer) starred)
     × (map (λ c. answerOf (c .reading) keywords (c .case .phrase) (c .case .from)) both ≡ map (λ c. c .case .answer) both)
-unfolding starred both keywords classOf markOf numberOf wordAt numberAt tokenAt lexed turns again get isAt within fitsOf isEnding wordOf
+unfolding starred both keywords classOf markOf wordAt numberAt tokenAt lexed turns again get isAt within fitsOf isEnding wordOf
     literalOf onesOf teensOf tensOf tensOnesOf numDoubleOf sumOf hundredsOf numTailOf numTripleOf numTripleUnitOf unitsOf numStep numOf
     isArticle unitOf namedMonthOf weekdayOf relativeSpecifierOf specificOf articleOf concreteOf durationTurn durationOf namedDayOf
     dayMonthYearOf monthDayOf isDelim threeNumbersOf twoNumbersOf behindSecondOf delimitedOf dateOf minuteOf halfOf clockOf timeOf

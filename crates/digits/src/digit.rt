@@ -15,7 +15,7 @@ pub fn is_digit(b: u8) -> bool
 }
 
 // A digit's number, 0 for any byte below the digits.
-fn value(b: u8) -> u32
+pub fn value(b: u8) -> u32
     ensures { λ r. ⌜ (r ≡ b - 48) × (r ≤ 207) ⌝ }
 {
     if b < b'0' {

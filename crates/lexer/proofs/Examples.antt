@@ -10,7 +10,7 @@ use Rattle.lexer.specs.Keywords.{keywords}
 use Rattle.lexer.specs.Classes.{classOf, markOf}
 use Rattle.refusals.specs.Table as refusal
 use Rattle.refusals.specs.Answers.{given, refuse}
-use Rattle.lexer.specs.Lex.{numberOf, wordAt, numberAt, tokenAt, Item, item, Lexed, lexed, codesOf, front}
+use Rattle.lexer.specs.Lex.{wordAt, numberAt, tokenAt, Item, item, Lexed, lexed, codesOf, front}
 
 -- a phrase and what is read of it
 record Example : Type 0 where
@@ -42,10 +42,10 @@ examples =
     []
 
 examples-hold : map (λ (x : Example). lexed keywords (x .phrase)) examples ≡ map (λ (x : Example). x .answer) examples
-unfolding lexed tokenAt wordAt numberAt numberOf classOf markOf keywords
+unfolding lexed tokenAt wordAt numberAt classOf markOf keywords
 examples-hold = refl
 
 -- 64 lexemes are taken in front of the 65th
 most-lexemes : codesOf (front keywords (replicate 65 (code ","))) ≡ replicate 64 Comma
-unfolding front tokenAt wordAt numberAt numberOf classOf markOf keywords
+unfolding front tokenAt wordAt numberAt classOf markOf keywords
 most-lexemes = refl

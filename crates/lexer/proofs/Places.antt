@@ -9,16 +9,15 @@ use lib.Dec.{eqb, leb, ltb}
 use borrow.Author.Tests.{leb-true, ltb-true}
 use lib.ListN.{length, getD}
 use Rattle.lexer.specs.Words.{Word, meaning, folded}
+use Rattle.lexer.specs.Lexemes.{NUM}
 use Rattle.lexer.specs.Classes.{Gap, Letter, Digit, Mark, classOf, markOf}
 use Rattle.refusals.specs.Table as refusal
 use Rattle.refusals.specs.Answers.{refusalAt, refuse, between}
 use Rattle.refusals.proofs.Holds.{Holds, of-given, of-refusal, Bounded, then-holds}
-use Rattle.lexer.specs.Lex.{runEnd, numberOf, ofWord, ofNumber, wordAt, numberAt, tokenOf, tokenFrom, tokenAt}
+use Rattle.lexer.specs.Lex.{runEnd, numberFrom, ofWord, ofNumber, wordAt, numberAt, tokenOf, tokenFrom, tokenAt}
 use Rattle.lexer.specs.Lex.{Item, item, Lexed, ahead, ifTaken, lexFrom, lexed, ifLexeme, frontFrom, front, startsOf, endedOf, Placed}
 use Rattle.lexer.specs.declared.find.Found.{Found}
 use Rattle.lexer.specs.declared.find.Found.the-variants.{Lexeme, Unknown}
-use Rattle.lexer.specs.declared.lex.Digits.{Digits}
-use Rattle.lexer.specs.declared.lex.Digits.the-variants.{Value, Over}
 use Rattle.lexer.specs.declared.lex.Ended.{Ended}
 use Rattle.lexer.specs.declared.lex.Token.{Token}
 use Rattle.lexer.specs.declared.lex.Token.the-variants.{Finish, Taken, Refused}
@@ -40,9 +39,12 @@ within-word : (f : Found) (a e n : ℕ) → Part a e n → Within n (ofWord f a 
 within-word (Lexeme l) a e n p = p
 within-word Unknown a e n p = omega arith
 
-within-number : (d : Digits) (a e n : ℕ) → Part a e n → Within n (ofNumber d a e)
-within-number (Value v) a e n p = p
-within-number Over a e n p = omega arith
+within-number : (v a e n : ℕ) → Part a e n → Within n (ofNumber v a e)
+within-number v a e n p = go (leb v 4294967295)
+  where
+    go : (b : Bool) → Within n (cond b (Taken (NUM + v) a e) (Refused (refusalAt refusal.LargeDigits a e)))
+    go true = p
+    go false = omega arith
 
 -- whatever begins at a byte of the phrase
 module _ (ws : List Word) (s : List ℕ) (a : ℕ) (h : a < length s) where
@@ -58,7 +60,7 @@ module _ (ws : List Word) (s : List ℕ) (a : ℕ) (h : a < length s) where
 
   number-within : Within (length s) (numberAt s a)
   unfolding numberAt
-  number-within = within-number (numberOf (between s a (runEnd Digit s a))) a (runEnd Digit s a) (length s) (run-part Digit)
+  number-within = within-number (numberFrom s a) a (runEnd Digit s a) (length s) (run-part Digit)
 
   token-of-within : (k : ℕ) → Within (length s) (tokenOf ws k s a)
   token-of-within k = go (eqb k Letter) (eqb k Digit) (eqb k Mark)

@@ -1,18 +1,23 @@
--- Runs of bytes of one class, a byte at a time, and the most that a run of digits says. Assumes nothing.
-use mathlib.Core.Path.{_≡_, refl, _∙_}
-use mathlib.Core.Bool.{Bool, true, false}
+-- Runs of bytes of one class, a byte at a time, and what a run of digits says. Assumes nothing.
+use mathlib.Core.Path.{_≡_, refl}
+use mathlib.Core.Bool.{Bool, true, false, false≢true, cond}
+use mathlib.Core.Logic.{⊎-elim}
 use mathlib.Core.List.{List, [], _∷_}
-use Prim.Native.Nat.{ℕ, suc, _+_, _≤_, _<_, zero-le}
+use Prim.Native.Nat.{ℕ, suc, _+_, _*_, _-_, _≤_, _<_, min, zero-le}
 use native.Mathlib.Numerals.{add-one}
 use native.Mathlib.Omega.{arith}
-use lib.Dec.{leb, eqb}
+use lib.Dec.{eqb, ltb}
 use lib.ListN.{length, getD, drop, drop-of-length-le, length-drop}
 use lib.Seq.{drop-cons}
-use borrow.Author.Tests.{eq-eqb, ne-eqb, leb-true}
-use Rattle.digits.specs.Digits.{valueFrom}
-use Rattle.lexer.specs.declared.lex.Digits.the-variants.{Value, Over}
-use Rattle.lexer.specs.Classes.{classOf}
-use Rattle.lexer.specs.Lex.{run, runEnd, numberOf}
+use borrow.Author.Tests.{eq-eqb, ne-eqb, ltb-true, ltb-false}
+use Rattle.digits.specs.Digits.{isDigit, valueFrom}
+use Rattle.digits.proofs.Again.{test-digit}
+use Rattle.digits.proofs.Order.{le-or-lt}
+use Rattle.digits.proofs.Says.{value-least}
+use Rattle.digits.proofs.Tabled.{steady}
+use Rattle.refusals.specs.Answers.{between}
+use Rattle.lexer.specs.Classes.{Digit, isLetter, classOf, markOf}
+use Rattle.lexer.specs.Lex.{run, runEnd, isDigitAt}
 use Rattle.lexer.proofs.Order.{counted}
 
 -- the run of class k from e on, by the byte at e
@@ -34,14 +39,62 @@ run-most k (b ∷ bs) = counted (eqb (classOf b) k) true (run k bs) (length bs) 
 pub run-within : (k : ℕ) (s : List ℕ) (a : ℕ) → a ≤ length s → runEnd k s a ≤ length s
 run-within k s a h = omega (arith, run-most k (drop a s), length-drop a s)
 
--- a number that is taken is no larger than the largest
-pub value-most : (l : List ℕ) (v : ℕ) → Value v ≡ numberOf l → v ≤ 4294967295
-unfolding numberOf
-value-most l v h = go (leb (valueFrom 0 l) 4294967295) refl
+-- a digit is of the class of digits, and no other byte is
+module _ (b : ℕ) where
+  digit-class : isDigit b ≡ true → classOf b ≡ Digit
+  unfolding classOf markOf
+  digit-class h = let d = test-digit b h in steady classOf 48 10 Digit refl b (d .low) (omega (arith, d .high))
+
+  no-digit-class : isDigit b ≡ false → classOf b ≡ Digit → ⊥
+  unfolding classOf
+  no-digit-class h c = go (eqb b 32) (eqb b 9) (isLetter b) (eqb (markOf b) 0) (simp h at c)
+    where
+      go : (x y l m : Bool) → _≡_ {A = ℕ} (cond x 0 (cond y 0 (cond l 1 (cond m 4 3)))) 2 → ⊥
+      go true y l m q = omega arith
+      go false true l m q = omega arith
+      go false false true m q = omega arith
+      go false false false true q = omega arith
+      go false false false false q = omega arith
+
+-- the digits from e on
+module _ (s : List ℕ) (e : ℕ) where
+  pub digit-stands : isDigitAt s e ≡ true → (e < length s) × (isDigit (getD s e 0) ≡ true)
+  digit-stands h = go (ltb e (length s)) refl h
+    where
+      go : (b : Bool) → ltb e (length s) ≡ b → cond b (isDigit (getD s e 0)) false ≡ true → (e < length s) × (isDigit (getD s e 0) ≡ true)
+      go true p q = (ltb-true e (length s) p, q)
+      go false p q = absurd (false≢true q)
+
+  -- with one there the run goes on
+  pub digits-on : isDigitAt s e ≡ true → run Digit (drop e s) ≡ suc (run Digit (drop (e + 1) s))
+  digits-on h = let at = digit-stands h in run-step Digit s e (at .0) (digit-class (getD s e 0) (at .1))
+
+  -- with none there it ends
+  pub digits-end : isDigitAt s e ≡ false → run Digit (drop e s) ≡ 0
+  digits-end h = go (ltb e (length s)) refl h
+    where
+      go : (b : Bool) → ltb e (length s) ≡ b → cond b (isDigit (getD s e 0)) false ≡ false → run Digit (drop e s) ≡ 0
+      go true p q = run-stop Digit s e (ltb-true e (length s) p) (no-digit-class (getD s e 0) q)
+      go false p q = run-over Digit s e (ltb-false e (length s) p)
+
+  -- what they say behind v: the first of them, and the others
+  pub digit-more :
+      (v : ℕ) → isDigitAt s e ≡ true →
+      valueFrom v (between s e (runEnd Digit s e)) ≡ valueFrom (v * 10 + (getD s e 0 - 48)) (between s (e + 1) (runEnd Digit s (e + 1)))
+  digit-more v h =
+      let here : e + run Digit (drop e s) - e ≡ suc (run Digit (drop (e + 1) s)) = omega (arith, digits-on h) in
+      let next : e + 1 + run Digit (drop (e + 1) s) - (e + 1) ≡ run Digit (drop (e + 1) s) = omega arith in
+      rw (here, next, drop-cons s e 0 (digit-stands h .0), add-one)
+
+  pub digits-over : (v : ℕ) → isDigitAt s e ≡ false → valueFrom v (between s e (runEnd Digit s e)) ≡ v
+  digits-over v h = let none : e + run Digit (drop e s) - e ≡ 0 = omega (arith, digits-end h) in rw none
+
+-- digits behind a number that is cut off at m, and cut off again, say what they say behind the whole
+pub cut-off : (w m : ℕ) (l : List ℕ) → min (valueFrom (min w m) l) m ≡ min (valueFrom w l) m
+cut-off w m l = ⊎-elim whole cut (le-or-lt w m)
   where
-    go : (b : Bool) → leb (valueFrom 0 l) 4294967295 ≡ b → v ≤ 4294967295
-    go true e =
-        let q : Value v ≡ Value (valueFrom 0 l) = h ∙ simp e in
-        let p : v ≡ valueFrom 0 l = cc in
-        omega (arith, leb-true (valueFrom 0 l) 4294967295 e)
-    go false e = let q : Value v ≡ Over = h ∙ simp e in let z : _≡_ {A = ℕ} 0 1 = cc in absurd (omega arith)
+    whole : w ≤ m → min (valueFrom (min w m) l) m ≡ min (valueFrom w l) m
+    whole h = let same : min w m ≡ w = omega arith in rw same
+
+    cut : m < w → min (valueFrom (min w m) l) m ≡ min (valueFrom w l) m
+    cut h = let same : min w m ≡ m = omega arith in rw same (omega (arith, value-least m l, value-least w l))

@@ -1,10 +1,10 @@
 -- How a phrase is cut into lexemes. Assumes nothing.
 use Prim.Native.Nat.{ℕ, suc, zero, _+_, _-_, _≤_, min}
-use mathlib.Core.Bool.{cond}
+use mathlib.Core.Bool.{Bool, false, cond}
 use mathlib.Core.List.{List, [], _∷_, _++_, map}
 use lib.Dec.{ltb, leb, eqb}
 use lib.ListN.{length, getD, drop}
-use Rattle.digits.specs.Digits.{valueFrom}
+use Rattle.digits.specs.Digits.{isDigit, valueFrom}
 use Rattle.lexer.specs.Lexemes.{NUM}
 use Rattle.lexer.specs.Words.{Word, meaning, folded}
 use Rattle.lexer.specs.Table.{fixed, bytesFrom, headOf, tailOf}
@@ -13,8 +13,6 @@ use Rattle.refusals.specs.Table as refusal
 use Rattle.refusals.specs.Answers.{Answer, given, refused, refusalAt, refuse, andThen, refusalOf, between}
 use Rattle.lexer.specs.declared.find.Found.{Found}
 use Rattle.lexer.specs.declared.find.Found.the-variants.{Lexeme, Unknown}
-use Rattle.lexer.specs.declared.lex.Digits.{Digits}
-use Rattle.lexer.specs.declared.lex.Digits.the-variants.{Value, Over}
 use Rattle.lexer.specs.declared.lex.Token.{Token}
 use Rattle.lexer.specs.declared.lex.Token.the-variants.{Finish, Taken, Refused}
 use Rattle.lexer.specs.declared.lex.Ended.{Ended}
@@ -30,19 +28,14 @@ run k (b ∷ bs) = cond (eqb (classOf b) k) (suc (run k bs)) 0
 abbrev pub runEnd : ℕ → List ℕ → ℕ → ℕ
 runEnd k s a = a + run k (drop a s)
 
--- `stack.parse::<u32>()`: a digit run by its value, however long it is
-unfoldable pub numberOf : List ℕ → Digits
-numberOf s = cond (leb (valueFrom 0 s) 4294967295) (Value (valueFrom 0 s)) Over
-
 -- a word from a to e by its meaning
 abbrev pub ofWord : Found → ℕ → ℕ → Token
 ofWord (Lexeme l) a e = Taken l a e
 ofWord Unknown a e = Refused (refusalAt refusal.Unknown a e)
 
--- a number from a to e by its value
-abbrev pub ofNumber : Digits → ℕ → ℕ → Token
-ofNumber (Value v) a e = Taken (NUM + v) a e
-ofNumber Over a e = Refused (refusalAt refusal.LargeDigits a e)
+-- `stack.parse::<u32>()`: a number from a to e by its value, however long it is
+abbrev pub ofNumber : ℕ → ℕ → ℕ → Token
+ofNumber v a e = cond (leb v 4294967295) (Taken (NUM + v) a e) (Refused (refusalAt refusal.LargeDigits a e))
 
 -- "a run of letters is one word": the one that begins at a, as it is looked up
 abbrev pub wordFrom : List ℕ → ℕ → List ℕ
@@ -64,9 +57,17 @@ blockOf n s a = record { number = bytesFrom 0 (fixed n (wordFrom s a)); end = a 
 abbrev pub keyOf : List ℕ → ℕ → Key
 keyOf s a = record { head = headOf (wordFrom s a); tail = tailOf (wordFrom s a); end = runEnd Letter s a }
 
+-- whether a digit stands at a place
+abbrev pub isDigitAt : List ℕ → ℕ → Bool
+isDigitAt s a = cond (ltb a (length s)) (isDigit (getD s a 0)) false
+
+-- the number that the run of digits says that begins at a
+abbrev pub numberFrom : List ℕ → ℕ → ℕ
+numberFrom s a = valueFrom 0 (between s a (runEnd Digit s a))
+
 -- "a run of digits one number"
 unfoldable pub numberAt : List ℕ → ℕ → Token
-numberAt s a = ofNumber (numberOf (between s a (runEnd Digit s a))) a (runEnd Digit s a)
+numberAt s a = ofNumber (numberFrom s a) a (runEnd Digit s a)
 
 -- what begins at a with a byte of class k: a word, a number, a mark, or "any other byte is refusal 2"
 abbrev pub tokenOf : List Word → ℕ → List ℕ → ℕ → Token

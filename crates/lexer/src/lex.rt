@@ -11,6 +11,8 @@ use super::run::run_end;
 use super::table::rows;
 use super::word::key_at;
 use super::word::letter;
+use digits::digit::is_digit;
+use digits::digit::value;
 use refusals::LARGE_DIGITS;
 use refusals::NONE;
 use refusals::Refusal;
@@ -18,20 +20,17 @@ use refusals::TOO_LONG;
 use refusals::TOO_MANY;
 use refusals::UNKNOWN;
 ghost use mathlib.Core.Path.{_≡_};
-ghost use Prim.Native.Nat.{_-_, _≤_};
+ghost use Prim.Native.Nat.{_+_, _*_, _-_, _≤_, min};
 ghost use lib.ListN.{length};
 ghost use lib.Seq.{sets};
 ghost use Rattle.lexer.specs.Keywords.{keywords};
 ghost use Rattle.lexer.specs.Table.{sorted, cells};
-ghost use Rattle.lexer.specs.Lex.{numberOf, wordAt, numberAt, tokenAt};
+ghost use Rattle.lexer.specs.Lex.{isDigitAt, wordAt, numberAt, tokenAt};
 ghost use Rattle.lexer.specs.Lex.{lexed, front, codesOf, startsOf, endedOf, Placed};
 ghost use Rattle.refusals.specs.Answers.{refuse};
 
-// What a run of digits says.
-enum Digits {
-    Value(u64),
-    Over,
-}
+// The first number that no u32 holds.
+const TOO_LARGE: u64 = 4294967296;
 
 // One step of lexing: the end, a lexeme with the bytes from start up to end, or a refusal.
 pub enum Token {
@@ -46,30 +45,23 @@ pub struct Ended {
     pub count: usize,
 }
 
-// A digit's number, 0 for any byte below the digits.
-fn digit(b: u8) -> u64
-    ensures { λ r. ⌜ r ≡ b - 48 ⌝ }
+// Does a digit stand at a place?
+fn is_digit_at(s: &[u8], at: usize) -> bool
+    ensures { λ r. ⌜ r ≡ isDigitAt (now (s .entry)) at ⌝ }
 {
-    if b < b'0' {
-        return 0;
+    if s.len() <= at {
+        return false;
     }
-    (b - b'0') as u64
+    is_digit(s[at])
 }
 
-// The number that a run of digits says.
-fn digits_value(s: &[u8]) -> Digits
-    ensures { λ r. ⌜ r ≡ numberOf (now (s .entry)) ⌝ }
+// The number v with a digit more behind it; what is too large stays so.
+fn with_digit(v: u64, b: u8) -> u64
+    requires { ⌜ v ≤ 4294967296 ⌝ }
+    ensures { λ r. ⌜ r ≡ min (v * 10 + (b - 48)) 4294967296 ⌝ }
 {
-    let mut v: u64 = 0;
-    let mut i: usize = 0;
-    while i < s.len() {
-        v = v * 10 + digit(s[i]);
-        if 4294967295 < v {
-            return Digits::Over;
-        }
-        i += 1;
-    }
-    Digits::Value(v)
+    let w = v * 10 + value(b) as u64;
+    if w < TOO_LARGE { w } else { TOO_LARGE }
 }
 
 // The word that begins at a.
@@ -95,23 +87,26 @@ fn word_at(words: &[u8; 2128], s: &[u8], a: usize) -> Token
 
 // The number that begins at a.
 fn number_at(s: &[u8], a: usize) -> Token
-    requires { ⌜ a ≤ length (now s) ⌝ }
     ensures { λ r. ⌜ r ≡ numberAt (now (s .entry)) a ⌝ }
 {
-    let e = run_end(s, a, DIGIT);
-    let d = digits_value(&s[a..e]);
-    let Digits::Value(v) = d else {
-        return Token::Refused(Refusal {
-            number: LARGE_DIGITS,
-            place: a,
-            end: e,
-        });
-    };
-    Token::Taken {
-        code: NUM + v,
-        start: a,
-        end: e,
+    let mut v: u64 = 0;
+    let mut e = a;
+    while is_digit_at(s, e) {
+        v = with_digit(v, s[e]);
+        e += 1;
     }
+    if v < TOO_LARGE {
+        return Token::Taken {
+            code: NUM + v,
+            start: a,
+            end: e,
+        };
+    }
+    Token::Refused(Refusal {
+        number: LARGE_DIGITS,
+        place: a,
+        end: e,
+    })
 }
 
 // The first lexeme at or after a place, by the rows that are lent; past the last byte there is none.

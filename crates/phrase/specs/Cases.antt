@@ -9,7 +9,7 @@ use Rattle.lexer.specs.declared.reading.Reading.the-variants.{First}
 use Rattle.lexer.specs.Classes.{classOf, markOf}
 use Rattle.refusals.specs.Table as table
 use Rattle.refusals.specs.Answers.{refuse}
-use Rattle.lexer.specs.Lex.{numberOf, wordAt, numberAt, tokenAt, lexed}
+use Rattle.lexer.specs.Lex.{wordAt, numberAt, tokenAt, lexed}
 use Rattle.numbers.specs.Slices.{get, isAt, within}
 use Rattle.numbers.specs.Answers.{fitsOf}
 use Rattle.numbers.specs.Numbers.{isEnding, wordOf, literalOf, onesOf, teensOf, tensOf, tensOnesOf, numDoubleOf, sumOf, hundredsOf}
@@ -78,7 +78,7 @@ cases =
 
 -- each row is what `readOf` gives
 pub read-as-listed : map (λ c. readOf First keywords (c .phrase)) cases ≡ map (λ c. c .reading) cases
-unfolding cases keywords classOf markOf numberOf wordAt numberAt tokenAt lexed get isAt within isEnding wordOf literalOf onesOf teensOf
+unfolding cases keywords classOf markOf wordAt numberAt tokenAt lexed get isAt within isEnding wordOf literalOf onesOf teensOf
     tensOf tensOnesOf numDoubleOf sumOf numTailOf hundredsOf numTripleOf numTripleUnitOf fitsOf unitsOf numStep turns again numOf
     isArticle unitOf monthOf weekdayOf relativeSpecifierOf specificOf articleOf concreteOf durationTurn durationOf namedDayOf
     dayMonthYearOf monthDayOf isDelim threeNumbersOf twoNumbersOf behindSecondOf delimitedOf dateOf minuteOf halfOf clockOf timeOf

@@ -2,6 +2,7 @@
 use Rattle.settled.proofs.Settled.{Same, Settled, same}
 use Rattle.digits.proofs.digit.is_digit.Reads as is-digit'
 use Rattle.digits.proofs.digit.two.Reads as two'
+use Rattle.digits.proofs.digit.value.Reads as value'
 use Rattle.digits.proofs.digit.width.Reads as width'
 use Rattle.digits.proofs.form.of_form.Reads as of-form'
 use Rattle.digits.proofs.put.put_bytes.Reads as put-bytes'
@@ -14,6 +15,9 @@ is-digit = same is-digit'.Post _ _ (λ κs a z e p. p)
 
 pub two : Settled two'.Post
 two = same two'.Post _ _ (λ κs a z e p. p .0)
+
+pub value : Settled value'.Post
+value = same value'.Post _ _ (λ κs a z e p. p .0)
 
 pub width : Settled width'.Post
 width = same width'.Post _ _ (λ κs a z e p. p .0)
