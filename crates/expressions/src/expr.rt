@@ -275,7 +275,7 @@ fn read_undated(reading: Reading, l: &[u64]) -> ExprTaken
 
 // DateExpr::parse: its shape, and where its duration begins
 pub fn read_expr(reading: Reading, l: &[u64]) -> ExprTaken
-    ensures { λ r. ⌜ r ≡ exprAnswer (now (l .entry)) (dateExprOf reading (now (l .entry))) ⌝ }
+    ensures { λ r. ⌜ r ≡ exprAnswer reading (now (l .entry)) (dateExprOf reading (now (l .entry))) ⌝ }
     ensures { λ r. ⌜ ExprCounted r (length (now (l .entry))) ⌝ }
 {
     match read_date(reading, l) {
