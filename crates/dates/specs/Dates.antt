@@ -35,10 +35,10 @@ dayMonthYearOf l =
     andThen (parsedNumber (numOf (drop (t + u) l))) (λ year v.
     is (DayMonthYear day month year) (t + u + v))))
 
--- whether a number behind month and day is their year
+-- whether a number behind month and day is their year: in the second reading only a run of four digits is
 abbrev pub isYearIn : Reading → Number → Bool
 isYearIn First n = true
-isYearIn Second n = true
+isYearIn Second n = eqb (n .digits) 4
 
 -- a number behind month and day as their year; any other is left to what follows
 abbrev pub yearOf : Reading → NumberFound → Parsed ℕ

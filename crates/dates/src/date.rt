@@ -91,13 +91,13 @@ fn read_day_month_year(l: &[u64], a: NumberFound) -> DateFound
     )
 }
 
-// Is a number behind month and day their year?
+// Is a number behind month and day their year? In the second reading only a run of four digits is.
 fn is_year_in(reading: Reading, n: Number) -> bool
     ensures { λ r. ⌜ r ≡ isYearIn reading n ⌝ }
 {
     match reading {
         Reading::First => true,
-        Reading::Second => true,
+        Reading::Second => n.digits == 4,
     }
 }
 
