@@ -94,5 +94,5 @@ hasOwn (Dated x) = hasDuration x
 hasOwn (Timed x) = hasDuration x
 
 -- a row with the parts of the base's own duration, which stands at the front of l
-abbrev pub withOwn : Base → List ℕ → Parts → Parts
-withOwn b l ps = cond (hasOwn b) (rowed ps (durationOf l) .parts) ps
+abbrev pub withOwn : Reading → Base → List ℕ → Parts → Parts
+withOwn reading b l ps = cond (hasOwn b) (rowed ps (durationOf reading l) .parts) ps
