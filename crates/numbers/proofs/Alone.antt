@@ -58,10 +58,10 @@ failed : (b : Bool) (n : Number) → pick b (Is n) Nothing ≡ Nothing → b ≡
 failed true n e = let z : _≡_ {A = ℕ} 0 1 = cc in absurd (omega arith)
 failed false n e = refl
 
--- a range that was not met lies below
-beyond : (lo x hi : ℕ) (n : Number) → pick (within lo x hi) (Is n) Nothing ≡ Nothing → lo ≤ x → hi < x
+-- a range that was not met, behind a test that held, lies below
+beyond : (b : Bool) → b ≡ true → (lo x hi : ℕ) (n : Number) → pick (b && within lo x hi) (Is n) Nothing ≡ Nothing → lo ≤ x → hi < x
 unfolding within
-beyond lo x hi n e a = leb-false x hi (rw (le-leb lo x a) at (failed (within lo x hi) n e))
+beyond b held lo x hi n e a = leb-false x hi (rw (held, le-leb lo x a) at (failed (b && within lo x hi) n e))
 
 -- the first lexeme is a literal or a word, which alone is the number n, and none that begins more
 module _ (l : List ℕ) (n : Number) (one : n .taken ≡ 1)
@@ -135,11 +135,6 @@ module _ (l : List ℕ) (n : Number) (one : n .taken ≡ 1)
   unfolding numStep unitsOf
   num-plain = rw (num-is l, no-units, no-unit l (λ a b. first (omega arith) (omega arith)))
 
-  -- a range of literals that was not met lies below
-  beyond-literal : NUM ≤ get l 0 → (lo hi : ℕ) → literalOf l lo hi 1 ≡ Nothing → lo ≤ valueOf (get l 0) → hi < valueOf (get l 0)
-  unfolding literalOf
-  beyond-literal h lo hi e = beyond lo (valueOf (get l 0)) hi _ (rw (le-leb NUM (get l 0) h) at e)
-
   -- each range of literals, and of words up to nineteen, is met by an alternative
   module _ (none : numOf l ≡ Nothing) where
     num : (numTripleOf l ≡ Nothing) × (literalOf l 1000 MAX 1 ≡ Nothing)
@@ -162,15 +157,18 @@ module _ (l : List ℕ) (n : Number) (one : n .taken ≡ 1)
 
     beyond-words : 1 ≤ get l 0 → 19 < get l 0
     unfolding wordOf
-    beyond-words h = beyond 10 (get l 0) 19 _ (teens .0) (beyond 1 (get l 0) 9 _ (ones .0) h)
+    beyond-words h = beyond true refl 10 (get l 0) 19 _ (teens .0) (beyond true refl 1 (get l 0) 9 _ (ones .0) h)
 
     beyond-literals : NUM ≤ get l 0 → MAX < valueOf (get l 0)
+    unfolding literalOf
     beyond-literals h =
-        beyond-literal h 1000 MAX (num .1)
-        (beyond-literal h 100 999 (triple .1)
-        (beyond-literal h 20 99 (behind .1)
-        (beyond-literal h 10 19 (teens .1)
-        (beyond-literal h 0 9 (ones .1) (omega arith)))))
+        let v = valueOf (get l 0) in
+        let range = beyond (leb NUM (get l 0)) (le-leb NUM (get l 0) h) in
+        range 1000 v MAX _ (num .1)
+        (range 100 v 999 _ (triple .1)
+        (range 20 v 99 _ (behind .1)
+        (range 10 v 19 _ (teens .1)
+        (range 0 v 9 _ (ones .1) (omega arith)))))
 
   -- then it is the number
   num-alone : ((1 ≤ get l 0) × (get l 0 ≤ 19)) ⊎ (NUM ≤ get l 0) → numOf l ≡ Is n
