@@ -55,10 +55,6 @@ not-within lo y hi h a = let w = ltb-true hi NUM h in rw (lt-leb y hi (omega ari
 pub eqb-plain : (x k : ℕ) → ltb k NUM ≡ true → eqb (plain x) k ≡ eqb x k
 eqb-plain x k h = same-plain (λ y. eqb y k) false (λ y. not-word y k h) x
 
--- a test for a range of words
-pub within-plain : (lo x hi : ℕ) → ltb hi NUM ≡ true → within lo (plain x) hi ≡ within lo x hi
-within-plain lo x hi h = same-plain (λ y. within lo y hi) false (λ y. not-within lo y hi h) x
-
 -- the lexeme at a place
 pub get-plain : (l : List ℕ) (i : ℕ) → get (plainOf l) i ≡ plain (get l i)
 unfolding get plain
