@@ -26,14 +26,14 @@ pub that-day : (n b m : ℕ) (t : Moment) → n ≡ m + b → daysBack n b t ≡
 unfolding daysBack
 that-day n b m t e = same-day n b m 0 t (omega arith) ∙ rw (le-leb 0 m (omega arith), sub-zero)
 
--- two weeks on it is the same weekday
-two-weeks : (n : ℕ) → (n + 14) % 7 ≡ n % 7
-two-weeks n = omega arith
+-- a week on it is the same weekday
+a-week : (n : ℕ) → (n + 7) % 7 ≡ n % 7
+a-week n = omega arith
 
 -- and so the same way on to another
-pub way-on : (n w r : ℕ) → r ≡ n + 14 + (7 + w - (n + 14) % 7) % 7 → r ≡ n + (7 + w - n % 7) % 7 + 14
-way-on n w r e = let h = rw two-weeks at e in omega arith
+pub way-on : (n w : ℕ) → n + 7 + (7 + w - (n + 7) % 7) % 7 ≡ n + (7 + w - n % 7) % 7 + 7
+way-on n w = rw a-week (omega arith)
 
 -- and back
-pub way-back : (n w r : ℕ) → r + (7 + (n + 14) % 7 - w) % 7 ≡ n + 14 → r + (7 + n % 7 - w) % 7 ≡ n + 14
-way-back n w r e = rw two-weeks at e
+pub way-back : (n w : ℕ) → n + 7 - (7 + (n + 7) % 7 - w) % 7 + (7 + n % 7 - w) % 7 ≡ n + 7
+way-back n w = rw a-week (omega arith)

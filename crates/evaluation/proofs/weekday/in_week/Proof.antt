@@ -11,14 +11,17 @@ day-number-requires c κs = search needs
 add-today : tie.Need-add-today
 add-today c = search needs
 
+sub-monday : tie.Need-sub-monday
+sub-monday c = search needs
+
 enum-told : tie.Need-enum-told
 enum-told c = search needs
 
-next-week-requires : tie.Need-next-week-requires
-next-week-requires c κs = search needs
+add-on-counted : tie.Need-add-on-counted
+add-on-counted c = search needs
 
-forward-from-requires : tie.Need-forward-from-requires
-forward-from-requires c κs = search needs
+add-on-counted-2 : tie.Need-add-on-counted-2
+add-on-counted-2 c = search needs
 
 on-counted-requires : tie.Need-on-counted-requires
 on-counted-requires c κs = search needs
@@ -26,11 +29,11 @@ on-counted-requires c κs = search needs
 enum-told-2 : tie.Need-enum-told-2
 enum-told-2 c = search needs
 
-week-before-requires : tie.Need-week-before-requires
-week-before-requires c κs = search needs
+sub-on-counted : tie.Need-sub-on-counted
+sub-on-counted c = search needs
 
-back-from-requires : tie.Need-back-from-requires
-back-from-requires c κs = search needs
+add-on-counted-3 : tie.Need-add-on-counted-3
+add-on-counted-3 c = search needs
 
 on-counted-requires-2 : tie.Need-on-counted-requires-2
 on-counted-requires-2 c κs = search needs
@@ -38,31 +41,25 @@ on-counted-requires-2 c κs = search needs
 enum-told-3 : tie.Need-enum-told-3
 enum-told-3 c = search needs
 
-week-before-requires-2 : tie.Need-week-before-requires-2
-week-before-requires-2 c κs = search needs
-
-add-forward-from : tie.Need-add-forward-from
-add-forward-from c = search needs
-
-forward-from-requires-2 : tie.Need-forward-from-requires-2
-forward-from-requires-2 c κs = search needs
+add-on-counted-4 : tie.Need-add-on-counted-4
+add-on-counted-4 c = search needs
 
 on-counted-requires-3 : tie.Need-on-counted-requires-3
 on-counted-requires-3 c κs = search needs
 
 returns : tie.Need-returns
 returns c =
-    rw (c .before .before .before .enum-told .given .1)
+    rw (c .before .enum-told .given .1)
     (c .on-counted .ensures .0 ∙ that-day _ _ _ _ (omega arith), c .on-counted .ensures .1)
 
 returns-2 : tie.Need-returns-2
 returns-2 c =
-    rw (c .before .before .before .enum-told2 .given .1)
+    rw (c .before .enum-told2 .given .1)
     (c .on-counted2 .ensures .0 ∙ same-day _ _ _ _ _ (omega arith), c .on-counted2 .ensures .1)
 
 returns-3 : tie.Need-returns-3
 returns-3 c =
-    rw (c .before .before .before .enum-told3 .given .1)
+    rw (c .before .enum-told3 .given .1)
     (c .on-counted3 .ensures .0 ∙ that-day _ _ _ _ (omega arith), c .on-counted3 .ensures .1)
 
 pub in-week-spec : {M : Type 1} → statement M
@@ -71,18 +68,17 @@ in-week-spec =
     (tie.spec
     day-number-requires
     add-today
+    sub-monday
     enum-told
-    next-week-requires
-    forward-from-requires
+    add-on-counted
+    add-on-counted-2
     on-counted-requires
     enum-told-2
-    week-before-requires
-    back-from-requires
+    sub-on-counted
+    add-on-counted-3
     on-counted-requires-2
     enum-told-3
-    week-before-requires-2
-    add-forward-from
-    forward-from-requires-2
+    add-on-counted-4
     on-counted-requires-3
     returns
     returns-2
