@@ -219,11 +219,19 @@ def both_fail(rust, told):
 # 02: a weekday directly followed by "in", among the lexemes as they are shown
 WEEKDAY_IN = re.compile(rf"\b({'|'.join(model.Weekday.NAMES)}) In\b")
 
+# 02: a month, a lexeme that a number begins with, and more that may belong to numbers
+NUMBER_WORDS = [*model.Ones.VALUES, *model.Teens.VALUES, *model.Tens.VALUES, "Hundred", *model.NumTripleUnit.VALUES]
+NUMBER = rf"(Num\(\d+\)|{'|'.join(NUMBER_WORDS)})"
+MONTH_NUMBERS = re.compile(rf"\b({'|'.join(model.Month.NAMES)}) {NUMBER}( ({NUMBER}|Dash|And|ST|ND|RD|TH))+(?= |$)")
+
 
 def may_differ(first, second):
-    """Whether the model's lines in the two readings differ as 02 says: by the node of a weekday with "in", and by the answer."""
+    """Whether the model's lines in the two readings may differ as 02 says: where two numbers may stand behind a month; else by the node of a
+    weekday with "in", and by the answer."""
     other_way = second.replace("WeekdayExpressionAfter", "WeekdayExpressionBefore")
     fields = other_way.split("|")
+    if MONTH_NUMBERS.search(fields[0]):
+        return True
     return bool(WEEKDAY_IN.search(fields[0])) and other_way != second and fields[:-1] == first.split("|")[:-1]
 
 
@@ -359,6 +367,14 @@ def behind_weekday_in():
     return itertools.chain.from_iterable(exhaustive_lines(2, weekday, "in") for weekday in phrases.WEEKDAYS)
 
 
+def behind_month_and_day():
+    """Every lexeme and every two behind month, day and a number that may be their year."""
+    for year in phrases.YEARS:
+        yield from exhaustive_lines(1, "march", "3", year)
+    for year in ("5", "0005", "2027", "twenty"):
+        yield from exhaustive_lines(2, "march", "3", year)
+
+
 def random_lines(count, seed):
     """Grammar-made phrases (half of all), damaged copies, word soup, long chains and raw bytes."""
     dice = phrases.Dice(seed)
@@ -369,10 +385,10 @@ def random_lines(count, seed):
 
 
 def second_random_lines(count, seed):
-    """As above, but with a weekday, "in" and a duration in most phrases."""
+    """As above, but most phrases have a weekday, "in" and a duration, or month and day and a number behind them."""
     dice = phrases.Dice(seed)
-    makers = [*[dice.ahead] * 5, *[lambda: dice.damaged(dice.ahead())] * 2, dice.phrase, lambda: dice.damaged(dice.phrase()),
-              lambda: dice.pick([dice.soup, dice.chain, dice.raw])()]
+    makers = [*[dice.ahead, dice.dated] * 3, lambda: dice.damaged(dice.ahead()), lambda: dice.damaged(dice.dated()), dice.phrase,
+              lambda: dice.damaged(dice.phrase()), lambda: dice.pick([dice.soup, dice.chain, dice.raw])()]
     return made_lines(count, dice, makers)
 
 
@@ -428,6 +444,7 @@ def compare_second(count, seed):
         "up to two lexemes": itertools.chain(exhaustive_lines(1), exhaustive_lines(2)),
         "three lexemes": exhaustive_lines(3),
         "two lexemes behind a weekday and in": behind_weekday_in(),
+        "one or two lexemes behind month, day and number": behind_month_and_day(),
         "sweeps of nows": phrases.second_sweep(),
         f"random with seed {seed}": second_random_lines(count, seed),
     })

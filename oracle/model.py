@@ -26,6 +26,15 @@ MOST_LEXEMES = 64
 FIRST, SECOND = 1, 2
 
 
+class Literal(int):
+    """`Lexeme::Num(n)`: a number that was written with digits, and 02: how many, leading zeros counted."""
+
+    def __new__(cls, text):
+        literal = super().__new__(cls, text)
+        literal.digits = len(text)
+        return literal
+
+
 class Refused(Exception):
     """One of the papers' refusals: its number, its place, and the end of the offending part."""
 
@@ -46,7 +55,7 @@ def reading_of(number):
 
 # ---------------------------------------------------------------- lexer.rs
 
-# The 133 words in byte order. A lexeme is the Rust's name of it, and Num(n) is the number n itself.
+# The 133 words in byte order. A lexeme is the Rust's name of it, and Num(n) is the literal n itself.
 KEYWORDS = {
     "a": "A", "after": "After", "ago": "Ago", "am": "AM", "an": "An", "and": "And", "apr": "April", "april": "April",
     "at": "At", "aug": "August", "august": "August", "before": "Before", "billion": "Billion", "billionth": "Billion",
@@ -104,7 +113,7 @@ def judge(part):
     if part["number"]:
         if int(part["number"]) > U32_MAX:
             raise Refused(3, part.start(), part.end())
-        return int(part["number"])
+        return Literal(part["number"])
     word = (part["word"] or "").lower()
     if word not in KEYWORDS:
         raise Refused(2, part.start(), part.end())
@@ -125,7 +134,12 @@ def get(l, i):
 
 def is_literal(lexeme):
     """`Lexeme::Num(_)`"""
-    return isinstance(lexeme, int)
+    return isinstance(lexeme, Literal)
+
+
+def digits_of(number):
+    """02: the digits of the run that a number is, 0 where it is not one single run: a sum or a word is no Literal."""
+    return number.digits if is_literal(number) else 0
 
 
 def u32(n):
@@ -188,7 +202,7 @@ class DateTime:
 class DateExpr:
     @staticmethod
     def parse(l, reading):
-        if found := Date.parse(l):
+        if found := Date.parse(l, reading):
             date, date_tokens = found
             # a tail that fails gives its lexemes back
             return DateExpr.dated(l[date_tokens:], date, date_tokens) or (("Date", date), date_tokens)
@@ -200,7 +214,7 @@ class DateExpr:
             if get(l, tokens) == "Ago":
                 return ("Before", duration, "Empty"), tokens + 1
             if get(l, tokens) in ("After", "From"):
-                if found := Date.parse(l[tokens + 1:]):
+                if found := Date.parse(l[tokens + 1:], reading):
                     date, t = found
                     return ("After", duration, date), tokens + 1 + t
                 return None
@@ -276,7 +290,7 @@ class DateExpr:
 
 class Date:
     @staticmethod
-    def parse(l):
+    def parse(l, reading):
         if get(l, 0) in ("Today", "Tomorrow", "Yesterday"):
             return l[0], 1
 
@@ -298,7 +312,9 @@ class Date:
             tokens += t
             if found := Num.parse(l[tokens:]):
                 year, t = found
-                return ("MonthDayYear", month, num, year), tokens + t
+                # 02: a year of four digits in reading 2, and any other number is left to what follows
+                if reading == FIRST or digits_of(year) == 4:
+                    return ("MonthDayYear", month, num, year), tokens + t
             return ("MonthDay", month, num), tokens
 
         if found := Num.parse(l):
@@ -959,6 +975,19 @@ READINGS_TABLE = [
     # with hours or minutes the duration is passed over: "in" is swallowed, and a time of day may follow
     (SECOND, A, "tuesday in an hour", "refused 7 at 11 to 18"),
     (SECOND, A, "tuesday in two weeks and an hour", "refused 7 at 15 to 32"),
+    # the year behind month and day is a run of four digits
+    (FIRST, A, "march 3 5 pm", "refused 7 at 10 to 12"),
+    (SECOND, A, "march 3 5 pm", "2026-03-03 17:00:00"),
+    (SECOND, A, "march 3 2027 5 pm", "2027-03-03 17:00:00"),
+    (SECOND, A, "march 3 0027", "0027-03-03"),
+    (SECOND, A, "march 3 027", "refused 11 at 0 to 0"),
+    (SECOND, A, "march 3 02027", "refused 11 at 0 to 0"),
+    (SECOND, A, "march 3 twenty", "2026-03-03 20:00:00"),
+    (SECOND, A, "march 3 five billion", "refused 6 at 0 to 0"),
+    (SECOND, A, "march 0003 2027", "2027-03-03"),
+    (SECOND, A, "a day after march 3 5 pm", "2026-03-04 17:00:00"),
+    (SECOND, A, "3 march 5", "0005-03-03"),
+    (SECOND, A, "5/2/22", "0022-05-02"),
     # all else is as in reading 1
     (SECOND, A, "tuesday two weeks ago", "2026-01-27"),
     (SECOND, A, "today in two weeks", "2026-02-25"),

@@ -330,6 +330,14 @@ NEAR_AHEAD = [
     "tuesday in thousand and a day",
 ]
 
+# A number behind month and day: runs of one digit to the most that a phrase has room for, and numbers that are no single run
+YEARS = ["5", "05", "27", "027", "0027", "2027", "02027", "00002027", "0000", "0001", "999", "9999", "10000", "4294967295", "04294967295",
+         "4294967296", "twenty", "five", "twenty-five", "twenty 0005", "hundred", "five hundred", "0005 hundred", "2 thousand", "thousand 0005",
+         "2027 thousand", "five billion", "2027st", "5th", "0005th", "0012th", "0100th", "2027/1", "2027-1", "2027 2028"]
+BEHIND_YEARS = ["", "5 pm", "0500 pm", "at noon", ", 5 pm", "5:00", "17:45", ", 2028", "next year", "in a week", "2 weeks ago", "5 weeks"]
+YEAR_PLACES = ["march 3 {}", "march 3rd {}", "march 0003 {}", "march third {}", "march twenty-3 {}", "february 29 {}", "5 pm march 3 {}",
+               "noon on march 3 {}", "a day after march 3 {}", "a day before march 3 {}", "3 march {}", "5/2/{}", "2.5.{}"]
+
 # At every now: month ends and new years, the weekday that the duration reaches, the way on alone
 AHEAD_AT_EVERY_NOW = [f"{day} in a month" for day in WEEKDAYS] + [
     "monday in 0 days", "friday in a day", "saturday in 0 weeks", "sunday in a week", "thursday in two weeks", "wednesday in a year",
@@ -362,10 +370,14 @@ def second_list():
     lines += [(A, phrase) for phrase in NEAR_AHEAD]
     lines += [(A, phrase) for phrase in ahead_limits()]
     lines += [(now, phrase) for now in ahead_nows() for phrase in AHEAD_AT_EVERY_NOW]
-    lines += [(now, phrase) for now in NO_NOWS for phrase in ("tuesday in two weeks", "tuesday in an hour")]
+    lines += [(A, joined("march 3", year, behind)) for year in YEARS for behind in BEHIND_YEARS]
+    lines += [(A, place.format(year)) for place in YEAR_PLACES for year in YEARS]
+    lines += [(A, f"march 3 {year.rjust(length - len('march 3 '), '0')}") for year in ("5", "2027") for length in (255, 256, 257)]
+    lines += [(now, phrase) for now in NO_NOWS for phrase in ("tuesday in two weeks", "tuesday in an hour", "march 3 5 pm")]
     dice = Dice(2)
-    lines += [(dice.pick(NOWS), dice.ahead()) for _ in range(100)]
-    lines += [(dice.pick(NOWS), dice.damaged(dice.ahead())) for _ in range(100)]
+    for made in (dice.ahead, dice.dated):
+        lines += [(dice.pick(NOWS), made()) for _ in range(100)]
+        lines += [(dice.pick(NOWS), dice.damaged(made())) for _ in range(100)]
     return list(dict.fromkeys(as_lines(lines) + fixed_list()[::33]))
 
 
@@ -529,6 +541,18 @@ class Dice:
         elif self.one_in(3):
             phrase += [self.pick(["", ",", "at"]), self.time()]
         for _ in range(self.pick([0, 0, 0, 1, 1, 2])):
+            phrase = [self.duration(), self.pick(["after", "from", "before"]), *phrase]
+        return joined(*phrase)
+
+    def dated(self):
+        """Month and day with a number behind them, which may be their year"""
+        run = str(self.below(self.pick([10, 100, 1000, 10000, 100000]))).rjust(self.pick([0, 0, 2, 3, 4, 4, 5]), "0")
+        phrase = [self.pick(MONTHS), self.near(33), self.pick([run, run, run, self.number()])]
+        if self.one_in(3):
+            phrase += [self.pick(["", ",", "at"]), self.time()]
+        elif self.one_in(6):
+            phrase = [self.time(), self.pick(["", ",", "on"]), *phrase]
+        for _ in range(self.pick([0, 0, 0, 1])):
             phrase = [self.duration(), self.pick(["after", "from", "before"]), *phrase]
         return joined(*phrase)
 

@@ -106,7 +106,7 @@ impl fmt::Display for Moment {
     }
 }
 
-/// The two readings of a phrase. They differ in what "in" behind a weekday means.
+/// The two readings of a phrase. They differ in what "in" behind a weekday means, and in what the year behind month and day is.
 ///
 /// ```
 /// # use fuzzydate::{read, Moment, Reading};
@@ -114,13 +114,16 @@ impl fmt::Display for Moment {
 /// let due = |reading| read(reading, "tuesday in two weeks", wednesday).unwrap().to_string();
 /// assert_eq!(due(Reading::First), "2026-01-27 09:30:15");
 /// assert_eq!(due(Reading::Second), "2026-03-03 09:30:15");
+///
+/// assert!(read(Reading::First, "march 3 5 pm", wednesday).is_err());
+/// assert_eq!(read(Reading::Second, "march 3 5 pm", wednesday).unwrap().to_string(), "2026-03-03 17:00:00");
 /// ```
 #[derive(Clone, Copy, Debug, PartialEq, Eq, Hash)]
 #[repr(u32)]
 pub enum Reading {
-    /// As the Rust library fuzzydate reads it: back in time.
+    /// As the Rust library fuzzydate reads it: "in" goes back in time, and any number is a year.
     First = 1,
-    /// Forward by the duration, and on to the first such weekday, that day included.
+    /// "in" goes forward by the duration, and on to the first such weekday, that day included; a year has four digits.
     Second = 2,
 }
 

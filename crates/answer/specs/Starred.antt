@@ -80,7 +80,8 @@ pub record Under : Type 0 where
 abbrev under : Reading → String → Answer Moment → Under
 under r s a = record { reading = r; case = row A s a }
 
--- "in" behind a weekday under both readings: back to the weekday, or on to it, that day included; "ago" goes back under both
+-- where the readings differ: "in" behind a weekday goes back to the weekday, or on to it, that day included, and "ago" goes back under both;
+-- the year behind month and day is any number, or a run of four digits
 unfoldable pub both : List Under
 both =
     under First "tuesday in two weeks" (day 2026 1 27)
@@ -88,6 +89,11 @@ both =
     ∷ under Second "wednesday in two weeks" (day 2026 2 25)
     ∷ under First "tuesday two weeks ago" (day 2026 1 27)
     ∷ under Second "tuesday two weeks ago" (day 2026 1 27)
+    ∷ under First "march 3 5 pm" (refuse 7 10 12)
+    ∷ under Second "march 3 5 pm" (clock 2026 3 3 17)
+    ∷ under Second "march 3 2027 5 pm" (clock 2027 3 3 17)
+    ∷ under Second "march 3 0027" (day 27 3 3)
+    ∷ under Second "march 3 twenty" (clock 2026 3 3 20)
     ∷ []
 
 -- each phrase answers as the paper's table has it, in the first reading, and as listed in both

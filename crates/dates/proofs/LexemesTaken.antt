@@ -8,6 +8,7 @@ use lib.Dec.{eqb, leb}
 use lib.ListN.{length, drop, length-drop}
 use borrow.Author.Tests.{eqb-true}
 use Rattle.lexer.specs.Lexemes as lexeme
+use Rattle.lexer.specs.declared.reading.Reading.{Reading}
 use Rattle.numbers.specs.Slices.{get, isAt, within, oneIf}
 use Rattle.numbers.specs.Numbers.{beginsNumber, numOf}
 use Rattle.numbers.proofs.LexemeAt.{one-most, within-bounds, at-most, there}
@@ -15,9 +16,9 @@ use Rattle.numbers.proofs.NumberBounds.{first, num-read}
 use Rattle.numbers.proofs.Begins.{no-num}
 use Rattle.dates.specs.Parsed.{nothing, parsedNumber, Took}
 use Rattle.dates.specs.Units.{isArticle, unitOf, monthOf, weekdayOf, relativeSpecifierOf}
-use Rattle.dates.specs.Dates.{namedDayOf, dayMonthYearOf, monthDayOf, isDelim, behindSecondOf, delimitedOf, dateOf}
+use Rattle.dates.specs.Dates.{namedDayOf, dayMonthYearOf, yearOf, monthDayOf, isDelim, behindSecondOf, delimitedOf, dateOf}
 use Rattle.dates.specs.Times.{minuteOf, halfOf, clockOf, timeOf}
-use Rattle.dates.proofs.Parsed.{number-took, nothing-took, pick-took, one-took, or-took, then-took, if-let-took}
+use Rattle.dates.proofs.Parsed.{number-took, nothing-took, pick-took, one-took, or-took, then-took, if-let-took, year-keeps}
 
 pub num-took : (l : List ℕ) → Took (parsedNumber (numOf l)) 1 (length l)
 num-took l = number-took (numOf l) (num-read l)
@@ -131,12 +132,15 @@ day-month-year-took l =
     then-took _ _ (num-took (drop (t + u) l)) (λ year v f g.
     record { bounds = let h = reach l (t + u) v room g in omega arith })))
 
-month-day-took : (month : ℕ) (l : List ℕ) → 1 ≤ length l → Took (monthDayOf month l) 1 (length l)
+year-took : (reading : Reading) (l : List ℕ) → Took (yearOf reading (numOf l)) 1 (length l)
+year-took reading l = year-keeps (λ p. Took p 1 (length l)) nothing-took reading (numOf l) (num-took l)
+
+month-day-took : (reading : Reading) (month : ℕ) (l : List ℕ) → 1 ≤ length l → Took (monthDayOf reading month l) 1 (length l)
 unfolding monthDayOf
-month-day-took month l p =
+month-day-took reading month l p =
     then-took _ _ (num-took (drop 1 l)) (λ num t a b.
     let room = reach l 1 t p b in
-    if-let-took _ _ _ (num-took (drop (1 + t) l))
+    if-let-took _ _ _ (year-took reading (drop (1 + t) l))
     (λ year u d e. record { bounds = let h = reach l (1 + t) u room e in omega arith })
     (record { bounds = omega arith }))
 
@@ -171,10 +175,10 @@ delimited-took l =
     behind-second-took _ _ _ (t + 1 + u) l (omega arith) (reach l (t + 1) u (omega arith) f)))
     (λ e. nothing-took))
 
-pub date-took : (l : List ℕ) → Took (dateOf l) 1 (length l)
+pub date-took : (reading : Reading) (l : List ℕ) → Took (dateOf reading l) 1 (length l)
 unfolding dateOf
-date-took l =
+date-took reading l =
     or-took _ _ (named-day-took l)
     (or-took _ _ (day-month-year-took l)
-    (if-let-took _ _ _ (month-took l) (λ month t a b. month-day-took month l (omega arith))
+    (if-let-took _ _ _ (month-took l) (λ month t a b. month-day-took reading month l (omega arith))
     (delimited-took l)))

@@ -3,3 +3,4 @@ pub mod Parsed
 pub mod LexemesTaken
 pub mod Durations
 pub mod Small
+pub mod Plain

@@ -7,6 +7,7 @@ use native.Mathlib.Omega.{arith}
 use types.Run.{OneOf}
 use denote.Enum.Declared.{tagOf}
 use borrow.Author.Tests.{eqb-false}
+use Rattle.lexer.specs.declared.reading.Reading.{Reading}
 use Rattle.numbers.proofs.NumberFound.{the-type as number-type}
 use Rattle.numbers.proofs.NumberAnswers.{neither}
 use Rattle.numbers.specs.declared.NumberFound.{NumberFound}
@@ -16,7 +17,7 @@ use Rattle.dates.specs.Parsed.{Parsed, is, nothing, overflow, pick, orEl
 use Rattle.dates.proofs.date.DateFound.{the-type as date-type}
 use Rattle.dates.specs.declared.date.DateFound.{DateFound}
 use Rattle.dates.specs.declared.date.DateFound.the-variants.{Is as IsDate, Nothing as NoDate, Overflow as DateOverflow}
-use Rattle.dates.specs.Dates.{parsedDate}
+use Rattle.dates.specs.Dates.{isYearIn, yearOf, parsedDate}
 
 -- the variants of every answer are numbered so
 abbrev pub tag : {A : Type 0} → Parsed A → ℕ
@@ -109,3 +110,13 @@ pub number-took : (w : NumberFound) {k n : ℕ} → Read w k n → Took (parsedN
 number-took (Is a) h = record { bounds = let b = h .bounds in omega arith }
 number-took Nothing h = nothing-took
 number-took Overflow h = record { bounds = tt }
+
+pick-keeps : (P : Parsed ℕ → Type 0) (b : Bool) {x y : Parsed ℕ} → P x → P y → P (pick b x y)
+pick-keeps P true g h = g
+pick-keeps P false g h = h
+
+-- what holds of a number and of nothing holds of a year
+pub year-keeps : (P : Parsed ℕ → Type 0) → P nothing → (reading : Reading) (w : NumberFound) → P (parsedNumber w) → P (yearOf reading w)
+year-keeps P z reading (Is a) h = pick-keeps P (isYearIn reading a) h z
+year-keeps P z reading Nothing h = h
+year-keeps P z reading Overflow h = h

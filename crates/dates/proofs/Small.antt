@@ -7,6 +7,7 @@ use native.Mathlib.Omega.{arith}
 use lib.Dec.{eqb, leb, ltb}
 use lib.ListN.{length, drop}
 use Rattle.lexer.specs.Lexemes as lexeme
+use Rattle.lexer.specs.declared.reading.Reading.{Reading}
 use Rattle.numbers.specs.Slices.{get, isAt, within}
 use Rattle.numbers.specs.Numbers.{numOf}
 use Rattle.numbers.specs.Answers.{Read}
@@ -17,11 +18,12 @@ use Rattle.numbers.proofs.NumberBounds.{num-read}
 use Rattle.numbers.proofs.LexemeAt.{within-bounds}
 use Rattle.dates.specs.Parsed.{Parsed, is, nothing, pick, parsedNumber}
 use Rattle.dates.specs.Units.{isArticle, unitOf, monthOf, weekdayOf}
-use Rattle.dates.specs.Dates.{namedDayOf, dayMonthYearOf, monthDayOf, isDelim, pickDate, threeNumbersOf, twoNumbersOf, behindSecondOf}
-use Rattle.dates.specs.Dates.{delimitedOf, dateOf}
+use Rattle.dates.specs.Dates.{namedDayOf, dayMonthYearOf, yearOf, monthDayOf, isDelim, pickDate, threeNumbersOf, twoNumbersOf}
+use Rattle.dates.specs.Dates.{behindSecondOf, delimitedOf, dateOf}
 use Rattle.dates.specs.Times.{minuteOf, halfOf, clockOf, timeOf}
 use Rattle.dates.specs.Durations.{Duration, part, concat, specificOf, articleOf, concreteOf, durationTurn, durationOf}
 use Rattle.dates.proofs.Each.{Gives, nothing-gives, is-gives, pick-each, pick-gives, or-gives, then-each, then-gives, if-let-gives}
+use Rattle.dates.proofs.Parsed.{year-keeps}
 use Rattle.dates.specs.declared.date.Date.{Date}
 use Rattle.dates.specs.declared.date.Date.the-variants.{YearMonthNumDay, MonthNumDayYear, DayMonthYear, MonthDayYear}
 use Rattle.dates.specs.declared.date.Date.the-variants.{MonthNumDay, MonthDay, Today, Tomorrow, Yesterday, Empty as NoDate}
@@ -100,11 +102,14 @@ day-month-year-small l =
     then-gives _ (month-small (drop t l)) (λ month u b.
     then-gives _ (num-small (drop (t + u) l)) (λ year v c. is-gives (a, b, c))))
 
-month-day-small : (month : ℕ) (l : List ℕ) → Small month → Gives SmallDate (monthDayOf month l)
+year-small : (reading : Reading) (l : List ℕ) → Gives Small (yearOf reading (numOf l))
+year-small reading l = year-keeps (λ p. Gives Small p) nothing-gives reading (numOf l) (num-small l)
+
+month-day-small : (reading : Reading) (month : ℕ) (l : List ℕ) → Small month → Gives SmallDate (monthDayOf reading month l)
 unfolding monthDayOf
-month-day-small month l a =
+month-day-small reading month l a =
     then-gives _ (num-small (drop 1 l)) (λ num t b.
-    if-let-gives _ (num-small (drop (1 + t) l)) (λ year u c. is-gives (a, b, c)) (is-gives (a, b)))
+    if-let-gives _ (year-small reading (drop (1 + t) l)) (λ year u c. is-gives (a, b, c)) (is-gives (a, b)))
 
 -- `if`, of dates
 pick-small : (b : Bool) (d e : Date) → SmallDate d → SmallDate e → SmallDate (pickDate b d e)
@@ -129,12 +134,12 @@ delimited-small l =
     nothing-gives)
 
 -- a date
-pub date-small : (l : List ℕ) → Gives SmallDate (dateOf l)
+pub date-small : (reading : Reading) (l : List ℕ) → Gives SmallDate (dateOf reading l)
 unfolding dateOf
-date-small l =
+date-small reading l =
     or-gives _ (named-day-small l)
     (or-gives _ (day-month-year-small l)
-    (if-let-gives _ (month-small l) (λ month t a. month-day-small month l a) (delimited-small l)))
+    (if-let-gives _ (month-small l) (λ month t a. month-day-small reading month l a) (delimited-small l)))
 
 minute-small : (l : List ℕ) → Gives Small (minuteOf l)
 unfolding minuteOf

@@ -5,6 +5,7 @@ use mathlib.Core.Bool.{Bool, true, false}
 use mathlib.Core.List.{List, [], _∷_, map}
 use Prim.Native.Nat.{ℕ}
 use Rattle.lexer.specs.Lexemes as lexeme
+use Rattle.lexer.specs.declared.reading.Reading.the-variants.{First}
 use Rattle.numbers.specs.Slices.{get, isAt, within}
 use Rattle.numbers.specs.Answers.{fitsOf}
 use Rattle.numbers.specs.Numbers.{isEnding, wordOf, literalOf, onesOf, teensOf, tensOf, tensOnesOf, numDoubleOf, sumOf, tailOf, hundredsOf}
@@ -168,9 +169,9 @@ words =
     ∷ noSense (Num 5)
     ∷ []
 
--- what the readers make of the lexemes of a row, and of a word
+-- what the readers make of the lexemes of a row, in the first reading, and of a word
 abbrev readCase : Case → Case
-readCase c = row (c .lexemes) (dateOf (c .lexemes)) (timeOf (c .lexemes))
+readCase c = row (c .lexemes) (dateOf First (c .lexemes)) (timeOf (c .lexemes))
 
 abbrev readWord : Word → Word
 readWord w =

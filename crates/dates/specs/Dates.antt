@@ -1,10 +1,15 @@
--- `Date::parse`, alternatives in the text's order.
+-- `Date::parse`, alternatives in the text's order, under either reading: the first is the Rust's.
 use Prim.Native.Nat.{ℕ, _+_}
 use mathlib.Core.Bool.{Bool, true, false, _||_}
 use mathlib.Core.List.{List}
 use lib.Dec.{eqb, leb, ltb}
 use lib.ListN.{length, drop}
 use Rattle.lexer.specs.Lexemes as lexeme
+use Rattle.lexer.specs.declared.reading.Reading.{Reading}
+use Rattle.lexer.specs.declared.reading.Reading.the-variants.{First, Second}
+use Rattle.numbers.specs.declared.Number.{Number}
+use Rattle.numbers.specs.declared.NumberFound.{NumberFound}
+use Rattle.numbers.specs.declared.NumberFound.the-variants.{Is as IsNumber, Nothing as NoNumber, Overflow as LargeNumber}
 use Rattle.numbers.specs.Slices.{get, isAt}
 use Rattle.numbers.specs.Numbers.{numOf}
 use Rattle.dates.specs.Parsed.{Parsed, is, nothing, overflow, pick, orElse, ifLet, andThen, parsedNumber}
@@ -30,11 +35,22 @@ dayMonthYearOf l =
     andThen (parsedNumber (numOf (drop (t + u) l))) (λ year v.
     is (DayMonthYear day month year) (t + u + v))))
 
+-- whether a number behind month and day is their year: in the second reading only a run of four digits is
+abbrev pub isYearIn : Reading → Number → Bool
+isYearIn First n = true
+isYearIn Second n = eqb (n .digits) 4
+
+-- a number behind month and day as their year; any other is left to what follows
+abbrev pub yearOf : Reading → NumberFound → Parsed ℕ
+yearOf reading (IsNumber n) = pick (isYearIn reading n) (is (n .value) (n .taken)) nothing
+yearOf reading NoNumber = nothing
+yearOf reading LargeNumber = overflow
+
 -- <month> <num> [<num>]: behind a month with no number the whole of `Date::parse` leaves at once
-unfoldable pub monthDayOf : ℕ → List ℕ → Parsed Date
-monthDayOf month l =
+unfoldable pub monthDayOf : Reading → ℕ → List ℕ → Parsed Date
+monthDayOf reading month l =
     andThen (parsedNumber (numOf (drop 1 l))) (λ num t.
-    ifLet (parsedNumber (numOf (drop (1 + t) l)))
+    ifLet (yearOf reading (numOf (drop (1 + t) l)))
     (λ year u. is (MonthDayYear month num year) (1 + t + u))
     (is (MonthDay month num) (1 + t)))
 
@@ -76,11 +92,11 @@ delimitedOf l =
     nothing)
 
 -- `Date::parse`
-unfoldable pub dateOf : List ℕ → Parsed Date
-dateOf l =
+unfoldable pub dateOf : Reading → List ℕ → Parsed Date
+dateOf reading l =
     orElse (namedDayOf l)
     (orElse (dayMonthYearOf l)
-    (ifLet (monthOf l) (λ month t. monthDayOf month l)
+    (ifLet (monthOf l) (λ month t. monthDayOf reading month l)
     (delimitedOf l)))
 
 -- the code's answer

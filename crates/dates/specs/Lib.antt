@@ -5,4 +5,5 @@ pub mod Dates
 pub mod Times
 pub mod Rows
 pub mod DurationCases
+pub mod YearCases
 pub mod Cases

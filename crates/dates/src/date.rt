@@ -7,6 +7,8 @@ use lexer::lexeme::SLASH;
 use lexer::lexeme::TODAY;
 use lexer::lexeme::TOMORROW;
 use lexer::lexeme::YESTERDAY;
+use lexer::reading::Reading;
+use numbers::Number;
 use numbers::NumberFound;
 use numbers::num;
 use numbers::slices::get;
@@ -18,7 +20,7 @@ ghost use lib.ListN.{length};
 ghost use Rattle.numbers.specs.Answers.{Read};
 ghost use Rattle.numbers.specs.Numbers.{numOf};
 ghost use Rattle.dates.specs.Parsed.{Took, stopped, parsedNumber};
-ghost use Rattle.dates.specs.Dates.{namedDayOf, dayMonthYearOf, monthDayOf, isDelim, threeNumbersOf, twoNumbersOf, behindSecondOf, delimitedOf, dateOf, parsedDate};
+ghost use Rattle.dates.specs.Dates.{namedDayOf, dayMonthYearOf, isYearIn, monthDayOf, isDelim, threeNumbersOf, twoNumbersOf, behindSecondOf, delimitedOf, dateOf, parsedDate};
 
 // `enum Date`; a month is a number from 1 on.
 pub enum Date {
@@ -89,10 +91,20 @@ fn read_day_month_year(l: &[u64], a: NumberFound) -> DateFound
     )
 }
 
+// Is a number behind month and day their year? In the second reading only a run of four digits is.
+fn is_year_in(reading: Reading, n: Number) -> bool
+    ensures { λ r. ⌜ r ≡ isYearIn reading n ⌝ }
+{
+    match reading {
+        Reading::First => true,
+        Reading::Second => n.digits == 4,
+    }
+}
+
 // <month> <num> [<num>], the month being read: with no number behind it there is no date.
-fn read_month_day(l: &[u64], month: u32) -> DateFound
+fn read_month_day(reading: Reading, l: &[u64], month: u32) -> DateFound
     requires { ⌜ 1 ≤ length (now l) ⌝ }
-    ensures { λ r. ⌜ parsedDate r ≡ monthDayOf month (now (l .entry)) ⌝ }
+    ensures { λ r. ⌜ parsedDate r ≡ monthDayOf reading month (now (l .entry)) ⌝ }
 {
     let a = num(rest(l, 1));
     let NumberFound::Is(day) = a else {
@@ -100,10 +112,15 @@ fn read_month_day(l: &[u64], month: u32) -> DateFound
     };
     let t = 1 + day.taken;
     match num(rest(l, t)) {
-        NumberFound::Is(year) => DateFound::Is(
-            Date::MonthDayYear(month, day.value, year.value),
-            t + year.taken,
-        ),
+        NumberFound::Is(year) => {
+            if is_year_in(reading, year) {
+                return DateFound::Is(
+                    Date::MonthDayYear(month, day.value, year.value),
+                    t + year.taken,
+                );
+            }
+            DateFound::Is(Date::MonthDay(month, day.value), t)
+        }
         NumberFound::Nothing => DateFound::Is(Date::MonthDay(month, day.value), t),
         NumberFound::Overflow => DateFound::Overflow,
     }
@@ -186,8 +203,8 @@ fn read_delimited(l: &[u64], a: NumberFound) -> DateFound
 }
 
 // Date::parse; the number at the front is read once for both alternatives that begin with it.
-pub fn read_date(l: &[u64]) -> DateFound
-    ensures { λ r. ⌜ parsedDate r ≡ dateOf (now (l .entry)) ⌝ }
+pub fn read_date(reading: Reading, l: &[u64]) -> DateFound
+    ensures { λ r. ⌜ parsedDate r ≡ dateOf reading (now (l .entry)) ⌝ }
     ensures { λ r. ⌜ Took (parsedDate r) 1 (length (now (l .entry))) ⌝ }
 {
     let a = read_named_day(l);
@@ -202,5 +219,5 @@ pub fn read_date(l: &[u64]) -> DateFound
     let MonthFound::Is(month) = read_month(l) else {
         return read_delimited(l, first);
     };
-    read_month_day(l, month)
+    read_month_day(reading, l, month)
 }

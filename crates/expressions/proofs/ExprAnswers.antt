@@ -24,9 +24,9 @@ counted l p nothing h = record { bounds = tt }
 counted l p overflow h = record { bounds = tt }
 
 -- what `read_expr` promises
-pub expr-promised : {r : ExprTaken} (reading : Reading) (l : List ℕ) → r ≡ exprAnswer l (dateExprOf reading l)
-    → (r ≡ exprAnswer l (dateExprOf reading l)) × ExprCounted r (length l)
-expr-promised reading l e = (e, rw e (counted l (exprPlace l) (dateExprOf reading l) (expr-few reading l)))
+pub expr-promised : {r : ExprTaken} (reading : Reading) (l : List ℕ) → r ≡ exprAnswer reading l (dateExprOf reading l)
+    → (r ≡ exprAnswer reading l (dateExprOf reading l)) × ExprCounted r (length l)
+expr-promised reading l e = (e, rw e (counted l (exprPlace reading l) (dateExprOf reading l) (expr-few reading l)))
 
 -- behind the last lexeme stands no tail
 pub tail-none : (l : List ℕ) (t : ℕ) → length l ≤ t → tailOf (drop t l) ≡ nothing

@@ -1,3 +1,4 @@
 pub mod OwnDuration
 pub mod ExprAnswers
 pub mod Small
+pub mod Plain

@@ -138,16 +138,16 @@ behind l {t = t} x u e f a =
     let left = length-drop (t + 1) l in
     held l 0 (t + 1 + u) e (omega arith) (omega arith) (omega arith)
 
-with-duration-read : (l : List ℕ) (dur : Duration) (t : ℕ) → durationOf l ≡ is dur t → Each (ExprRead l 0) (withDurationOf dur t l)
+with-duration-read : (reading : Reading) (l : List ℕ) (dur : Duration) (t : ℕ) → durationOf l ≡ is dur t → Each (ExprRead l 0) (withDurationOf reading dur t l)
 unfolding withDurationOf
-with-duration-read l dur t e =
+with-duration-read reading l dur t e =
     pick-each (isSubDaily dur) (λ f. record { bounds = tt })
     (λ f. pick-each (isAt l t lexeme.Ago) (λ g. record { bounds = rw (← (add-zero (t + 1))) (behind l lexeme.Ago 0 e g (omega arith)) })
     (λ g. pick-each (isAt l t lexeme.After) (dated lexeme.After)
     (λ h. pick-each (isAt l t lexeme.From) (dated lexeme.From) (λ i. record { bounds = tt }))))
   where
-    dated : (x : ℕ) → isAt l t x ≡ true → Each (ExprRead l 0) (andThen (dateOf (drop (t + 1) l)) (λ d u. is (after dur d) (t + 1 + u)))
-    dated x f = then-each _ _ (λ d u g. record { bounds = behind l x u e f (found g (date-took (drop (t + 1) l)) .1) })
+    dated : (x : ℕ) → isAt l t x ≡ true → Each (ExprRead l 0) (andThen (dateOf reading (drop (t + 1) l)) (λ d u. is (after dur d) (t + 1 + u)))
+    dated x f = then-each _ _ (λ d u g. record { bounds = behind l x u e f (found g (date-took reading (drop (t + 1) l)) .1) })
 
 relative-read : (l : List ℕ) → Each (ExprRead l 0) (relativeExprOf l)
 unfolding relativeExprOf
@@ -168,14 +168,14 @@ weekday-read reading l =
 undated-read : (reading : Reading) (l : List ℕ) → Each (ExprRead l (undatedPlace l)) (undatedOf reading l)
 unfolding undatedOf
 undated-read reading l =
-    let-each (λ w. ExprRead l (placeLet w (λ t. 0) (weekdayPlace l))) (durationOf l) _ _ (with-duration-read l) (weekday-read reading l)
+    let-each (λ w. ExprRead l (placeLet w (λ t. 0) (weekdayPlace l))) (durationOf l) _ _ (with-duration-read reading l) (weekday-read reading l)
 
 -- a date expression
-pub expr-few : (reading : Reading) (l : List ℕ) → Each (ExprRead l (exprPlace l)) (dateExprOf reading l)
+pub expr-few : (reading : Reading) (l : List ℕ) → Each (ExprRead l (exprPlace reading l)) (dateExprOf reading l)
 unfolding dateExprOf
 expr-few reading l =
-    let-each (λ w. ExprRead l (placeLet w (tailAt l) (undatedPlace l))) (dateOf l) _ _
-    (λ d t e. let a = found e (date-took l) in head-read l t a _ _ refl (date-tailed l t a d))
+    let-each (λ w. ExprRead l (placeLet w (tailAt l) (undatedPlace l))) (dateOf reading l) _ _
+    (λ d t e. let a = found e (date-took reading l) in head-read l t a _ _ refl (date-tailed l t a d))
     (undated-read reading l)
 
 -- the row has as many parts more as the date expression

@@ -67,17 +67,17 @@ weekday-tail First w t (inside dur) u a b = is-gives (a, b)
 weekday-tail Second w t (inside dur) u a b = is-gives (a, b)
 weekday-tail reading w t stray u a b = is-gives a
 
-after-small : (dur : Duration) (t : ℕ) (l : List ℕ) → SmallDuration dur →
-    Gives SmallExpr (andThen (dateOf (drop (t + 1) l)) (λ d u. is (after dur d) (t + 1 + u)))
-after-small dur t l a = then-gives _ (date-small (drop (t + 1) l)) (λ d u b. is-gives (b, a))
+after-small : (reading : Reading) (dur : Duration) (t : ℕ) (l : List ℕ) → SmallDuration dur →
+    Gives SmallExpr (andThen (dateOf reading (drop (t + 1) l)) (λ d u. is (after dur d) (t + 1 + u)))
+after-small reading dur t l a = then-gives _ (date-small reading (drop (t + 1) l)) (λ d u b. is-gives (b, a))
 
-with-duration-small : (dur : Duration) (t : ℕ) (l : List ℕ) → SmallDuration dur → Gives SmallExpr (withDurationOf dur t l)
+with-duration-small : (reading : Reading) (dur : Duration) (t : ℕ) (l : List ℕ) → SmallDuration dur → Gives SmallExpr (withDurationOf reading dur t l)
 unfolding withDurationOf
-with-duration-small dur t l a =
+with-duration-small reading dur t l a =
     pick-gives (isSubDaily dur) nothing-gives
     (pick-gives (isAt l t lexeme.Ago) (is-gives (tt, a))
-    (pick-gives (isAt l t lexeme.After) (after-small dur t l a)
-    (pick-gives (isAt l t lexeme.From) (after-small dur t l a) nothing-gives)))
+    (pick-gives (isAt l t lexeme.After) (after-small reading dur t l a)
+    (pick-gives (isAt l t lexeme.From) (after-small reading dur t l a) nothing-gives)))
 
 weekday-expr-small : (reading : Reading) (l : List ℕ) → Gives SmallExpr (weekdayExprOf reading l)
 unfolding weekdayExprOf relativeExprOf
@@ -92,6 +92,6 @@ weekday-expr-small reading l =
 pub expr-small : (reading : Reading) (l : List ℕ) → Gives SmallExpr (dateExprOf reading l)
 unfolding dateExprOf undatedOf
 expr-small reading l =
-    if-let-gives _ (date-small l)
+    if-let-gives _ (date-small reading l)
     (λ d t a. if-let-gives _ (tail-small (drop t l)) (λ x u b. date-tail d t x u a b) (is-gives a))
-    (if-let-gives _ (duration-small l) (λ dur t a. with-duration-small dur t l a) (weekday-expr-small reading l))
+    (if-let-gives _ (duration-small l) (λ dur t a. with-duration-small reading dur t l a) (weekday-expr-small reading l))

@@ -66,12 +66,12 @@ withWeekday reading w t (inside duration) u = is (weekdayIn reading w duration) 
 withWeekday reading w t stray u = is (weekday w) (t + u)
 
 -- <duration> ago | <duration> after <date> | <duration> from <date>, behind a duration of t lexemes; a sub-daily one is given up
-unfoldable pub withDurationOf : Duration → ℕ → List ℕ → Parsed DateExpr
-withDurationOf duration t l =
+unfoldable pub withDurationOf : Reading → Duration → ℕ → List ℕ → Parsed DateExpr
+withDurationOf reading duration t l =
     pick (isSubDaily duration) nothing
     (pick (isAt l t lexeme.Ago) (is (before duration Empty) (t + 1))
-    (pick (isAt l t lexeme.After) (andThen (dateOf (drop (t + 1) l)) (λ d u. is (after duration d) (t + 1 + u)))
-    (pick (isAt l t lexeme.From) (andThen (dateOf (drop (t + 1) l)) (λ d u. is (after duration d) (t + 1 + u)))
+    (pick (isAt l t lexeme.After) (andThen (dateOf reading (drop (t + 1) l)) (λ d u. is (after duration d) (t + 1 + u)))
+    (pick (isAt l t lexeme.From) (andThen (dateOf reading (drop (t + 1) l)) (λ d u. is (after duration d) (t + 1 + u)))
     nothing)))
 
 -- <relative_specifier> <weekday> | <relative_specifier> <unit>
@@ -89,8 +89,8 @@ weekdayExprOf reading l =
 
 -- from the duration on
 unfoldable pub undatedOf : Reading → List ℕ → Parsed DateExpr
-undatedOf reading l = ifLet (durationOf l) (λ duration t. withDurationOf duration t l) (weekdayExprOf reading l)
+undatedOf reading l = ifLet (durationOf l) (λ duration t. withDurationOf reading duration t l) (weekdayExprOf reading l)
 
 -- `DateExpr::parse`
 unfoldable pub dateExprOf : Reading → List ℕ → Parsed DateExpr
-dateExprOf reading l = ifLet (dateOf l) (λ d t. ifLet (tailOf (drop t l)) (withDate d t) (is (date d) t)) (undatedOf reading l)
+dateExprOf reading l = ifLet (dateOf reading l) (λ d t. ifLet (tailOf (drop t l)) (withDate d t) (is (date d) t)) (undatedOf reading l)

@@ -2,6 +2,7 @@
 use Prim.Native.Nat.{ℕ, _+_, _≤_}
 use mathlib.Core.List.{List}
 use lib.ListN.{drop}
+use Rattle.lexer.specs.declared.reading.Reading.{Reading}
 use Rattle.dates.specs.Parsed.{Parsed, is, nothing, overflow, ifLet}
 use Rattle.dates.specs.Units.{weekdayOf}
 use Rattle.dates.specs.Durations.{durationOf}
@@ -42,16 +43,16 @@ abbrev pub undatedPlace : List ℕ → ℕ
 undatedPlace l = placeLet (durationOf l) (λ t. 0) (weekdayPlace l)
 
 -- of a whole date expression
-abbrev pub exprPlace : List ℕ → ℕ
-exprPlace l = placeLet (dateOf l) (tailAt l) (undatedPlace l)
+abbrev pub exprPlace : Reading → List ℕ → ℕ
+exprPlace reading l = placeLet (dateOf reading l) (tailAt l) (undatedPlace l)
 
 -- p for a date expression with a duration, 0 for one without
 abbrev pub placeAt : ℕ → DateExpr → ℕ
 placeAt p x = ofOwn 0 (λ dur. p) (ownOf x)
 
 -- where the duration of a date expression begins among the lexemes that it was read of
-abbrev pub ownPlace : List ℕ → DateExpr → ℕ
-ownPlace l x = placeAt (exprPlace l) x
+abbrev pub ownPlace : Reading → List ℕ → DateExpr → ℕ
+ownPlace reading l x = placeAt (exprPlace reading l) x
 
 -- the code's answer, whose duration begins at p
 abbrev pub answerAt : ℕ → Parsed DateExpr → ExprTaken
@@ -59,9 +60,9 @@ answerAt p (is x t) = Is (shape x) t (placeAt p x)
 answerAt p nothing = Nothing
 answerAt p overflow = Overflow
 
--- the code's answer for a date expression that was read of l: `Is (shape x) t (ownPlace l x)` of `is x t`
-abbrev pub exprAnswer : List ℕ → Parsed DateExpr → ExprTaken
-exprAnswer l w = answerAt (exprPlace l) w
+-- the code's answer for a date expression that was read of l: `Is (shape x) t (ownPlace reading l x)` of `is x t`
+abbrev pub exprAnswer : Reading → List ℕ → Parsed DateExpr → ExprTaken
+exprAnswer reading l w = answerAt (exprPlace reading l) w
 
 -- a head with the tail that was read behind it
 abbrev pub withHead : Head → ℕ → Tail → ℕ → Parsed DateExpr

@@ -201,11 +201,11 @@ fn expr_stopped(a: DateFound) -> ExprTaken
 }
 
 // after <date> | from <date>: the date behind a duration and its connection, which end at t
-fn read_after(l: &[u64], t: usize) -> ExprTaken
+fn read_after(reading: Reading, l: &[u64], t: usize) -> ExprTaken
     requires { ⌜ t ≤ length (now l) ⌝ }
-    ensures { λ r. ⌜ ((dur : Duration) → r ≡ answerAt 0 (andThen (dateOf (drop t (now (l .entry)))) (λ d u. is (after dur d) (t + u)))) ⌝ }
+    ensures { λ r. ⌜ ((dur : Duration) → r ≡ answerAt 0 (andThen (dateOf reading (drop t (now (l .entry)))) (λ d u. is (after dur d) (t + u)))) ⌝ }
 {
-    let a = read_date(rest(l, t));
+    let a = read_date(reading, rest(l, t));
     let DateFound::Is(d, u) = a else {
         return expr_stopped(a);
     };
@@ -213,9 +213,9 @@ fn read_after(l: &[u64], t: usize) -> ExprTaken
 }
 
 // What stands behind a duration of t lexemes; a sub-daily one is given up.
-fn with_duration(l: &[u64], t: usize, sub_daily: bool) -> ExprTaken
+fn with_duration(reading: Reading, l: &[u64], t: usize, sub_daily: bool) -> ExprTaken
     requires { ⌜ t ≤ length (now l) ⌝ }
-    ensures { λ r. ⌜ ((dur : Duration) → isSubDaily dur ≡ «sub_daily» → r ≡ answerAt 0 (withDurationOf dur t (now (l .entry)))) ⌝ }
+    ensures { λ r. ⌜ ((dur : Duration) → isSubDaily dur ≡ «sub_daily» → r ≡ answerAt 0 (withDurationOf reading dur t (now (l .entry)))) ⌝ }
 {
     if sub_daily {
         return ExprTaken::Nothing;
@@ -224,10 +224,10 @@ fn with_duration(l: &[u64], t: usize, sub_daily: bool) -> ExprTaken
         return ExprTaken::Is(Expr::Before(Date::Empty), t + 1, 0);
     }
     if is_at(l, t, AFTER) {
-        return read_after(l, t + 1);
+        return read_after(reading, l, t + 1);
     }
     if is_at(l, t, FROM) {
-        return read_after(l, t + 1);
+        return read_after(reading, l, t + 1);
     }
     ExprTaken::Nothing
 }
@@ -267,7 +267,7 @@ fn read_undated(reading: Reading, l: &[u64]) -> ExprTaken
         Taken::Is {
             taken: t,
             sub_daily,
-        } => with_duration(l, t, sub_daily),
+        } => with_duration(reading, l, t, sub_daily),
         Taken::Nothing => read_weekday_expr(reading, l),
         Taken::Overflow => ExprTaken::Overflow,
     }
@@ -275,10 +275,10 @@ fn read_undated(reading: Reading, l: &[u64]) -> ExprTaken
 
 // DateExpr::parse: its shape, and where its duration begins
 pub fn read_expr(reading: Reading, l: &[u64]) -> ExprTaken
-    ensures { λ r. ⌜ r ≡ exprAnswer (now (l .entry)) (dateExprOf reading (now (l .entry))) ⌝ }
+    ensures { λ r. ⌜ r ≡ exprAnswer reading (now (l .entry)) (dateExprOf reading (now (l .entry))) ⌝ }
     ensures { λ r. ⌜ ExprCounted r (length (now (l .entry))) ⌝ }
 {
-    match read_date(l) {
+    match read_date(reading, l) {
         DateFound::Is(d, t) => read_tail(l, Head::Date(d), t),
         DateFound::Nothing => read_undated(reading, l),
         DateFound::Overflow => ExprTaken::Overflow,

@@ -1,7 +1,7 @@
 -- Worked examples, computed. Assumes nothing.
 use mathlib.Core.Path.{_≡_, refl}
 use mathlib.Core.List.{List, [], _∷_, map}
-use Prim.Native.Nat.{ℕ, _+_}
+use Prim.Native.Nat.{ℕ, _+_, _*_}
 use Prim.Native.Char.{code}
 use lib.ListN.{replicate}
 use Rattle.lexer.specs.Lexemes.{Fifty, Dash, Five, Day, From, January, Comma, Colon, NUM}
@@ -24,7 +24,7 @@ reads s r = record { phrase = s; answer = r }
 abbrev mixed : List Item
 mixed =
     item Fifty 0 ∷ item Dash 5 ∷ item Five 6 ∷ item Day 11 ∷ item From 16 ∷ item January 21
-    ∷ item (NUM + 1) 29 ∷ item Comma 30 ∷ item (NUM + 2010) 32 ∷ item (NUM + 5) 37 ∷ item Colon 38 ∷ item (NUM + 0) 39 ∷ []
+    ∷ item (NUM * 1 + 1) 29 ∷ item Comma 30 ∷ item (NUM * 4 + 2010) 32 ∷ item (NUM * 1 + 5) 37 ∷ item Colon 38 ∷ item (NUM * 2 + 0) 39 ∷ []
 
 abbrev examples : List Example
 examples =
@@ -34,6 +34,8 @@ examples =
     reads (bytesOf "5 + 5") (refuse refusal.Unknown 2 3) ∷
     -- the largest number is taken, the next one is not
     reads (bytesOf "04294967295 4294967296") (refuse refusal.LargeDigits 12 22) ∷
+    -- leading zeros are digits of the run
+    reads (bytesOf "0005 00") (given (item (NUM * 4 + 5) 0 ∷ item (NUM * 2 + 0) 5 ∷ [])) ∷
     -- 65 lexemes
     reads (replicate 65 (code ",")) (refuse refusal.TooMany 64 65) ∷
     -- 256 bytes, and 257

@@ -9,4 +9,5 @@ pub mod Rows
 pub mod Runs
 pub mod Lines
 pub mod Places
+pub mod Written
 pub mod Examples

@@ -2,7 +2,7 @@
 use mathlib.Core.Path.{_≡_, refl}
 use mathlib.Core.Bool.{Bool, true, false, cond}
 use mathlib.Core.List.{List, [], _∷_}
-use Prim.Native.Nat.{ℕ, zero, suc, _+_, _≤_, _<_, min, zero-le, suc-le-suc}
+use Prim.Native.Nat.{ℕ, zero, suc, _+_, _*_, _-_, _≤_, _<_, min, zero-le, suc-le-suc}
 use native.Mathlib.Nat.{not-suc-le-zero, le-of-suc-le-suc}
 use native.Mathlib.Omega.{arith}
 use lib.Dec.{eqb, leb, ltb}
@@ -14,7 +14,7 @@ use Rattle.lexer.specs.Classes.{Gap, Letter, Digit, Mark, classOf, markO
 use Rattle.refusals.specs.Table as refusal
 use Rattle.refusals.specs.Answers.{refusalAt, refuse, between}
 use Rattle.refusals.proofs.Holds.{Holds, of-given, of-refusal, Bounded, then-holds}
-use Rattle.lexer.specs.Lex.{runEnd, numberFrom, ofWord, ofNumber, wordAt, numberAt, tokenOf, tokenFrom, tokenAt}
+use Rattle.lexer.specs.Lex.{runEnd, saidDigits, numberFrom, ofWord, ofNumber, wordAt, numberAt, tokenOf, tokenFrom, tokenAt}
 use Rattle.lexer.specs.Lex.{Item, item, Lexed, ahead, ifTaken, lexFrom, lexed, ifLexeme, frontFrom, front, startsOf, endedOf, Placed}
 use Rattle.lexer.specs.declared.find.Found.{Found}
 use Rattle.lexer.specs.declared.find.Found.the-variants.{Lexeme, Unknown}
@@ -42,7 +42,7 @@ within-word Unknown a e n p = omega arith
 within-number : (v a e n : ℕ) → Part a e n → Within n (ofNumber v a e)
 within-number v a e n p = go (leb v 4294967295)
   where
-    go : (b : Bool) → Within n (cond b (Taken (NUM + v) a e) (Refused (refusalAt refusal.LargeDigits a e)))
+    go : (b : Bool) → Within n (cond b (Taken (NUM * saidDigits (e - a) + v) a e) (Refused (refusalAt refusal.LargeDigits a e)))
     go true = p
     go false = omega arith
 

@@ -1,5 +1,5 @@
 -- How a phrase is cut into lexemes. Assumes nothing.
-use Prim.Native.Nat.{ℕ, suc, zero, _+_, _-_, _≤_, min}
+use Prim.Native.Nat.{ℕ, suc, zero, _+_, _*_, _-_, _≤_, min}
 use mathlib.Core.Bool.{Bool, false, cond}
 use mathlib.Core.List.{List, [], _∷_, _++_, map}
 use lib.Dec.{ltb, leb, eqb}
@@ -33,9 +33,13 @@ abbrev pub ofWord : Found → ℕ → ℕ → Token
 ofWord (Lexeme l) a e = Taken l a e
 ofWord Unknown a e = Refused (refusalAt refusal.Unknown a e)
 
--- `stack.parse::<u32>()`: a number from a to e by its value, however long it is
+-- how many digits a literal says of a run of n: a phrase that is read has no run of more than 256
+abbrev pub saidDigits : ℕ → ℕ
+saidDigits n = min n 256
+
+-- `stack.parse::<u32>()`: a number from a to e by its value, however long it is, and the digits that it was written with
 abbrev pub ofNumber : ℕ → ℕ → ℕ → Token
-ofNumber v a e = cond (leb v 4294967295) (Taken (NUM + v) a e) (Refused (refusalAt refusal.LargeDigits a e))
+ofNumber v a e = cond (leb v 4294967295) (Taken (NUM * saidDigits (e - a) + v) a e) (Refused (refusalAt refusal.LargeDigits a e))
 
 -- "a run of letters is one word": the one that begins at a, as it is looked up
 abbrev pub wordFrom : List ℕ → ℕ → List ℕ

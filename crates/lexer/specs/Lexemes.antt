@@ -1,6 +1,6 @@
 -- The Rust's lexemes as numbers: a number word is its value, every other word and mark has a code from 100 on in the order of
--- the Rust's enum, and the literal n is NUM + n. No lexeme is 0: that stands for what is past the end.
-use Prim.Native.Nat.{ℕ}
+-- the Rust's enum, and the literal n of k digits is NUM * k + n. No lexeme is 0: that stands for what is past the end.
+use Prim.Native.Nat.{ℕ, _/_, _%_}
 
 -- `Lexeme::One`
 abbrev pub One : ℕ
@@ -354,6 +354,14 @@ RD = 159
 abbrev pub TH : ℕ
 TH = 160
 
--- `Lexeme::Num(n)` is NUM + n
+-- `Lexeme::Num(n)`, written with k digits, is NUM * k + n: both are read off by division
 abbrev pub NUM : ℕ
-NUM = 1000
+NUM = 4294967296
+
+-- the n of a literal
+abbrev pub valueOf : ℕ → ℕ
+valueOf x = x % NUM
+
+-- the digits of a literal's run, leading zeros counted; no other lexeme has any
+abbrev pub digitsOf : ℕ → ℕ
+digitsOf x = x / NUM

@@ -25,7 +25,7 @@ ghost use lib.ListN.{length};
 ghost use lib.Seq.{sets};
 ghost use Rattle.lexer.specs.Keywords.{keywords};
 ghost use Rattle.lexer.specs.Table.{sorted, cells};
-ghost use Rattle.lexer.specs.Lex.{isDigitAt, wordAt, numberAt, tokenAt};
+ghost use Rattle.lexer.specs.Lex.{isDigitAt, saidDigits, wordAt, numberAt, tokenAt};
 ghost use Rattle.lexer.specs.Lex.{lexed, front, codesOf, startsOf, endedOf, Placed};
 ghost use Rattle.refusals.specs.Answers.{refuse};
 
@@ -85,6 +85,13 @@ fn word_at(words: &[u8; 2128], s: &[u8], a: usize) -> Token
     }
 }
 
+// How many digits a literal says of a run of n.
+fn said_digits(n: usize) -> u64
+    ensures { λ r. ⌜ r ≡ saidDigits n ⌝ }
+{
+    if n < 256 { n as u64 } else { 256 }
+}
+
 // The number that begins at a.
 fn number_at(s: &[u8], a: usize) -> Token
     ensures { λ r. ⌜ r ≡ numberAt (now (s .entry)) a ⌝ }
@@ -97,7 +104,7 @@ fn number_at(s: &[u8], a: usize) -> Token
     }
     if v < TOO_LARGE {
         return Token::Taken {
-            code: NUM + v,
+            code: NUM * said_digits(e - a) + v,
             start: a,
             end: e,
         };

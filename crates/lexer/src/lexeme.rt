@@ -1,5 +1,5 @@
 // The lexeme codes: a number word is its value (one is 1, ninety is 90), every other word and mark has its code here,
-// in the order of the Rust's enum, and the literal n is NUM + n. 0 stands for what is past the end.
+// in the order of the Rust's enum, and the literal n of k digits is NUM * k + n. 0 stands for what is past the end.
 
 pub const A: u64 = 100;
 
@@ -123,4 +123,4 @@ pub const RD: u64 = 159;
 
 pub const TH: u64 = 160;
 
-pub const NUM: u64 = 1000;
+pub const NUM: u64 = 4294967296;

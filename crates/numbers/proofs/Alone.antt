@@ -1,21 +1,22 @@
 -- A literal, or a word up to nineteen, with nothing behind it that could belong to it: all alternatives that read it agree.
 use mathlib.Core.Path.{_≡_, refl, sym}
-use mathlib.Core.Bool.{Bool, true, false}
+use mathlib.Core.Bool.{Bool, true, false, _&&_}
 use mathlib.Core.List.{List}
 use mathlib.Core.Logic.{_⊎_, inl, inr, ⊎-elim}
-use Prim.Native.Nat.{ℕ, _+_, _-_, _≤_, _<_}
+use Prim.Native.Nat.{ℕ, _≤_, _<_}
 use native.Mathlib.Omega.{arith}
+use lib.Dec.{leb}
 use lib.ListN.{drop}
 use lib.Seq.{getD-drop}
 use borrow.Author.Tests.{leb-false, le-leb, ne-eqb}
-use Rattle.lexer.specs.Lexemes.{Twenty, Ninety, Hundred, Billion, ST, ND, RD, TH, NUM}
+use Rattle.lexer.specs.Lexemes.{Twenty, Ninety, Hundred, Billion, ST, ND, RD, TH, NUM, valueOf, digitsOf}
 use Rattle.numbers.specs.declared.Number.{Number}
 use Rattle.numbers.specs.declared.NumberFound.{NumberFound}
 use Rattle.numbers.specs.declared.NumberFound.the-variants.{Is, Nothing, Overflow}
 use Rattle.numbers.specs.Slices.{get, within}
-use Rattle.numbers.specs.Answers.{MAX, number, pick, orElse, andThen}
+use Rattle.numbers.specs.Answers.{MAX, number, written, pick, orElse, andThen}
 use Rattle.numbers.specs.Numbers.{isEnding, wordOf, literalOf, onesOf, teensOf, tensOf, tensOnesOf, numDoubleOf, hundredsOf, numTripleOf, unitsOf, numStep, numOf}
-use Rattle.numbers.proofs.LexemeAt.{within-bounds}
+use Rattle.numbers.proofs.LexemeAt.{within-bounds, literal-bounds}
 use Rattle.numbers.proofs.NumStep.{num-is}
 use Rattle.numbers.proofs.Begins.{outside, never, not-at, no-unit}
 
@@ -57,14 +58,14 @@ failed : (b : Bool) (n : Number) → pick b (Is n) Nothing ≡ Nothing → b ≡
 failed true n e = let z : _≡_ {A = ℕ} 0 1 = cc in absurd (omega arith)
 failed false n e = refl
 
--- a range that was not met lies below
-beyond : (lo x hi : ℕ) (n : Number) → pick (within lo x hi) (Is n) Nothing ≡ Nothing → lo ≤ x → hi < x
+-- a range that was not met, behind a test that held, lies below
+beyond : (b : Bool) → b ≡ true → (lo x hi : ℕ) (n : Number) → pick (b && within lo x hi) (Is n) Nothing ≡ Nothing → lo ≤ x → hi < x
 unfolding within
-beyond lo x hi n e a = leb-false x hi (rw (le-leb lo x a) at (failed (within lo x hi) n e))
+beyond b held lo x hi n e a = leb-false x hi (rw (held, le-leb lo x a) at (failed (b && within lo x hi) n e))
 
 -- the first lexeme is a literal or a word, which alone is the number n, and none that begins more
 module _ (l : List ℕ) (n : Number) (one : n .taken ≡ 1)
-    (as-word : get l 0 < NUM → Is n ≡ number (get l 0) 1) (as-literal : NUM ≤ get l 0 → Is n ≡ number (get l 0 - NUM) 1)
+    (as-word : get l 0 < NUM → Is n ≡ number (get l 0) 1) (as-literal : NUM ≤ get l 0 → Is n ≡ written (valueOf (get l 0)) (digitsOf (get l 0)) 1)
     (first : Twenty ≤ get l 0 → get l 0 ≤ Billion → ⊥) (apart : Hundred ≤ get l 1 → get l 1 ≤ TH → ⊥) where
   word-yields : (lo hi : ℕ) → hi ≤ Ninety → Yields (wordOf l lo hi 1) (Is n)
   unfolding wordOf
@@ -76,9 +77,8 @@ module _ (l : List ℕ) (n : Number) (one : n .taken ≡ 1)
   literal-yields : (lo hi : ℕ) → Yields (literalOf l lo hi 1) (Is n)
   unfolding literalOf
   literal-yields lo hi =
-      test-yields (within (NUM + lo) (get l 0) (NUM + hi)) _ _ (λ e.
-      let b = within-bounds (NUM + lo) (get l 0) (NUM + hi) refl e in
-      as-literal (omega arith))
+      test-yields (leb NUM (get l 0) && within lo (valueOf (get l 0)) hi) _ _ (λ e.
+      as-literal (literal-bounds lo (get l 0) hi e .0))
 
   no-ending : isEnding (get l 1) ≡ false
   unfolding isEnding
@@ -157,23 +157,24 @@ module _ (l : List ℕ) (n : Number) (one : n .taken ≡ 1)
 
     beyond-words : 1 ≤ get l 0 → 19 < get l 0
     unfolding wordOf
-    beyond-words h = beyond 10 (get l 0) 19 _ (teens .0) (beyond 1 (get l 0) 9 _ (ones .0) h)
+    beyond-words h = beyond true refl 10 (get l 0) 19 _ (teens .0) (beyond true refl 1 (get l 0) 9 _ (ones .0) h)
 
-    beyond-literals : NUM ≤ get l 0 → NUM + MAX < get l 0
+    beyond-literals : NUM ≤ get l 0 → MAX < valueOf (get l 0)
     unfolding literalOf
     beyond-literals h =
-        let x = get l 0 in
-        beyond (NUM + 1000) x (NUM + MAX) _ (num .1)
-        (beyond (NUM + 100) x (NUM + 999) _ (triple .1)
-        (beyond (NUM + 20) x (NUM + 99) _ (behind .1)
-        (beyond (NUM + 10) x (NUM + 19) _ (teens .1)
-        (beyond (NUM + 0) x (NUM + 9) _ (ones .1) h))))
+        let v = valueOf (get l 0) in
+        let range = beyond (leb NUM (get l 0)) (le-leb NUM (get l 0) h) in
+        range 1000 v MAX _ (num .1)
+        (range 100 v 999 _ (triple .1)
+        (range 20 v 99 _ (behind .1)
+        (range 10 v 19 _ (teens .1)
+        (range 0 v 9 _ (ones .1) (omega arith)))))
 
   -- then it is the number
-  num-alone : ((1 ≤ get l 0) × (get l 0 ≤ 19)) ⊎ ((NUM ≤ get l 0) × (get l 0 ≤ NUM + MAX)) → numOf l ≡ Is n
+  num-alone : ((1 ≤ get l 0) × (get l 0 ≤ 19)) ⊎ (NUM ≤ get l 0) → numOf l ≡ Is n
   num-alone h =
       yielded (numOf l) (Is n) (rw num-plain (either-yields triple-yields (literal-yields 1000 MAX))) (λ none.
-      ⊎-elim (λ w. let b = beyond-words none (w .0) in omega arith) (λ w. let b = beyond-literals none (w .0) in omega arith) h)
+      ⊎-elim (λ w. let b = beyond-words none (w .0) in omega arith) (λ w. let b = beyond-literals none w in omega arith) h)
 
 -- a number word up to nineteen, or a literal, is the whole number where nothing that could belong to it stands behind it
 pub alone : (l : List ℕ) → within Hundred (get l 1) TH ≡ false
@@ -186,7 +187,7 @@ alone l none =
     (test-yields (within 1 x 19) _ (numOf l) (λ e.
     let b = within-bounds 1 x 19 refl e in
     num-alone l _ refl (λ h. refl) (λ h. absurd (omega arith)) (λ h k. omega arith) apart (inl b)))
-    (test-yields (within (NUM + 0) x (NUM + MAX)) _ (numOf l) (λ e.
-    let b = within-bounds (NUM + 0) x (NUM + MAX) refl e in
-    num-alone l _ refl (λ h. absurd (omega arith)) (λ h. refl) (λ h k. omega arith) apart (inr (omega arith))))
+    (test-yields (leb NUM x && within 0 (valueOf x) MAX) _ (numOf l) (λ e.
+    let b = literal-bounds 0 x MAX e in
+    num-alone l _ refl (λ h. absurd (omega arith)) (λ h. refl) (λ h k. omega arith) apart (inr (b .0))))
     .same

@@ -2,11 +2,11 @@
 use mathlib.Core.Path.{_≡_, refl}
 use mathlib.Core.Bool.{Bool, true, false, _||_, true≢false, and-false}
 use mathlib.Core.List.{List}
-use Prim.Native.Nat.{ℕ, _+_, _≤_}
+use Prim.Native.Nat.{ℕ, _≤_}
 use native.Mathlib.Omega.{arith}
 use lib.Dec.{leb, ltb}
 use lib.ListN.{length}
-use borrow.Author.Tests.{leb-false, le-leb, lt-leb, ne-eqb}
+use borrow.Author.Tests.{le-leb, ne-eqb}
 use Rattle.lexer.specs.Lexemes.{One, Ninety, Hundred, Thousand, Million, Billion, NUM}
 use Rattle.numbers.specs.declared.NumberFound.{NumberFound}
 use Rattle.numbers.specs.declared.NumberFound.the-variants.{Nothing}
@@ -59,8 +59,8 @@ module _ (l : List ℕ) (none : beginsNumber (get l 0) ≡ false) where
       outside One (get l 0) Ninety (tests .0) (omega arith) (omega arith))
 
   no-literal : (lo hi tokens : ℕ) → literalOf l lo hi tokens ≡ Nothing
-  unfolding literalOf within
-  no-literal lo hi tokens = let h = leb-false NUM (get l 0) (tests .2) in rw (lt-leb (NUM + lo) (get l 0) (omega arith))
+  unfolding literalOf
+  no-literal lo hi tokens = rw (tests .2)
 
   no-unit-word : Hundred ≤ get l 0 → get l 0 ≤ Billion → ⊥
   no-unit-word = outside Hundred (get l 0) Billion (tests .1)

@@ -7,6 +7,7 @@ use native.Mathlib.Omega.{arith}
 use lib.Dec.{leb, ltb, eqb}
 use lib.ListN.{length, getD}
 use borrow.Author.Tests.{leb-true, ltb-true}
+use Rattle.lexer.specs.Lexemes.{NUM, valueOf}
 use Rattle.numbers.specs.Slices.{isAt, oneIf, within}
 
 -- both parts of an `and`
@@ -26,6 +27,13 @@ unfolding within
 within-bounds lo x hi e t =
     let h = both (leb lo x) (leb x hi) (sym e ∙ t) in
     (leb-true lo x (h .0), leb-true x hi (h .1))
+
+-- what the test of a literal that held says of the lexeme
+pub literal-bounds : (lo x hi : ℕ) → leb NUM x && within lo (valueOf x) hi ≡ true → (NUM ≤ x) × (lo ≤ valueOf x) × (valueOf x ≤ hi)
+literal-bounds lo x hi e =
+    let h = both (leb NUM x) (within lo (valueOf x) hi) e in
+    let b = within-bounds lo (valueOf x) hi refl (h .1) in
+    (leb-true NUM x (h .0), b .0, b .1)
 
 -- a place where a test of the length held is there
 reach : (p q : Bool) (i n : ℕ) → ltb i n ≡ p → i + oneIf (p && q) ≤ max i n

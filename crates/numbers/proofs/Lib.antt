@@ -5,3 +5,4 @@ pub mod NumberBounds
 pub mod NumStep
 pub mod Begins
 pub mod Alone
+pub mod Plain

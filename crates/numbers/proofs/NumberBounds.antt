@@ -1,6 +1,6 @@
 -- The bounds of each number reader: how large its value is, and how many lexemes it takes.
 use mathlib.Core.Path.{_≡_, refl}
-use mathlib.Core.Bool.{Bool}
+use mathlib.Core.Bool.{Bool, _&&_}
 use mathlib.Core.List.{List, [], _∷_}
 use Prim.Native.Nat.{ℕ, zero, suc, _+_, _*_, _%_, _≤_, _<_, max}
 use native.Mathlib.Nat.{mul-le-mul}
@@ -8,13 +8,13 @@ use native.Mathlib.Omega.{arith}
 use lib.Dec.{leb, eqb}
 use lib.ListN.{length, drop, length-drop}
 use borrow.Author.Tests.{leb-true, le-leb}
-use Rattle.lexer.specs.Lexemes.{TH, Dash, And, Hundred, Thousand, Million, Billion, NUM}
+use Rattle.lexer.specs.Lexemes.{TH, Dash, And, Hundred, Thousand, Million, Billion, NUM, valueOf}
 use Rattle.numbers.specs.declared.NumberFound.{NumberFound}
 use Rattle.numbers.specs.declared.NumberFound.the-variants.{Is, Nothing, Overflow}
 use Rattle.numbers.specs.Slices.{get, isAt, oneIf, within}
 use Rattle.numbers.specs.Answers.{MAX, Bounded, Taken, Read, number, orZero, fitsOf}
 use Rattle.numbers.specs.Numbers.{isEnding, wordOf, literalOf, onesOf, teensOf, tensOf, tensOnesOf, numDoubleOf, sumOf, tailOf, hundredsOf, numTripleOf, numTripleUnitOf, unitsOf, numStep, numOf}
-use Rattle.numbers.proofs.LexemeAt.{one-most, within-bounds, at-most, there}
+use Rattle.numbers.proofs.LexemeAt.{one-most, within-bounds, literal-bounds, at-most, there}
 use Rattle.numbers.proofs.Again.{again-keeps}
 use Rattle.numbers.proofs.NumberAnswers.{nothing, wider, read, pick-bounded, or-bounded, then-bounded}
 
@@ -57,10 +57,10 @@ module _ (l : List ℕ) (lo hi tokens : ℕ) (some : 0 < tokens) (room : tokens 
   literal-taken : Taken (literalOf l lo hi tokens) 1 hi (length l)
   unfolding literalOf
   literal-taken =
-      pick-bounded (within (NUM + lo) (get l 0) (NUM + hi)) _ _
+      pick-bounded (leb NUM (get l 0) && within lo (valueOf (get l 0)) hi) _ _
       (λ e. record {
         bounds =
-            let b = within-bounds (NUM + lo) (get l 0) (NUM + hi) refl e in
+            let b = literal-bounds lo (get l 0) hi e in
             let h = first l (omega arith) in
             omega arith;
       })

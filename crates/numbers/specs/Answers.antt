@@ -15,9 +15,13 @@ MAX = 4294967295
 abbrev pub USIZE : ℕ
 USIZE = 18446744073709551615
 
--- `Some((v, t))`: the value v, of t lexemes
+-- `Some((v, t))`: the value v, of t lexemes, written with a run of d digits and no other lexeme but an ending; d is 0 for any other number
+abbrev pub written : ℕ → ℕ → ℕ → NumberFound
+written v d t = Is (record { value = v; digits = d; taken = t })
+
+-- the same of a number that was not written so
 abbrev pub number : ℕ → ℕ → NumberFound
-number v t = Is (record { value = v; taken = t })
+number v t = written v 0 t
 
 -- `if b { x } else { y }`
 abbrev pub pick : Bool → NumberFound → NumberFound → NumberFound

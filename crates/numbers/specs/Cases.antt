@@ -1,12 +1,12 @@
 -- Worked cases: what `Num::parse` gives for each row of lexemes, computed.
 use mathlib.Core.Path.{_≡_, refl}
 use mathlib.Core.List.{List, [], _∷_, map}
-use Prim.Native.Nat.{ℕ, _+_}
+use Prim.Native.Nat.{ℕ, _+_, _*_}
 use Rattle.lexer.specs.Lexemes.{One, Two, Three, Four, Five, Six, Seven, Nine, Twenty, Sixty, Ninety, Dash, And, Zero, Hundred, Thousand, Million, Billion, RD, TH, NUM}
 use Rattle.numbers.specs.declared.NumberFound.{NumberFound}
 use Rattle.numbers.specs.declared.NumberFound.the-variants.{Nothing, Overflow}
 use Rattle.numbers.specs.Slices.{get, isAt, within}
-use Rattle.numbers.specs.Answers.{number, fitsOf}
+use Rattle.numbers.specs.Answers.{number, written, fitsOf}
 use Rattle.numbers.specs.Numbers.{isEnding, wordOf, literalOf, onesOf, teensOf, tensOf, tensOnesOf, numDoubleOf, sumOf, tailOf, hundredsOf, numTripleOf, numTripleUnitOf, unitsOf, numStep, numOf}
 use Rattle.numbers.specs.Again.{turns, again}
 
@@ -15,9 +15,9 @@ pub record Case : Type 0 where
   pub lexemes : List ℕ
   pub reading : NumberFound
 
--- the literal n
-abbrev Num : ℕ → ℕ
-Num n = NUM + n
+-- the literal n, written with k digits
+abbrev Num : ℕ → ℕ → ℕ
+Num k n = NUM * k + n
 
 -- four billion two hundred ninety four million nine hundred sixty seven thousand two hundred ninety, and ones
 abbrev nearMAX : ℕ → List ℕ
@@ -49,19 +49,24 @@ cases =
     ∷ row (Hundred ∷ And ∷ []) Nothing
     -- `Zero` is never a number, the digit 0 is
     ∷ row (Zero ∷ []) Nothing
-    ∷ row (Num 0 ∷ []) (number 0 1)
+    ∷ row (Num 1 0 ∷ []) (written 0 1 1)
     -- an ending is taken with some numbers only
-    ∷ row (Num 4 ∷ RD ∷ []) (number 4 2)
-    ∷ row (Num 12 ∷ TH ∷ []) (number 12 2)
-    ∷ row (Num 24 ∷ TH ∷ []) (number 24 1)
-    ∷ row (Num 100 ∷ TH ∷ []) (number 100 2)
-    ∷ row (Num 1000 ∷ []) (number 1000 1)
-    ∷ row (Num 1000 ∷ TH ∷ []) (number 1000 1)
+    ∷ row (Num 1 4 ∷ RD ∷ []) (written 4 1 2)
+    ∷ row (Num 2 12 ∷ TH ∷ []) (written 12 2 2)
+    ∷ row (Num 2 24 ∷ TH ∷ []) (written 24 2 1)
+    ∷ row (Num 3 100 ∷ TH ∷ []) (written 100 3 2)
+    ∷ row (Num 4 1000 ∷ []) (written 1000 4 1)
+    ∷ row (Num 4 1000 ∷ TH ∷ []) (written 1000 4 1)
+    -- leading zeros are digits too; digits behind or before a word are not the whole number
+    ∷ row (Num 4 5 ∷ []) (written 5 4 1)
+    ∷ row (Num 256 27 ∷ []) (written 27 256 1)
+    ∷ row (Num 1 5 ∷ Hundred ∷ []) (number 500 2)
+    ∷ row (Twenty ∷ Num 1 5 ∷ []) (number 25 2)
     -- the largest u32, and one more
-    ∷ row (Num 4294967295 ∷ []) (number 4294967295 1)
+    ∷ row (Num 10 4294967295 ∷ []) (written 4294967295 10 1)
     ∷ row (nearMAX Five) (number 4294967295 16)
     ∷ row (nearMAX Six) Overflow
-    ∷ row (Thousand ∷ And ∷ Num 4294966296 ∷ []) Overflow
+    ∷ row (Thousand ∷ And ∷ Num 10 4294966296 ∷ []) Overflow
     -- the product is made only once the tail has been read and not given up
     ∷ row (Four ∷ Billion ∷ []) (number 4000000000 2)
     ∷ row (Five ∷ Billion ∷ []) Overflow

@@ -1,15 +1,15 @@
 -- The number readers of ast.rs, `Ones` to `Num`: the same alternatives in the same order, on a list of lexemes.
-use Prim.Native.Nat.{ℕ, _+_, _-_, _*_, _%_}
-use mathlib.Core.Bool.{Bool, _||_}
+use Prim.Native.Nat.{ℕ, _+_, _*_, _%_}
+use mathlib.Core.Bool.{Bool, _&&_, _||_}
 use mathlib.Core.List.{List}
 use lib.Dec.{eqb, leb}
 use lib.ListN.{drop}
-use Rattle.lexer.specs.Lexemes.{One, Nine, Ten, Nineteen, Twenty, Ninety, Dash, And, Hundred, Thousand, Million, Billion, ST, ND, RD, TH, NUM}
+use Rattle.lexer.specs.Lexemes.{One, Nine, Ten, Nineteen, Twenty, Ninety, Dash, And, Hundred, Thousand, Million, Billion, ST, ND, RD, TH, NUM, valueOf, digitsOf}
 use Rattle.numbers.specs.declared.NumberFound.{NumberFound}
 use Rattle.numbers.specs.declared.NumberFound.the-variants.{Is, Nothing, Overflow}
 use Rattle.numbers.specs.Again.{again}
 use Rattle.numbers.specs.Slices.{get, within, isAt, oneIf}
-use Rattle.numbers.specs.Answers.{MAX, number, pick, orElse, andThen, orZero, fitsOf}
+use Rattle.numbers.specs.Answers.{MAX, number, written, pick, orElse, andThen, orZero, fitsOf}
 
 -- `ST | RD | ND | TH`
 unfoldable pub isEnding : ℕ → Bool
@@ -23,9 +23,11 @@ beginsNumber x = within One x Ninety || (within Hundred x Billion || leb NUM x)
 unfoldable pub wordOf : List ℕ → ℕ → ℕ → ℕ → NumberFound
 wordOf l lo hi tokens = pick (within lo (get l 0) hi) (number (get l 0) tokens) Nothing
 
--- `Num(n)` with lo <= n <= hi
+-- `Num(n)` with lo <= n <= hi, and the digits of its run
 unfoldable pub literalOf : List ℕ → ℕ → ℕ → ℕ → NumberFound
-literalOf l lo hi tokens = pick (within (NUM + lo) (get l 0) (NUM + hi)) (number (get l 0 - NUM) tokens) Nothing
+literalOf l lo hi tokens =
+    let x = get l 0 in
+    pick (leb NUM x && within lo (valueOf x) hi) (written (valueOf x) (digitsOf x) tokens) Nothing
 
 -- `Ones::parse`: `One` to `Nine` or a literal below 10, with an ordinal's ending
 unfoldable pub onesOf : List ℕ → NumberFound

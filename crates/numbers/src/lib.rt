@@ -3,7 +3,7 @@ ghost use mathlib.Core.Path.{_≡_};
 ghost use Prim.Native.Nat.{_+_, _≤_, _<_, max};
 ghost use lib.ListN.{length};
 ghost use Rattle.numbers.specs.Slices.{get, oneIf};
-ghost use Rattle.numbers.specs.Answers.{MAX, USIZE, Taken, Read, number, orElse, takenOf, fitsOf};
+ghost use Rattle.numbers.specs.Answers.{MAX, USIZE, Taken, Read, number, written, orElse, takenOf, fitsOf};
 ghost use Rattle.numbers.specs.Numbers.{isEnding, beginsNumber, wordOf, literalOf, onesOf, teensOf, tensOf, tensOnesOf, numDoubleOf, sumOf, hundredsOf, numTripleOf, numTripleUnitOf, unitsOf, numOf};
 use lexer::lexeme::AND;
 use lexer::lexeme::BILLION;
@@ -28,9 +28,10 @@ pub mod slices;
 // The largest u32.
 const MAX: u32 = 4294967295;
 
-// A number that was read, and the lexemes taken.
+// A number that was read, the digits of the one run that it was written with, 0 for any other number, and the lexemes taken.
 pub struct Number {
     pub value: u32,
+    pub digits: u32,
     pub taken: usize,
 }
 
@@ -41,11 +42,22 @@ pub enum NumberFound {
     Overflow,
 }
 
-// The answer of a value and the lexemes taken: the one function that makes a `Number`.
+// The answer of a value, the digits that it was written with and the lexemes taken: the one function that makes a `Number`.
+fn written(value: u32, digits: u32, taken: usize) -> NumberFound
+    ensures { λ r. ⌜ r ≡ written value digits taken ⌝ }
+{
+    NumberFound::Is(Number {
+        value,
+        digits,
+        taken,
+    })
+}
+
+// The same of a number that is not one run of digits.
 fn found(value: u32, taken: usize) -> NumberFound
     ensures { λ r. ⌜ r ≡ number value taken ⌝ }
 {
-    NumberFound::Is(Number { value, taken })
+    written(value, 0, taken)
 }
 
 // `ST | RD | ND | TH`
@@ -84,13 +96,16 @@ fn word(l: &[u64], lo: u32, hi: u32, tokens: usize) -> NumberFound
     NumberFound::Nothing
 }
 
-// `Num(n)` with lo <= n <= hi.
+// `Num(n)` with lo <= n <= hi, and the digits of its run.
 fn literal(l: &[u64], lo: u32, hi: u32, tokens: usize) -> NumberFound
     ensures { λ r. ⌜ r ≡ literalOf (now (l .entry)) lo hi tokens ⌝ }
 {
     let x = get(l, 0);
-    if is_within(NUM + lo as u64, x, NUM + hi as u64) {
-        return found((x - NUM) as u32, tokens);
+    if x < NUM {
+        return NumberFound::Nothing;
+    }
+    if is_within(lo as u64, x % NUM, hi as u64) {
+        return written((x % NUM) as u32, (x / NUM) as u32, tokens);
     }
     NumberFound::Nothing
 }

@@ -37,10 +37,10 @@ abbrev held : Parts → List Link → ℕ → Chain
 held ps ks i = record { base = Now; time = Empty; parts = ps; own = 0; m = i; links = ks }
 
 -- what is gathered up to the place at, and what is left: a tree whose outline is that of the whole
-pub record Gathering (l : List ℕ) (k : Count) (o : Outline) (goal : Chain) (ps : Parts) (ks : List Link) (i at : ℕ) : Type 0 where
+pub record Gathering (reading : Reading) (l : List ℕ) (k : Count) (o : Outline) (goal : Chain) (ps : Parts) (ks : List Link) (i at : ℕ) : Type 0 where
   pub left : DateTime
-  pub stands : TreeStands (drop at l) left
-  pub outlined : outline k i (drop at l) left ≡ o
+  pub stands : TreeStands reading (drop at l) left
+  pub outlined : outline reading k i (drop at l) left ≡ o
   pub flattened : chainFrom (held ps ks i) left ≡ goal
   pub within : at ≤ length l
   pub room : 3 * ps .n + length l ≤ 64 + at
@@ -49,7 +49,7 @@ pub record Gathering (l : List ℕ) (k : Count) (o : Outline) (goal : Chain) (ps
 -- the same under every reading that has this outline: the loop itself has no reading
 abbrev pub Gathers : List ℕ → ℕ → Outline → Parts → List Link → ℕ → ℕ → Type 0
 Gathers l n o ps ks i at = (reading : Reading) → let w = kept n (dateTimeOf reading l) in
-    o ≡ outlineAnswer l w → Gathering l (countOf w) o (chainOf (treeIn w)) ps ks i at
+    o ≡ outlineAnswer reading l w → Gathering reading l (countOf w) o (chainOf (treeIn w)) ps ks i at
 
 -- nothing yet
 pub begin : (l : List ℕ) (n : ℕ) {o : Outline} → length l ≤ 64 → Gathers l n o (blank .parts) (blank .links) 0 0
@@ -64,10 +64,10 @@ begin l n h reading answer =
       few = omega arith;
     }
   where
-    go : (w : Parsed DateTime) → Each (TreeHolds l) w → TreeStands l (treeIn (kept n w))
+    go : (w : Parsed DateTime) → Each (TreeHolds reading l) w → TreeStands reading l (treeIn (kept n w))
     go (is x t) h = only (ltb t n)
       where
-        only : (b : Bool) → TreeStands l (cond b now x)
+        only : (b : Bool) → TreeStands reading l (cond b now x)
         only true = tt
         only false = h .bounds .stands
     go nothing h = tt
@@ -80,31 +80,31 @@ record LinkLeft (x : DateTime) : Type 0 where
   inner : DateTime
   same : x ≡ around back duration inner
 
-link-left : (x : DateTime) (k : Count) (i : ℕ) (l : List ℕ) → i < outline k i l x .m → LinkLeft x
-link-left (dateTime e t) k i l h = absurd (omega arith)
-link-left (timeDate t e) k i l h = absurd (omega arith)
-link-left (durationAfter dur x) k i l h = record { back = false; duration = dur; inner = x; same = refl }
-link-left (durationBefore dur x) k i l h = record { back = true; duration = dur; inner = x; same = refl }
-link-left now k i l h = absurd (omega arith)
+link-left : (reading : Reading) (x : DateTime) (k : Count) (i : ℕ) (l : List ℕ) → i < outline reading k i l x .m → LinkLeft x
+link-left reading (dateTime e t) k i l h = absurd (omega arith)
+link-left reading (timeDate t e) k i l h = absurd (omega arith)
+link-left reading (durationAfter dur x) k i l h = record { back = false; duration = dur; inner = x; same = refl }
+link-left reading (durationBefore dur x) k i l h = record { back = true; duration = dur; inner = x; same = refl }
+link-left reading now k i l h = absurd (omega arith)
 
-around-stood : (back : Bool) (dur : Duration) (x : DateTime) (l : List ℕ) → TreeStands l (around back dur x) →
-    LinkStands l back dur (linkTaken l) × (linkTaken l ≤ length l) × TreeStands (drop (linkTaken l) l) x
-around-stood true dur x l h = h
-around-stood false dur x l h = h
+around-stood : (reading : Reading) (back : Bool) (dur : Duration) (x : DateTime) (l : List ℕ) → TreeStands reading l (around back dur x) →
+    LinkStands l back dur (linkTaken l) × (linkTaken l ≤ length l) × TreeStands reading (drop (linkTaken l) l) x
+around-stood reading true dur x l h = h
+around-stood reading false dur x l h = h
 
 around-chain : (back : Bool) (dur : Duration) (x : DateTime) (r : Chain) →
     chainFrom r (around back dur x) ≡ chainFrom (linkedParts back (into dur (r .parts)) r) x
 around-chain true dur x r = refl
 around-chain false dur x r = refl
 
-module _ {l : List ℕ} {k : Count} {o : Outline} {goal : Chain} {ps : Parts} {ks : List Link} {i at : ℕ}
-    (g : Gathering l k o goal ps ks i at) where
+module _ {reading : Reading} {l : List ℕ} {k : Count} {o : Outline} {goal : Chain} {ps : Parts} {ks : List Link} {i at : ℕ}
+    (g : Gathering reading l k o goal ps ks i at) where
   -- one link more, with the row x that its duration gave, and its direction
   pub one-link : i < o .m → {x : Rowed} {back : Bool} {m : List ℕ} → m ≡ drop at l → x ≡ rowed ps (durationOf m) → back ≡ isBack m (x .end) →
-      Gathering l k o goal (x .parts) (set ks i (record { back = back; from = ps .n; to = x .parts .n })) (i + 1) (at + x .end + 1)
+      Gathering reading l k o goal (x .parts) (set ks i (record { back = back; from = ps .n; to = x .parts .n })) (i + 1) (at + x .end + 1)
   one-link more here row direction =
-      let x = link-left (g .left) k i (drop at l) (rw (g .outlined) more) in
-      let s = around-stood (x .back) (x .duration) (x .inner) (drop at l) (rw (x .same) at (g .stands)) in
+      let x = link-left reading (g .left) k i (drop at l) (rw (g .outlined) more) in
+      let s = around-stood reading (x .back) (x .duration) (x .inner) (drop at l) (rw (x .same) at (g .stands)) in
       let b = duration-bounds (drop at l) (s .0 .reading) in
       let n = into-n (x .duration) ps in
       let p = some (x .duration) in
@@ -115,7 +115,7 @@ module _ {l : List ℕ} {k : Count} {o : Outline} {goal : Chain} {ps : Parts} {k
       rw (direction, row, here, s .0 .reading, s .0 .direction) (record {
         left = x .inner;
         stands = rw there at (s .2);
-        outlined = rw (← there, ← (around-outline (x .back) (x .duration) (x .inner) k i (drop at l)), ← (x .same)) (g .outlined);
+        outlined = rw (← there, ← (around-outline reading (x .back) (x .duration) (x .inner) k i (drop at l)), ← (x .same)) (g .outlined);
         flattened = rw (← (around-chain (x .back) (x .duration) (x .inner) (held ps ks i)), ← (x .same)) (g .flattened);
         within = omega arith;
         room = omega arith;
@@ -139,12 +139,12 @@ own-into (weekday w) l ps h = refl
 own-into empty l ps h = refl
 
 -- the links of an outline are those in front and those of the tree
-links-most : (x : DateTime) (k : Count) (i : ℕ) (l : List ℕ) → i ≤ outline k i l x .m
-links-most (dateTime e t) k i l = omega arith
-links-most (timeDate t e) k i l = omega arith
-links-most (durationAfter dur x) k i l = let h = links-most x k (i + 1) (drop (linkTaken l) l) in omega arith
-links-most (durationBefore dur x) k i l = let h = links-most x k (i + 1) (drop (linkTaken l) l) in omega arith
-links-most now k i l = omega arith
+links-most : (reading : Reading) (x : DateTime) (k : Count) (i : ℕ) (l : List ℕ) → i ≤ outline reading k i l x .m
+links-most reading (dateTime e t) k i l = omega arith
+links-most reading (timeDate t e) k i l = omega arith
+links-most reading (durationAfter dur x) k i l = let h = links-most reading x k (i + 1) (drop (linkTaken l) l) in omega arith
+links-most reading (durationBefore dur x) k i l = let h = links-most reading x k (i + 1) (drop (linkTaken l) l) in omega arith
+links-most reading now k i l = omega arith
 
 -- with no link left, the base and its own duration's parts are all
 pub record Based (l : List ℕ) (k : Count) (o : Outline) (goal : Chain) (ps : Parts) (ks : List Link) (i at : ℕ) : Type 0 where
@@ -162,23 +162,23 @@ pub record Based (l : List ℕ) (k : Count) (o : Outline) (goal : Chain) (ps : P
   pub links : o .m ≡ i
 
 module _ {l : List ℕ} {k : Count} {o : Outline} {goal : Chain} {ps : Parts} {ks : List Link} {i at : ℕ} where
-  pub base-left : Gathering l k o goal ps ks i at → o .m ≤ i → Based l k o goal ps ks i at
-  base-left g done = rw (← (g .outlined)) (go (g .left) (g .stands) (g .flattened) (rw (← (g .outlined)) at done))
+  pub base-left : {reading : Reading} → Gathering reading l k o goal ps ks i at → o .m ≤ i → Based l k o goal ps ks i at
+  base-left {reading} g done = rw (← (g .outlined)) (go (g .left) (g .stands) (g .flattened) (rw (← (g .outlined)) at done))
     where
       own : (e : DateExpr) (p : ℕ) → OwnStands (ownOf e) (drop p (drop at l)) →
           cond (hasDuration (shape e)) (rowed ps (durationOf (drop (at + p) l)) .parts) ps ≡ intoExpr e ps
       own e p h = own-into e (drop (at + p) l) ps (rw (drop-drop p at l) at h)
 
-      go : (x : DateTime) → TreeStands (drop at l) x → chainFrom (held ps ks i) x ≡ goal → outline k i (drop at l) x .m ≤ i →
-          Based l k (outline k i (drop at l) x) goal ps ks i at
+      go : (x : DateTime) → TreeStands reading (drop at l) x → chainFrom (held ps ks i) x ≡ goal → outline reading k i (drop at l) x .m ≤ i →
+          Based l k (outline reading k i (drop at l) x) goal ps ks i at
       go (dateTime e t) s f d =
           let left = length-drop at l in
           record { reading = rw (own e _ (s .stands)) f; count = refl; within = omega arith; links = refl }
       go (timeDate t e) s f d =
           let left = length-drop at l in
           record { reading = rw (own e _ (s .stands)) f; count = refl; within = omega arith; links = refl }
-      go (durationAfter dur x) s f d = let h = links-most x k (i + 1) (drop (linkTaken (drop at l)) (drop at l)) in absurd (omega arith)
-      go (durationBefore dur x) s f d = let h = links-most x k (i + 1) (drop (linkTaken (drop at l)) (drop at l)) in absurd (omega arith)
+      go (durationAfter dur x) s f d = let h = links-most reading x k (i + 1) (drop (linkTaken (drop at l)) (drop at l)) in absurd (omega arith)
+      go (durationBefore dur x) s f d = let h = links-most reading x k (i + 1) (drop (linkTaken (drop at l)) (drop at l)) in absurd (omega arith)
       go now s f d = record { reading = f; count = refl; within = omega arith; links = refl }
 
   -- and so the whole is gathered

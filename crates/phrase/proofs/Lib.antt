@@ -5,3 +5,4 @@ pub mod Formed
 pub mod Gathering
 pub mod Phrases
 pub mod Small
+pub mod Plain

@@ -50,7 +50,7 @@ step-agree : (reading : Reading) (D E : List ℕ → Parsed DateTime) (l : List 
 unfolding dateTimeStep
 step-agree reading D E l agree = go (turnOf reading l) (turn-holds reading l)
   where
-    go : (w : Parsed Turn) → Each (TurnHolds l) w → andThen w (againOf D l) ≡ andThen w (againOf E l)
+    go : (w : Parsed Turn) → Each (TurnHolds reading l) w → andThen w (againOf D l) ≡ andThen w (againOf E l)
     go (is (whole x) t) h = refl
     go (is (ago dur) t) h = refl
     go (is (link back dur) t) h = let b = h .bounds in let left = length-drop t l in rw (agree (drop t l) (omega arith))
@@ -63,14 +63,14 @@ unfolding dateTimeOf
 date-time-is reading l = again-is nothing (dateTimeStep reading) (step-agree reading) l
 
 -- the outline of what is read at l, behind m links of at lexemes
-abbrev pub linked : ℕ → ℕ → List ℕ → Parsed DateTime → Outline
-linked m at l (is x u) = outline (Is (at + u)) m l x
-linked m at l nothing = outline Nothing 0 l now
-linked m at l overflow = outline Overflow 0 l now
+abbrev pub linked : Reading → ℕ → ℕ → List ℕ → Parsed DateTime → Outline
+linked reading m at l (is x u) = outline reading (Is (at + u)) m l x
+linked reading m at l nothing = outline reading Nothing 0 l now
+linked reading m at l overflow = outline reading Overflow 0 l now
 
 -- m links of at lexemes are passed
 pub record Turning (reading : Reading) (l : List ℕ) (at m : ℕ) : Type 0 where
-  pub outlined : outlineAnswer l (dateTimeOf reading l) ≡ linked m at (drop at l) (dateTimeOf reading (drop at l))
+  pub outlined : outlineAnswer reading l (dateTimeOf reading l) ≡ linked reading m at (drop at l) (dateTimeOf reading (drop at l))
   pub within : at ≤ length l
   pub few : m ≤ at
 
@@ -78,58 +78,58 @@ pub record Turning (reading : Reading) (l : List ℕ) (at m : ℕ) : Type 0 wher
 pub unlinked : (reading : Reading) (l : List ℕ) → Turning reading l 0 0
 unlinked reading l = record { outlined = go (dateTimeOf reading l); within = omega arith; few = omega arith }
   where
-    go : (w : Parsed DateTime) → outlineAnswer l w ≡ linked 0 0 l w
+    go : (w : Parsed DateTime) → outlineAnswer reading l w ≡ linked reading 0 0 l w
     go (is x t) = let e : 0 + t ≡ t = omega arith in rw e
     go nothing = refl
     go overflow = refl
 
 -- a base is the same with other links and another count
-whole-outline : (x : DateTime) → Bare x → (l : List ℕ) (k j : Count) (m n : ℕ) →
-    outline k m l x ≡ record { taken = k; base = outline j n l x .base; time = outline j n l x .time; own = outline j n l x .own; m = m }
-whole-outline (dateTime e t) h l k j m n = refl
-whole-outline (timeDate t e) h l k j m n = refl
-whole-outline (durationAfter dur x) h l k j m n = absurd h
-whole-outline (durationBefore dur x) h l k j m n = absurd h
-whole-outline now h l k j m n = refl
+whole-outline : (reading : Reading) (x : DateTime) → Bare x → (l : List ℕ) (k j : Count) (m n : ℕ) →
+    let o = outline reading j n l x in outline reading k m l x ≡ record { taken = k; base = o .base; time = o .time; own = o .own; m = m }
+whole-outline reading (dateTime e t) h l k j m n = refl
+whole-outline reading (timeDate t e) h l k j m n = refl
+whole-outline reading (durationAfter dur x) h l k j m n = absurd h
+whole-outline reading (durationBefore dur x) h l k j m n = absurd h
+whole-outline reading now h l k j m n = refl
 
-pub around-outline : (back : Bool) (dur : Duration) (x : DateTime) (k : Count) (m : ℕ) (l : List ℕ) →
-    outline k m l (around back dur x) ≡ outline k (m + 1) (drop (linkTaken l) l) x
-around-outline true dur x k m l = refl
-around-outline false dur x k m l = refl
+pub around-outline : (reading : Reading) (back : Bool) (dur : Duration) (x : DateTime) (k : Count) (m : ℕ) (l : List ℕ) →
+    outline reading k m l (around back dur x) ≡ outline reading k (m + 1) (drop (linkTaken l) l) x
+around-outline reading true dur x k m l = refl
+around-outline reading false dur x k m l = refl
 
 -- what the code's answer for a turn says of the outline
 abbrev Said : Reading → List ℕ → ℕ → ℕ → TurnTaken → Type 0
 Said reading l at m (Whole b time own t) =
-    (outlineAnswer l (dateTimeOf reading l) ≡ record { taken = Is (at + t); base = b; time = time; own = own; m = m }) × (at + t ≤ length l)
+    (outlineAnswer reading l (dateTimeOf reading l) ≡ record { taken = Is (at + t); base = b; time = time; own = own; m = m }) × (at + t ≤ length l)
 Said reading l at m (Ago t) =
-    (outlineAnswer l (dateTimeOf reading l) ≡ record { taken = Is (at + t); base = Now; time = Empty; own = 0; m = m + 1 })
+    (outlineAnswer reading l (dateTimeOf reading l) ≡ record { taken = Is (at + t); base = Now; time = Empty; own = 0; m = m + 1 })
     × (at + t ≤ length l)
     × (m < at + t)
 Said reading l at m (Link t) = Turning reading l (at + t) (m + 1)
-Said reading l at m NoTurn = outlineAnswer l (dateTimeOf reading l) ≡ outline Nothing 0 [] now
-Said reading l at m TurnOverflow = outlineAnswer l (dateTimeOf reading l) ≡ outline Overflow 0 [] now
+Said reading l at m NoTurn = outlineAnswer reading l (dateTimeOf reading l) ≡ outline reading Nothing 0 [] now
+Said reading l at m TurnOverflow = outlineAnswer reading l (dateTimeOf reading l) ≡ outline reading Overflow 0 [] now
 
 module _ {reading : Reading} {l : List ℕ} {at m : ℕ} (g : Turning reading l at m) where
   abbrev left : List ℕ
   left = drop at l
 
   behind : (back : Bool) (dur : Duration) (t : ℕ) → linkTaken left ≡ t → (w : Parsed DateTime) →
-      linked m at left (andThen w (λ x u. is (around back dur x) (t + u))) ≡ linked (m + 1) (at + t) (drop t left) w
+      linked reading m at left (andThen w (λ x u. is (around back dur x) (t + u))) ≡ linked reading (m + 1) (at + t) (drop t left) w
   behind back dur t e (is x u) =
       let same : at + (t + u) ≡ at + t + u = omega arith in
-      rw (around-outline back dur x (Is (at + (t + u))) m left, e, same)
+      rw (around-outline reading back dur x (Is (at + (t + u))) m left, e, same)
   behind back dur t e nothing = refl
   behind back dur t e overflow = refl
 
-  turn-said : (w : Parsed Turn) → Each (TurnHolds left) w →
-      outlineAnswer l (dateTimeOf reading l) ≡ linked m at left (andThen w (againOf (dateTimeOf reading) left)) → Said reading l at m (turnAnswer left w)
+  turn-said : (w : Parsed Turn) → Each (TurnHolds reading left) w →
+      outlineAnswer reading l (dateTimeOf reading l) ≡ linked reading m at left (andThen w (againOf (dateTimeOf reading) left)) → Said reading l at m (turnAnswer reading left w)
   turn-said (is x t) h e = go x (h .bounds) e
     where
-      go : (x : Turn) → TurnHolds left x t → outlineAnswer l (dateTimeOf reading l) ≡ linked m at left (againOf (dateTimeOf reading) left x t) →
-          Said reading l at m (turnAnswer left (is x t))
+      go : (x : Turn) → TurnHolds reading left x t → outlineAnswer reading l (dateTimeOf reading l) ≡ linked reading m at left (againOf (dateTimeOf reading) left x t) →
+          Said reading l at m (turnAnswer reading left (is x t))
       go (whole x) h e =
           let all = length-drop at l in
-          (e ∙ whole-outline x (h .stands .1) left (Is (at + t)) (Is t) m 0, omega arith)
+          (e ∙ whole-outline reading x (h .stands .1) left (Is (at + t)) (Is t) m 0, omega arith)
       go (ago dur) h e = let all = length-drop at l in (e, omega arith, omega arith)
       go (link back dur) h e =
           let all = length-drop at l in
@@ -139,27 +139,28 @@ module _ {reading : Reading} {l : List ℕ} {at m : ℕ} (g : Turning reading l 
   turn-said overflow h e = e
 
   -- what a turn that the code took apart says
-  pub turn-learnt : {n : List ℕ} {r z : TurnTaken} → n ≡ drop at l → r ≡ turnAnswer n (turnOf reading n) → r ≡ z → Said reading l at m z
+  pub turn-learnt : {n : List ℕ} {r z : TurnTaken} → n ≡ drop at l → r ≡ turnAnswer reading n (turnOf reading n) → r ≡ z → Said reading l at m z
   unfolding dateTimeStep
   turn-learnt same answer e =
-      rw (← e, answer, same) (turn-said (turnOf reading left) (turn-holds reading left) (g .outlined ∙ ap (linked m at left) (date-time-is reading left)))
+      rw (← e, answer, same) (turn-said (turnOf reading left) (turn-holds reading left) (g .outlined ∙ ap (linked reading m at left) (date-time-is reading left)))
 
 -- an outline has the count of what was read
-outline-count : (x : DateTime) (k : Count) (m : ℕ) (l : List ℕ) → outline k m l x .taken ≡ k
-outline-count (dateTime e t) k m l = refl
-outline-count (timeDate t e) k m l = refl
-outline-count (durationAfter dur x) k m l = outline-count x k (m + 1) (drop (linkTaken l) l)
-outline-count (durationBefore dur x) k m l = outline-count x k (m + 1) (drop (linkTaken l) l)
-outline-count now k m l = refl
+outline-count : (reading : Reading) (x : DateTime) (k : Count) (m : ℕ) (l : List ℕ) → outline reading k m l x .taken ≡ k
+outline-count reading (dateTime e t) k m l = refl
+outline-count reading (timeDate t e) k m l = refl
+outline-count reading (durationAfter dur x) k m l = outline-count reading x k (m + 1) (drop (linkTaken l) l)
+outline-count reading (durationBefore dur x) k m l = outline-count reading x k (m + 1) (drop (linkTaken l) l)
+outline-count reading now k m l = refl
 
-pub counted : (l : List ℕ) (w : Parsed DateTime) {o : Outline} → o ≡ outlineAnswer l w → o .taken ≡ countOf w
-counted l w answer = rw answer (outline-count (treeIn w) (countOf w) 0 l)
+pub counted : (reading : Reading) (l : List ℕ) (w : Parsed DateTime) {o : Outline} → o ≡ outlineAnswer reading l w → o .taken ≡ countOf w
+counted reading l w answer = rw answer (outline-count reading (treeIn w) (countOf w) 0 l)
 
 -- with lexemes left, only the count is kept
-pub kept-left : (l : List ℕ) (w : Parsed DateTime) (n : ℕ) {t : ℕ} → countOf w ≡ Is t → t < n → outline (Is t) 0 [] now ≡ outlineAnswer l (kept n w)
-kept-left l (is x u) n {t} e h = let same : u ≡ t = cc in rw (same, lt-ltb t n h)
-kept-left l nothing n e h = let z : _≡_ {A = ℕ} 0 1 = cc in absurd (omega arith)
-kept-left l overflow n e h = let z : _≡_ {A = ℕ} 0 1 = cc in absurd (omega arith)
+pub kept-left : (reading : Reading) (l : List ℕ) (w : Parsed DateTime) (n : ℕ) {t : ℕ} → countOf w ≡ Is t → t < n →
+    outline reading (Is t) 0 [] now ≡ outlineAnswer reading l (kept n w)
+kept-left reading l (is x u) n {t} e h = let same : u ≡ t = cc in rw (same, lt-ltb t n h)
+kept-left reading l nothing n e h = let z : _≡_ {A = ℕ} 0 1 = cc in absurd (omega arith)
+kept-left reading l overflow n e h = let z : _≡_ {A = ℕ} 0 1 = cc in absurd (omega arith)
 
 -- with none left, and where nothing is read, all is kept
 pub kept-all : (w : Parsed DateTime) (n : ℕ) {t : ℕ} → countOf w ≡ Is t → n ≤ t → kept n w ≡ w
@@ -179,15 +180,15 @@ time-arm NoTime k = record { tags = k }
 time-arm TimeOverflow k = record { tags = k }
 
 -- where no overflow stopped a time, nothing is left to say
-pub time-dropped : (w : TimeFound) → OneOf (0 ∷ 1 ∷ []) (tagOf time-type w) → NoTurn ≡ turnAnswer [] (stopped (parsedTime w))
-time-dropped w k = rw (dropped (time-arm w k))
+pub time-dropped : (reading : Reading) (w : TimeFound) → OneOf (0 ∷ 1 ∷ []) (tagOf time-type w) → NoTurn ≡ turnAnswer reading [] (stopped (parsedTime w))
+time-dropped reading w k = rw (dropped (time-arm w k))
 
 -- where no time is found, what would follow is not read
-pub time-unread : (l : List ℕ) (w : TimeFound) (f : Time → ℕ → Parsed Turn) → OneOf (1 ∷ 2 ∷ []) (tagOf time-type w) →
-    turnAnswer [] (stopped (parsedTime w)) ≡ turnAnswer l (andThen (parsedTime w) f)
-time-unread l w f k = go (parsedTime w) ∙ ap (turnAnswer l) (unread (parsedTime w) f (time-arm w k) refl)
+pub time-unread : (reading : Reading) (l : List ℕ) (w : TimeFound) (f : Time → ℕ → Parsed Turn) → OneOf (1 ∷ 2 ∷ []) (tagOf time-type w) →
+    turnAnswer reading [] (stopped (parsedTime w)) ≡ turnAnswer reading l (andThen (parsedTime w) f)
+time-unread reading l w f k = go (parsedTime w) ∙ ap (turnAnswer reading l) (unread (parsedTime w) f (time-arm w k) refl)
   where
-    go : (p : Parsed Time) → turnAnswer [] (stopped p) ≡ turnAnswer l (stopped p)
+    go : (p : Parsed Time) → turnAnswer reading [] (stopped p) ≡ turnAnswer reading l (stopped p)
     go (is time t) = refl
     go nothing = refl
     go overflow = refl
@@ -199,13 +200,13 @@ timedAnswer time s NoExpr = Whole (Timed NoDate) time s s
 timedAnswer time s ExprOverflow = TurnOverflow
 
 timed-is : (reading : Reading) (l m : List ℕ) {time : Time} {t : ℕ} → timeOf l ≡ is time t → m ≡ drop (commaOr l t lexeme.On) l →
-    turnAnswer l (timedTurnOf reading l) ≡ timedAnswer time (commaOr l t lexeme.On) (exprAnswer m (dateExprOf reading m))
+    turnAnswer reading l (timedTurnOf reading l) ≡ timedAnswer time (commaOr l t lexeme.On) (exprAnswer reading m (dateExprOf reading m))
 unfolding timedTurnOf
 timed-is reading l m {time} {t} e same = rw (same, e) (go (dateExprOf reading (drop (commaOr l t lexeme.On) l)))
   where
     go : (w : Parsed DateExpr) →
-        turnAnswer l (ifLet w (λ x u. is (whole (timeDate time x)) (commaOr l t lexeme.On + u)) (is (whole (timeDate time empty)) (commaOr l t lexeme.On)))
-        ≡ timedAnswer time (commaOr l t lexeme.On) (exprAnswer (drop (commaOr l t lexeme.On) l) w)
+        turnAnswer reading l (ifLet w (λ x u. is (whole (timeDate time x)) (commaOr l t lexeme.On + u)) (is (whole (timeDate time empty)) (commaOr l t lexeme.On)))
+        ≡ timedAnswer time (commaOr l t lexeme.On) (exprAnswer reading (drop (commaOr l t lexeme.On) l) w)
     go (is x u) = rw e
     go nothing = let z : commaOr l t lexeme.On + 0 ≡ commaOr l t lexeme.On = omega arith in rw (e, z)
     go overflow = refl
@@ -213,7 +214,7 @@ timed-is reading l m {time} {t} e same = rw (same, e) (go (dateExprOf reading (d
 -- the same by what the code learns on its way
 pub timed-turn : (reading : Reading) (l : List ℕ) {w : TimeFound} {time : Time} {t c : ℕ} {m : List ℕ} {r z : ExprTaken} →
     parsedTime w ≡ timeOf l → w ≡ IsTime time t → c ≡ oneIf (isAt l t lexeme.Comma || isAt l t lexeme.On) → m ≡ drop (t + c) l →
-    r ≡ exprAnswer m (dateExprOf reading m) → r ≡ z → timedAnswer time (t + c) z ≡ turnAnswer l (timedTurnOf reading l)
+    r ≡ exprAnswer reading m (dateExprOf reading m) → r ≡ z → timedAnswer time (t + c) z ≡ turnAnswer reading l (timedTurnOf reading l)
 timed-turn reading l {m = m} answer e comma here expr f =
     let time = rw (e) at (sym answer) in
     rw (← f, expr, comma) (sym (timed-is reading l m time (rw comma at here)))
@@ -224,33 +225,33 @@ timeAnswer x p (is time n) = Whole (Dated x) time p n
 timeAnswer x p nothing = NoTurn
 timeAnswer x p overflow = TurnOverflow
 
-pub time-stopped : (x : Expr) (p : ℕ) (w : TimeFound) {v : Parsed Time} → OneOf (1 ∷ 2 ∷ []) (tagOf time-type w) → parsedTime w ≡ v →
-    turnAnswer [] (stopped (parsedTime w)) ≡ timeAnswer x p v
-time-stopped x p w k e = rw (← e) (go w k)
+pub time-stopped : (reading : Reading) (x : Expr) (p : ℕ) (w : TimeFound) {v : Parsed Time} → OneOf (1 ∷ 2 ∷ []) (tagOf time-type w) → parsedTime w ≡ v →
+    turnAnswer reading [] (stopped (parsedTime w)) ≡ timeAnswer x p v
+time-stopped reading x p w k e = rw (← e) (go w k)
   where
-    go : (w : TimeFound) → OneOf (1 ∷ 2 ∷ []) (tagOf time-type w) → turnAnswer [] (stopped (parsedTime w)) ≡ timeAnswer x p (parsedTime w)
+    go : (w : TimeFound) → OneOf (1 ∷ 2 ∷ []) (tagOf time-type w) → turnAnswer reading [] (stopped (parsedTime w)) ≡ timeAnswer x p (parsedTime w)
     go (IsTime time t) k = neither 0 1 2 (eqb-false 0 1 refl) (eqb-false 0 2 refl) k
     go NoTime k = refl
     go TimeOverflow k = refl
 
 abbrev datedAnswer : Reading → List ℕ → ExprTaken → TurnTaken
 datedAnswer reading l (IsExpr x t p) = timeAnswer x p (timeBehindOf t l)
-datedAnswer reading l NoExpr = turnAnswer l (undatedTurnOf reading l)
+datedAnswer reading l NoExpr = turnAnswer reading l (undatedTurnOf reading l)
 datedAnswer reading l ExprOverflow = TurnOverflow
 
-pub dated-turn : (reading : Reading) (l : List ℕ) {b : Bool} {r z : ExprTaken} → b ≡ isAt l 0 lexeme.Now → b ≡ false → r ≡ exprAnswer l (dateExprOf reading l) →
-    r ≡ z → datedAnswer reading l z ≡ turnAnswer l (turnOf reading l)
+pub dated-turn : (reading : Reading) (l : List ℕ) {b : Bool} {r z : ExprTaken} → b ≡ isAt l 0 lexeme.Now → b ≡ false →
+    r ≡ exprAnswer reading l (dateExprOf reading l) → r ≡ z → datedAnswer reading l z ≡ turnAnswer reading l (turnOf reading l)
 unfolding turnOf
 dated-turn reading l test e expr f = rw (← f, expr, ← test, e) (sym (go (dateExprOf reading l)))
   where
-    dated : (x : DateExpr) (w : Parsed Time) → turnAnswer l (andThen w (λ time n. is (whole (dateTime x time)) n)) ≡ timeAnswer (shape x) (ownPlace l x) w
+    dated : (x : DateExpr) (w : Parsed Time) → turnAnswer reading l (andThen w (λ time n. is (whole (dateTime x time)) n)) ≡ timeAnswer (shape x) (ownPlace reading l x) w
     dated x (is time n) = refl
     dated x nothing = refl
     dated x overflow = refl
 
     go : (w : Parsed DateExpr) →
-        turnAnswer l (ifLet w (λ x t. andThen (timeBehindOf t l) (λ time n. is (whole (dateTime x time)) n)) (undatedTurnOf reading l))
-        ≡ datedAnswer reading l (exprAnswer l w)
+        turnAnswer reading l (ifLet w (λ x t. andThen (timeBehindOf t l) (λ time n. is (whole (dateTime x time)) n)) (undatedTurnOf reading l))
+        ≡ datedAnswer reading l (exprAnswer reading l w)
     go (is x t) = dated x (timeBehindOf t l)
     go nothing = refl
     go overflow = refl

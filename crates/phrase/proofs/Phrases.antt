@@ -38,10 +38,10 @@ abbrev pub endedWith : Ended → Chain → PhraseRead
 endedWith r x = record { chain = x; refusal = r .refusal; taken = r .count }
 
 -- of no lexemes nothing is kept
-none-kept : (w : Parsed DateTime) → Each (TreeHolds []) w → treeIn (kept 0 w) ≡ now
-none-kept (is x t) h = let one = h .bounds .one in let most = h .bounds .most in absurd (omega arith)
-none-kept nothing h = refl
-none-kept overflow h = refl
+none-kept : (reading : Reading) (w : Parsed DateTime) → Each (TreeHolds reading []) w → treeIn (kept 0 w) ≡ now
+none-kept reading (is x t) h = let one = h .bounds .one in let most = h .bounds .most in absurd (omega arith)
+none-kept reading nothing h = refl
+none-kept reading overflow h = refl
 
 -- of lexemes whose places are stored in front of an array, read as w
 codes-answer : (items : List Item) (a : List ℕ) → length items ≤ length a → (n : ℕ) (w : Parsed DateTime) →
@@ -93,7 +93,7 @@ module _ (reading : Reading) (s : List ℕ) where
           let codes = length-map items (λ (i : Item). i .code) in
           rw (front-whole keywords s items same, sets-taken (codesOf items) (replicate 64 0) (omega arith) (length items) codes)
           (codes-answer items (replicate 64 0) (whole .lexemes) (length s) (dateTimeOf reading (codesOf items)))
-      go same (of-refusal {r} bounds) = rw (ne-eqb (r .number) 0 (λ z. omega arith), none-kept (dateTimeOf reading []) (date-time-holds reading []))
+      go same (of-refusal {r} bounds) = rw (ne-eqb (r .number) 0 (λ z. omega arith), none-kept reading (dateTimeOf reading []) (date-time-holds reading []))
 
   pub read-answered : {line r : Ended} {codes starts : List ℕ} {x : Gathered} → line ≡ endedOf (lexed keywords s) →
       codes ≡ sets (replicate 64 0) 0 (codesOf (front keywords s)) → starts ≡ sets (replicate 64 0) 0 (startsOf (front keywords s)) →

@@ -42,14 +42,14 @@ pub record BaseStands (own : List Duration) (p : ℕ) (l : List ℕ) : Type 0 wh
   pub within : p ≤ length l
 
 -- the durations of a tree that stands at the front of l
-abbrev pub TreeStands : List ℕ → DateTime → Type 0
-TreeStands l (dateTime e t) = BaseStands (ownOf e) (ownPlace l e) l
-TreeStands l (timeDate t e) = BaseStands (ownOf e) (timeTaken l + ownPlace (drop (timeTaken l) l) e) l
-TreeStands l (durationAfter dur x) =
-    LinkStands l false dur (linkTaken l) × (linkTaken l ≤ length l) × TreeStands (drop (linkTaken l) l) x
-TreeStands l (durationBefore dur x) =
-    LinkStands l true dur (linkTaken l) × (linkTaken l ≤ length l) × TreeStands (drop (linkTaken l) l) x
-TreeStands l now = Unit
+abbrev pub TreeStands : Reading → List ℕ → DateTime → Type 0
+TreeStands reading l (dateTime e t) = BaseStands (ownOf e) (ownPlace reading l e) l
+TreeStands reading l (timeDate t e) = BaseStands (ownOf e) (timeTaken l + ownPlace reading (drop (timeTaken l) l) e) l
+TreeStands reading l (durationAfter dur x) =
+    LinkStands l false dur (linkTaken l) × (linkTaken l ≤ length l) × TreeStands reading (drop (linkTaken l) l) x
+TreeStands reading l (durationBefore dur x) =
+    LinkStands l true dur (linkTaken l) × (linkTaken l ≤ length l) × TreeStands reading (drop (linkTaken l) l) x
+TreeStands reading l now = Unit
 
 -- no link
 abbrev pub Bare : DateTime → Type 0
@@ -59,10 +59,10 @@ Bare (durationAfter dur x) = ⊥
 Bare (durationBefore dur x) = ⊥
 Bare now = Unit
 
-abbrev pub TurnStands : List ℕ → Turn → ℕ → Type 0
-TurnStands l (whole x) t = TreeStands l x × Bare x
-TurnStands l (ago dur) t = LinkStands l true dur t
-TurnStands l (link back dur) t = LinkStands l back dur t
+abbrev pub TurnStands : Reading → List ℕ → Turn → ℕ → Type 0
+TurnStands reading l (whole x) t = TreeStands reading l x × Bare x
+TurnStands reading l (ago dur) t = LinkStands l true dur t
+TurnStands reading l (link back dur) t = LinkStands l back dur t
 
 -- the parts of a turn
 abbrev sizeTurn : Turn → ℕ
@@ -71,18 +71,18 @@ sizeTurn (ago dur) = size dur
 sizeTurn (link back dur) = size dur
 
 -- a turn of t lexemes, three for each part
-pub record TurnHolds (l : List ℕ) (x : Turn) (t : ℕ) : Type 0 where
+pub record TurnHolds (reading : Reading) (l : List ℕ) (x : Turn) (t : ℕ) : Type 0 where
   pub one : 1 ≤ t
   pub most : t ≤ length l
   pub few : 3 * sizeTurn x ≤ t
-  pub stands : TurnStands l x t
+  pub stands : TurnStands reading l x t
 
 -- a tree of t lexemes
-pub record TreeHolds (l : List ℕ) (x : DateTime) (t : ℕ) : Type 0 where
+pub record TreeHolds (reading : Reading) (l : List ℕ) (x : DateTime) (t : ℕ) : Type 0 where
   pub one : 1 ≤ t
   pub most : t ≤ length l
   pub few : 3 * sizeTree x ≤ t
-  pub stands : TreeStands l x
+  pub stands : TreeStands reading l x
 
 -- a comma or another word that is taken where it stands is there
 comma-most : (l : List ℕ) (t x : ℕ) → t ≤ length l → commaOr l t x ≤ length l
@@ -104,7 +104,7 @@ time-behind-took t l h =
     (record { bounds = (omega arith, omega arith) })
 
 -- the duration of a date expression
-expr-base : (reading : Reading) (l : List ℕ) (x : DateExpr) (t : ℕ) → dateExprOf reading l ≡ is x t → BaseStands (ownOf x) (ownPlace l x) l
+expr-base : (reading : Reading) (l : List ℕ) (x : DateExpr) (t : ℕ) → dateExprOf reading l ≡ is x t → BaseStands (ownOf x) (ownPlace reading l x) l
 expr-base reading l x t e =
     let b = (rw e at (expr-few reading l)) .bounds in
     record { stands = b .stands; within = omega arith }
@@ -115,7 +115,7 @@ further own p s l h b =
     let left = length-drop s l in
     record { stands = rw (drop-drop p s l) at (b .stands); within = omega arith }
 
-timed-holds : (reading : Reading) (l : List ℕ) → Each (TurnHolds l) (timedTurnOf reading l)
+timed-holds : (reading : Reading) (l : List ℕ) → Each (TurnHolds reading l) (timedTurnOf reading l)
 unfolding timedTurnOf
 timed-holds reading l =
     then-each (timeOf l) _ (λ time t e.
@@ -129,7 +129,7 @@ timed-holds reading l =
         one = omega arith;
         most = omega arith;
         few = omega arith;
-        stands = rw e (further (ownOf x) (ownPlace (drop s l) x) s l most (expr-base reading (drop s l) x u f), tt);
+        stands = rw e (further (ownOf x) (ownPlace reading (drop s l) x) s l most (expr-base reading (drop s l) x u f), tt);
       };
     })
     (record {
@@ -141,10 +141,10 @@ timed-holds reading l =
       };
     }))
 
-module _ (l : List ℕ) (dur : Duration) (t : ℕ) (e : durationOf l ≡ is dur t) where
+module _ (reading : Reading) (l : List ℕ) (dur : Duration) (t : ℕ) (e : durationOf l ≡ is dur t) where
   -- a word behind a duration
   behind : (x : Turn) (back : Bool) (word : ℕ) → isAt l t word ≡ true → isBack l t ≡ back → sizeTurn x ≡ size dur →
-      (LinkStands l back dur (t + 1) → TurnStands l x (t + 1)) → Each (TurnHolds l) (is x (t + 1))
+      (LinkStands l back dur (t + 1) → TurnStands reading l x (t + 1)) → Each (TurnHolds reading l) (is x (t + 1))
   behind x back word h direction same stands =
       let some = there (at-most l t word) h in
       let b = duration-bounds l e in
@@ -157,7 +157,7 @@ module _ (l : List ℕ) (dur : Duration) (t : ℕ) (e : durationOf l ≡ is dur 
         };
       }
 
-  duration-holds : Each (TurnHolds l) (withDurationOf dur t l)
+  duration-holds : Each (TurnHolds reading l) (withDurationOf dur t l)
   unfolding withDurationOf
   duration-holds =
       pick-each (isAt l t lexeme.After) (λ a. behind (link false dur) false lexeme.After a (rw a) refl (λ s. s))
@@ -166,12 +166,12 @@ module _ (l : List ℕ) (dur : Duration) (t : ℕ) (e : durationOf l ≡ is dur 
       (λ c. pick-each (isAt l t lexeme.Ago) (λ d. behind (ago dur) true lexeme.Ago d (rw (a, b)) refl (λ s. s))
       (λ d. record { bounds = tt }))))
 
-undated-holds : (reading : Reading) (l : List ℕ) → Each (TurnHolds l) (undatedTurnOf reading l)
+undated-holds : (reading : Reading) (l : List ℕ) → Each (TurnHolds reading l) (undatedTurnOf reading l)
 unfolding undatedTurnOf
-undated-holds reading l = if-let-each (durationOf l) _ _ (λ dur t e. duration-holds l dur t e) (timed-holds reading l)
+undated-holds reading l = if-let-each (durationOf l) _ _ (λ dur t e. duration-holds reading l dur t e) (timed-holds reading l)
 
 -- one turn
-pub turn-holds : (reading : Reading) (l : List ℕ) → Each (TurnHolds l) (turnOf reading l)
+pub turn-holds : (reading : Reading) (l : List ℕ) → Each (TurnHolds reading l) (turnOf reading l)
 unfolding turnOf
 turn-holds reading l =
     pick-each (isAt l 0 lexeme.Now)
@@ -190,23 +190,24 @@ pub link-taken : {l : List ℕ} {back : Bool} {dur : Duration} {t : ℕ} → Lin
 link-taken s = rw (s .reading) (sym (s .one))
 
 -- a link around a tree
-around-stands : (back : Bool) (dur : Duration) (x : DateTime) (l : List ℕ) (t : ℕ) →
-    LinkStands l back dur t → t ≤ length l → TreeStands (drop t l) x → TreeStands l (around back dur x)
-around-stands true dur x l t s most h = rw (link-taken s) (s, most, h)
-around-stands false dur x l t s most h = rw (link-taken s) (s, most, h)
+around-stands : (reading : Reading) (back : Bool) (dur : Duration) (x : DateTime) (l : List ℕ) (t : ℕ) →
+    LinkStands l back dur t → t ≤ length l → TreeStands reading (drop t l) x → TreeStands reading l (around back dur x)
+around-stands reading true dur x l t s most h = rw (link-taken s) (s, most, h)
+around-stands reading false dur x l t s most h = rw (link-taken s) (s, most, h)
 
 around-size : (back : Bool) (dur : Duration) (x : DateTime) → sizeTree (around back dur x) ≡ size dur + sizeTree x
 around-size true dur x = refl
 around-size false dur x = refl
 
-step-holds : (reading : Reading) (D : List ℕ → Parsed DateTime) → ((m : List ℕ) → Each (TreeHolds m) (D m)) → (l : List ℕ) → Each (TreeHolds l) (dateTimeStep reading D l)
+step-holds : (reading : Reading) (D : List ℕ → Parsed DateTime) → ((m : List ℕ) → Each (TreeHolds reading m) (D m)) → (l : List ℕ)
+    → Each (TreeHolds reading l) (dateTimeStep reading D l)
 unfolding dateTimeStep
 step-holds reading D holds l = then-each (turnOf reading l) _ (λ x t e. go x t ((rw e at (turn-holds reading l)) .bounds))
   where
-    go : (x : Turn) (t : ℕ) → TurnHolds l x t → Each (TreeHolds l) (againOf D l x t)
+    go : (x : Turn) (t : ℕ) → TurnHolds reading l x t → Each (TreeHolds reading l) (againOf D l x t)
     go (whole x) t h = record { bounds = record { one = h .one; most = h .most; few = h .few; stands = h .stands .0 } }
     go (ago dur) t h = record {
-      bounds = record { one = h .one; most = h .most; few = omega arith; stands = around-stands true dur now l t (h .stands) (h .most) tt };
+      bounds = record { one = h .one; most = h .most; few = omega arith; stands = around-stands reading true dur now l t (h .stands) (h .most) tt };
     }
     go (link back dur) t h =
         then-each (D (drop t l)) _ (λ x u e.
@@ -218,11 +219,11 @@ step-holds reading D holds l = then-each (turnOf reading l) _ (λ x t e. go x t 
             one = omega arith;
             most = omega arith;
             few = omega arith;
-            stands = around-stands back dur x l t (h .stands) (h .most) (k .stands);
+            stands = around-stands reading back dur x l t (h .stands) (h .most) (k .stands);
           };
         })
 
 -- a whole tree
-pub date-time-holds : (reading : Reading) (l : List ℕ) → Each (TreeHolds l) (dateTimeOf reading l)
+pub date-time-holds : (reading : Reading) (l : List ℕ) → Each (TreeHolds reading l) (dateTimeOf reading l)
 unfolding dateTimeOf
-date-time-holds reading l = again-keeps nothing (dateTimeStep reading) (λ m w. Each (TreeHolds m) w) (λ m. record { bounds = tt }) (step-holds reading) l
+date-time-holds reading l = again-keeps nothing (dateTimeStep reading) (λ m w. Each (TreeHolds reading m) w) (λ m. record { bounds = tt }) (step-holds reading) l

@@ -5,6 +5,7 @@ use mathlib.Core.List.{List}
 use lib.Dec.{ltb}
 use lib.ListN.{drop}
 use Rattle.lexer.specs.Lexemes as lexeme
+use Rattle.lexer.specs.declared.reading.Reading.{Reading}
 use Rattle.numbers.specs.Slices.{isAt}
 use Rattle.dates.specs.Parsed.{Parsed, is, nothing, overflow}
 use Rattle.dates.specs.Durations.{durationOf, rowed}
@@ -40,13 +41,13 @@ abbrev pub timeTaken : List ℕ → ℕ
 timeTaken l = commaOr l (takenOf (timeOf l)) lexeme.On
 
 -- the outline of a tree that stands at the front of l, behind m links; the place of its base's own duration is counted from the base on
-abbrev pub outline : Count → ℕ → List ℕ → DateTime → Outline
-outline k m l (dateTime e t) = record { taken = k; base = Dated (shape e); time = t; own = ownPlace l e; m = m }
-outline k m l (timeDate t e) =
-    record { taken = k; base = Timed (shape e); time = t; own = timeTaken l + ownPlace (drop (timeTaken l) l) e; m = m }
-outline k m l (durationAfter dur x) = outline k (m + 1) (drop (linkTaken l) l) x
-outline k m l (durationBefore dur x) = outline k (m + 1) (drop (linkTaken l) l) x
-outline k m l now = record { taken = k; base = Now; time = Empty; own = 0; m = m }
+abbrev pub outline : Reading → Count → ℕ → List ℕ → DateTime → Outline
+outline reading k m l (dateTime e t) = record { taken = k; base = Dated (shape e); time = t; own = ownPlace reading l e; m = m }
+outline reading k m l (timeDate t e) =
+    record { taken = k; base = Timed (shape e); time = t; own = timeTaken l + ownPlace reading (drop (timeTaken l) l) e; m = m }
+outline reading k m l (durationAfter dur x) = outline reading k (m + 1) (drop (linkTaken l) l) x
+outline reading k m l (durationBefore dur x) = outline reading k (m + 1) (drop (linkTaken l) l) x
+outline reading k m l now = record { taken = k; base = Now; time = Empty; own = 0; m = m }
 
 -- how a reading ended
 abbrev pub countOf : {A : Type 0} → Parsed A → Count
@@ -61,16 +62,16 @@ treeIn nothing = now
 treeIn overflow = now
 
 -- the code's answer for a whole tree
-abbrev pub outlineAnswer : List ℕ → Parsed DateTime → Outline
-outlineAnswer l w = outline (countOf w) 0 l (treeIn w)
+abbrev pub outlineAnswer : Reading → List ℕ → Parsed DateTime → Outline
+outlineAnswer reading l w = outline reading (countOf w) 0 l (treeIn w)
 
 -- the code's answer for one turn
-abbrev pub turnAnswer : List ℕ → Parsed Turn → TurnTaken
-turnAnswer l (is (whole x) t) = let o = outline (Is t) 0 l x in Whole (o .base) (o .time) (o .own) t
-turnAnswer l (is (ago dur) t) = Ago t
-turnAnswer l (is (link back dur) t) = Link t
-turnAnswer l nothing = NoTurn
-turnAnswer l overflow = TurnOverflow
+abbrev pub turnAnswer : Reading → List ℕ → Parsed Turn → TurnTaken
+turnAnswer reading l (is (whole x) t) = let o = outline reading (Is t) 0 l x in Whole (o .base) (o .time) (o .own) t
+turnAnswer reading l (is (ago dur) t) = Ago t
+turnAnswer reading l (is (link back dur) t) = Link t
+turnAnswer reading l nothing = NoTurn
+turnAnswer reading l overflow = TurnOverflow
 
 -- what is kept of a reading: the tree only where at least n lexemes are taken
 abbrev pub kept : ℕ → Parsed DateTime → Parsed DateTime

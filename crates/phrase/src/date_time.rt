@@ -85,9 +85,9 @@ fn time_behind(l: &[u64], t: usize) -> TimeFound
     }
 }
 
-// after | from | before | ago behind a duration of t lexemes, whichever that is
+// after | from | before | ago behind a duration of t lexemes, whichever that is, in either reading
 fn with_duration(l: &[u64], t: usize) -> TurnTaken
-    ensures { λ r. ⌜ ((dur : Duration) → r ≡ turnAnswer (now (l .entry)) (withDurationOf dur t (now (l .entry)))) ⌝ }
+    ensures { λ r. ⌜ ((reading : Reading) (dur : Duration) → r ≡ turnAnswer reading (now (l .entry)) (withDurationOf dur t (now (l .entry)))) ⌝ }
 {
     if is_at(l, t, AFTER) {
         return TurnTaken::Link(t + 1);
@@ -106,7 +106,7 @@ fn with_duration(l: &[u64], t: usize) -> TurnTaken
 
 // Where no time is found: nothing, or the overflow.
 fn turn_stopped(a: TimeFound) -> TurnTaken
-    ensures { λ r. ⌜ r ≡ turnAnswer [] (stopped (parsedTime a)) ⌝ }
+    ensures { λ r. ⌜ ((reading : Reading) → r ≡ turnAnswer reading [] (stopped (parsedTime a))) ⌝ }
 {
     let TimeFound::Overflow = a else {
         return TurnTaken::Nothing;
@@ -116,7 +116,7 @@ fn turn_stopped(a: TimeFound) -> TurnTaken
 
 // <time> [, | on] [<date_expr>]
 fn read_timed(reading: Reading, l: &[u64]) -> TurnTaken
-    ensures { λ r. ⌜ r ≡ turnAnswer (now (l .entry)) (timedTurnOf reading (now (l .entry))) ⌝ }
+    ensures { λ r. ⌜ r ≡ turnAnswer reading (now (l .entry)) (timedTurnOf reading (now (l .entry))) ⌝ }
 {
     let a = read_time(l);
     let TimeFound::Is(time, t) = a else {
@@ -133,7 +133,7 @@ fn read_timed(reading: Reading, l: &[u64]) -> TurnTaken
 
 // A duration and its connection, or a bare time.
 fn read_undated(reading: Reading, l: &[u64]) -> TurnTaken
-    ensures { λ r. ⌜ r ≡ turnAnswer (now (l .entry)) (undatedTurnOf reading (now (l .entry))) ⌝ }
+    ensures { λ r. ⌜ r ≡ turnAnswer reading (now (l .entry)) (undatedTurnOf reading (now (l .entry))) ⌝ }
 {
     let taken = read_duration(l);
     match taken {
@@ -148,7 +148,7 @@ fn read_undated(reading: Reading, l: &[u64]) -> TurnTaken
 
 // One turn of DateTime::parse: now, a dated phrase, a duration, or a bare time last.
 fn read_turn(reading: Reading, l: &[u64]) -> TurnTaken
-    ensures { λ r. ⌜ r ≡ turnAnswer (now (l .entry)) (turnOf reading (now (l .entry))) ⌝ }
+    ensures { λ r. ⌜ r ≡ turnAnswer reading (now (l .entry)) (turnOf reading (now (l .entry))) ⌝ }
 {
     if is_at(l, 0, NOW) {
         return TurnTaken::Whole(Base::Now, Time::Empty, 0, 1);
@@ -169,7 +169,7 @@ fn read_turn(reading: Reading, l: &[u64]) -> TurnTaken
 
 // The outline of now: where nothing is kept of what was read.
 fn ended(taken: Count) -> Outline
-    ensures { λ r. ⌜ r ≡ outline taken 0 [] bare ⌝ }
+    ensures { λ r. ⌜ ((reading : Reading) → r ≡ outline reading taken 0 [] bare) ⌝ }
 {
     Outline {
         taken,
@@ -182,7 +182,7 @@ fn ended(taken: Count) -> Outline
 
 // DateTime::parse, turn after turn: behind a link a datetime is read again.
 fn read_date_time(reading: Reading, l: &[u64]) -> Outline
-    ensures { λ r. ⌜ r ≡ outlineAnswer (now (l .entry)) (dateTimeOf reading (now (l .entry))) ⌝ }
+    ensures { λ r. ⌜ r ≡ outlineAnswer reading (now (l .entry)) (dateTimeOf reading (now (l .entry))) ⌝ }
 {
     let mut at: usize = 0;
     let mut m: usize = 0;
@@ -223,7 +223,7 @@ fn read_date_time(reading: Reading, l: &[u64]) -> Outline
 
 // The same, kept only where at least n lexemes are taken.
 pub(crate) fn read_outline(reading: Reading, l: &[u64], n: usize) -> Outline
-    ensures { λ r. ⌜ r ≡ outlineAnswer (now (l .entry)) (kept n (dateTimeOf reading (now (l .entry)))) ⌝ }
+    ensures { λ r. ⌜ r ≡ outlineAnswer reading (now (l .entry)) (kept n (dateTimeOf reading (now (l .entry)))) ⌝ }
 {
     let o = read_date_time(reading, l);
     let taken = o.taken;

@@ -38,7 +38,7 @@ RD TH
 ONES = "One Two Three Four Five Six Seven Eight Nine Ten Eleven Twelve Thirteen Fourteen Fifteen Sixteen Seventeen Eighteen Nineteen"
 TENS = "Twenty Thirty Fourty Fifty Sixty Seventy Eighty Ninety"
 VALUES = {name: k + 1 for k, name in enumerate(ONES.split())} | {name: 20 + 10 * k for k, name in enumerate(TENS.split())}
-# a number word's code is its value; every other lexeme but Num has its code from 100 on
+# a number word's code is its value; every other lexeme but Num has its code from 100 on; a literal's has its digits times 2^32 above its value
 OTHERS = [name for name in LEXEMES.split() if name not in VALUES and name != "Num"]
 CODES = VALUES | {name: 100 + k for k, name in enumerate(OTHERS)}
 WORDS = {word.encode(): CODES[name] for word, name in (row.split(":") for row in KEYWORDS.split())}
@@ -50,7 +50,7 @@ def code_of(part):
     if part.isalpha():
         return WORDS.get(part.lower(), -2)
     if part.isdigit():
-        return 1000 + int(part) if int(part) <= 4294967295 else -3
+        return 2**32 * len(part) + int(part) if int(part) <= 4294967295 else -3
     return MARKS.get(part, -2)
 
 
@@ -119,6 +119,8 @@ def cases():
         yield digits
         yield b"0" * 30 + digits
     yield from [b"9" * 30, b"1" + b"0" * 30, b"0" * 200, b"0" * 255 + b"7", b"18446744073709551616", b"18446744073709551617"]
+    # leading zeros are digits too
+    yield from [b"5", b"05", b"0005", b"2027 02027", b"0" * 256, b"0" * 257]
     yield from [b"36893488147419103232", b"4294967296" * 25, b"340282366920938463463374607431768211456"]
     # letters beside digits, marks and gaps
     yield from [b"10am", b"5pm5", b"am10pm", b"march4th", b"1st2nd3rd4th", b"x1", b"1x", b"a1a1"]

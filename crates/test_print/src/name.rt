@@ -52,7 +52,7 @@ pub fn write_lexeme(code: u64) {
     if code < NUM {
         return write_row(code - 72);
     }
-    number(b"Num(", code - NUM);
+    number(b"Num(", code % NUM);
     text(b")");
 }
 

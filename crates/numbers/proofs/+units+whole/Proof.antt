@@ -7,6 +7,7 @@ use denote.Ref.{now}
 use borrow.Author.Needs.{needs}
 use borrow.Fn.Kinds.{In}
 use borrow.Fn.PlainCycle.{Measures, is, falls, and}
+use Rattle.numbers.specs.Answers.{USIZE}
 use Rattle.numbers.specs.Numbers.{tailOf, unitsOf, numStep, numOf}
 use Rattle.numbers.proofs.NumberAnswers.{kept, none, found, most, wider, promised}
 use Rattle.numbers.proofs.NumberBounds.{product, units-read, num-read}
@@ -214,8 +215,8 @@ module _ (t : ℕ) where
   read : (c : units-lts.After-known-told2 units-claims units-at units.Post) →
       let triple = c .before .before .before .before .before .before .triple .given .0 .0 in
       let unit = c .before .unit .given .0 .0 in
-      (triple .value * unit .value ≤ 999000000000) × (0 < unit .taken)
-      × (triple .taken + unit .taken ≤ length (c .before .before .before .before .before .before .before .before .before .args .l .now))
+      let n = length (c .before .before .before .before .before .before .before .before .before .args .l .now) in
+      (triple .value * unit .value ≤ 999000000000) × (0 < unit .taken) × (triple .taken + unit .taken ≤ n) × (n ≤ USIZE)
   read c =
       let behind = c .before .before .before in
       let b = found (behind .before .before .before .triple .given .1) (behind .before .before .before .before .before .before .pre .1) in

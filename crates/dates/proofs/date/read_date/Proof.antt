@@ -18,7 +18,7 @@ returns : tie.Need-returns
 unfolding dateOf
 returns c =
     let read-named-day = c .before .read-named-day in
-    promised (rw (← (read-named-day .ensures)) (kept _ _ (date-arm (read-named-day .result) (c .match .keys2)))) (date-took _)
+    promised (rw (← (read-named-day .ensures)) (kept _ _ (date-arm (read-named-day .result) (c .match .keys2)))) (date-took _ _)
 
 num-requires : tie.Need-num-requires
 num-requires c κs = search needs
@@ -37,7 +37,7 @@ returns-2 c =
       ← (c .before .before .before .before .before .read-named-day .ensures),
       c .before .before .before .enum-told .given .1,
       ← (read-day-month-year .ensures),
-    ) (kept _ _ (date-arm (read-day-month-year .result) (c .match2 .keys2)))) (date-took _)
+    ) (kept _ _ (date-arm (read-day-month-year .result) (c .match2 .keys2)))) (date-took _ _)
 
 read-month-requires : tie.Need-read-month-requires
 read-month-requires c κs = search needs
@@ -62,7 +62,7 @@ returns-3 c =
       ← (c .before .before .before .read-month .ensures .0),
       c .before .enum-told3 .given .1,
       ← (c .read-delimited .ensures),
-    )) (date-took _)
+    )) (date-took _ _)
 
 read-month-day-requires : tie.Need-read-month-day-requires
 read-month-day-requires c κs =
@@ -80,7 +80,7 @@ returns-4 c =
       ← (c .before .before .before .before .read-month .ensures .0),
       c .before .before .month .given .1,
       ← (c .read-month-day .ensures),
-    )) (date-took _)
+    )) (date-took _ _)
 
 pub read-date-spec : {M : Type 1} → statement M
 read-date-spec =

@@ -1,6 +1,10 @@
+use mathlib.Core.Path.{_≡_}
+use Prim.Native.Nat.{_+_}
 use native.Mathlib.Omega.{arith}
 use Rattle.numbers.proofs.NumberAnswers.{found as number-found}
-use Rattle.dates.specs.Dates.{monthDayOf}
+use Rattle.dates.specs.Parsed.{is, ifLet}
+use Rattle.dates.specs.Dates.{yearOf, monthDayOf}
+use Rattle.dates.specs.declared.date.Date.the-variants.{MonthDayYear, MonthDay}
 use Rattle.dates.proofs.Parsed.{number-arm, unread}
 use borrow.Author.Needs.{needs}
 use Rattle.dates.proofs.date.read_month_day.Statement.{statement}
@@ -39,11 +43,42 @@ num-requires-2 c κs = search needs
 enum-known-year : tie.Need-enum-known-year
 enum-known-year c = search needs
 
-add-t12 : tie.Need-add-t12
-add-t12 c =
-    let room = rest-requires-2 (c .before .before .before .before .before .before) (c .before .before .before .before .before .before .before .before .before .before .before .before .before .κs) in
-    let e = number-found (c .before .before .year .given .1) (c .before .before .before .before .num2 .ensures .1) in
+is-year-in-requires : tie.Need-is-year-in-requires
+is-year-in-requires c κs = search needs
+
+add-t14 : tie.Need-add-t14
+add-t14 c =
+    let place = c .before .before .before .before .before .before .before .before in
+    let room = rest-requires-2 place (place .before .before .before .before .before .before .before .κs) in
+    let e = number-found (c .before .before .before .before .year .given .1) (c .before .before .before .before .before .before .num2 .ensures .1) in
     omega arith
+
+-- both numbers are read: what the second says is left to look at
+second-read : (c : tie.After-num2) →
+    let given = c .before .before .before .before .before .before .before .before .before .args in
+    let day = c .before .before .before .before .a .given .0 .0 in
+    monthDayOf (given .reading) (given .month) (given .l .now)
+    ≡ ifLet (yearOf (given .reading) (c .num2 .result))
+    (λ year u. is (MonthDayYear (given .month) (day .value) year) (1 + day .taken + u))
+    (is (MonthDay (given .month) (day .value)) (1 + day .taken))
+unfolding monthDayOf
+second-read c =
+    rw (
+      ← (c .before .before .before .before .before .before .before .rest .ensures .0),
+      ← (c .before .before .before .before .before .before .num .ensures .0),
+      c .before .before .before .before .a .given .1,
+      ← (c .before .rest2 .ensures .0),
+      ← (c .num2 .ensures .0),
+    )
+
+returns-2 : tie.Need-returns-2
+returns-2 c =
+    rw (
+      second-read (c .before .before .before .before .before .before),
+      c .before .before .before .before .year .given .1,
+      ← (c .before .before .is-year-in .ensures),
+      c .before .if1 .taken,
+    )
 
 enum-told : tie.Need-enum-told
 enum-told c = search needs
@@ -51,41 +86,20 @@ enum-told c = search needs
 enum-told-2 : tie.Need-enum-told-2
 enum-told-2 c = search needs
 
-returns-2 : tie.Need-returns-2
-unfolding monthDayOf
-returns-2 c =
-    rw (
-      ← (c .before .before .before .before .before .before .before .before .before .before .before .rest .ensures .0),
-      ← (c .before .before .before .before .before .before .before .before .before .before .num .ensures .0),
-      c .before .before .before .before .before .before .before .before .a .given .1,
-      ← (c .before .before .before .before .before .rest2 .ensures .0),
-      ← (c .before .before .before .before .num2 .ensures .0),
-      c .before .before .year .given .1,
-    )
-
 returns-3 : tie.Need-returns-3
-unfolding monthDayOf
 returns-3 c =
     rw (
-      ← (c .before .before .before .before .before .before .before .before .before .rest .ensures .0),
-      ← (c .before .before .before .before .before .before .before .before .num .ensures .0),
-      c .before .before .before .before .before .before .a .given .1,
-      ← (c .before .before .before .rest2 .ensures .0),
-      ← (c .before .before .num2 .ensures .0),
-      c .enum-told .given .1,
+      second-read (c .before .before .before .before .before),
+      c .before .before .before .year .given .1,
+      ← (c .before .is-year-in .ensures),
+      c .if1 .left,
     )
 
 returns-4 : tie.Need-returns-4
-unfolding monthDayOf
-returns-4 c =
-    rw (
-      ← (c .before .before .before .before .before .before .before .before .before .rest .ensures .0),
-      ← (c .before .before .before .before .before .before .before .before .num .ensures .0),
-      c .before .before .before .before .before .before .a .given .1,
-      ← (c .before .before .before .rest2 .ensures .0),
-      ← (c .before .before .num2 .ensures .0),
-      c .enum-told2 .given .1,
-    )
+returns-4 c = rw (second-read (c .before .before), c .enum-told .given .1)
+
+returns-5 : tie.Need-returns-5
+returns-5 c = rw (second-read (c .before .before), c .enum-told2 .given .1)
 
 pub read-month-day-spec : {M : Type 1} → statement M
 read-month-day-spec =
@@ -100,9 +114,11 @@ read-month-day-spec =
     rest-requires-2
     num-requires-2
     enum-known-year
-    add-t12
+    is-year-in-requires
+    add-t14
+    returns-2
     enum-told
     enum-told-2
-    returns-2
     returns-3
-    returns-4)
+    returns-4
+    returns-5)

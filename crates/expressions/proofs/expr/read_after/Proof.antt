@@ -25,8 +25,8 @@ returns c =
     λ dur. rw (← (c .before .before .before .rest .ensures .0), ← (read-date .ensures .0))
     (c .expr-stopped .ensures ∙ ap (answerAt 0) (unread _ _ (date-arm (read-date .result) (c .before .match .keys2)) refl))
 
-add-t8 : tie.Need-add-t8
-add-t8 c =
+add-t9 : tie.Need-add-t9
+add-t9 c =
     let b = found (ap parsedDate (c .before .a .given .1)) (c .before .before .before .read-date .ensures .1) in
     omega arith
 
@@ -36,4 +36,4 @@ returns-2 c =
 
 pub read-after-spec : {M : Type 1} → statement M
 read-after-spec =
-    tie.close (tie.spec rest-requires read-date-requires enum-known-a expr-stopped-requires returns add-t8 returns-2)
+    tie.close (tie.spec rest-requires read-date-requires enum-known-a expr-stopped-requires returns add-t9 returns-2)

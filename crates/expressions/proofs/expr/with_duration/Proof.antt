@@ -13,8 +13,8 @@ returns c = λ dur e. rw (e ∙ c .if1 .taken)
 is-at-requires : tie.Need-is-at-requires
 is-at-requires c κs = search needs
 
-add-t8 : tie.Need-add-t8
-add-t8 c = search needs
+add-t9 : tie.Need-add-t9
+add-t9 c = search needs
 
 returns-2 : tie.Need-returns-2
 unfolding withDurationOf
@@ -85,7 +85,7 @@ with-duration-spec =
     (tie.spec
     returns
     is-at-requires
-    add-t8
+    add-t9
     returns-2
     is-at-requires-2
     add-read-after

@@ -67,9 +67,6 @@ loop-again c =
           (at .loop .inv .2 ∙ ap (λ x. min x 4294967296) (digit-more s e v on) ∙ sym (cut-off (v * 10 + (getD s e 0 - 48)) 4294967296 left)),
     )
 
-add-t9 : tie.Need-add-t9 Inv-loop μ-loop
-add-t9 c = omega arith
-
 -- where the loop ends, the run ends and v is what it says, cut off
 ended : (c : tie.Else1 Inv-loop μ-loop)
     → let at = c .before .before in
@@ -83,13 +80,26 @@ ended c =
     let says = at .loop .inv .2 ∙ ap (λ x. min x 4294967296) (digits-over s (at .loop .e) (at .loop .v) off) in
     (omega (arith, at .loop .inv .0, digits-end s (at .loop .e) off), omega (arith, says, at .loop .inv .1))
 
+sub-said-digits : tie.Need-sub-said-digits Inv-loop μ-loop
+sub-said-digits c = omega (arith, ended (c .before) .0)
+
+said-digits-requires : tie.Need-said-digits-requires Inv-loop μ-loop
+said-digits-requires c κs = search needs
+
+mul-t11 : tie.Need-mul-t11 Inv-loop μ-loop
+mul-t11 c = omega (arith, c .said-digits .ensures)
+
+add-t12 : tie.Need-add-t12 Inv-loop μ-loop
+add-t12 c = omega (arith, c .said-digits .ensures, c .before .if2 .taken)
+
 returns : tie.Need-returns Inv-loop μ-loop
 unfolding numberAt
 returns c =
-    let at = c .before .before .before in
-    let end = ended (c .before) in
-    let value : numberFrom (at .before .before .args .s .now) (at .before .before .args .a) ≡ at .loop .v = omega (arith, end .1, c .if2 .taken) in
-    rw (value, end .0, le-leb (at .loop .v) 4294967295 (omega (arith, c .if2 .taken)))
+    let at = c .before .before .before .before in
+    let end = ended (c .before .before) in
+    let small = c .before .if2 .taken in
+    let value : numberFrom (at .before .before .args .s .now) (at .before .before .args .a) ≡ at .loop .v = omega (arith, end .1, small) in
+    rw (value, end .0, le-leb (at .loop .v) 4294967295 (omega (arith, small)), c .said-digits .ensures)
 
 returns-2 : tie.Need-returns-2 Inv-loop μ-loop
 unfolding numberAt
@@ -112,6 +122,9 @@ number-at-spec =
     add-e
     loop-less
     loop-again
-    add-t9
+    sub-said-digits
+    said-digits-requires
+    mul-t11
+    add-t12
     returns
     returns-2)

@@ -84,7 +84,8 @@ ended-requires c κs = search needs
 returns-3 : tie.Need-returns-3 Inv-loop μ-loop
 returns-3 c =
     let d = c .before .before .before in
-    c .ended .ensures ∙ sym (turn-learnt (d .before .before .loop .inv) (d .before .rest .ensures .0) (d .read-turn .ensures) (c .before .enum-told .given .1))
+    c .ended .ensures (d .before .before .before .before .args .reading)
+    ∙ sym (turn-learnt (d .before .before .loop .inv) (d .before .rest .ensures .0) (d .read-turn .ensures) (c .before .enum-told .given .1))
 
 enum-told-2 : tie.Need-enum-told-2 Inv-loop μ-loop
 enum-told-2 c = search needs
@@ -95,7 +96,8 @@ ended-requires-2 c κs = search needs
 returns-4 : tie.Need-returns-4 Inv-loop μ-loop
 returns-4 c =
     let d = c .before .before .before in
-    c .ended2 .ensures ∙ sym (turn-learnt (d .before .before .loop .inv) (d .before .rest .ensures .0) (d .read-turn .ensures) (c .before .enum-told2 .given .1))
+    c .ended2 .ensures (d .before .before .before .before .args .reading)
+    ∙ sym (turn-learnt (d .before .before .loop .inv) (d .before .rest .ensures .0) (d .read-turn .ensures) (c .before .enum-told2 .given .1))
 
 pub read-date-time-spec : {M : Type 1} → statement M
 read-date-time-spec =

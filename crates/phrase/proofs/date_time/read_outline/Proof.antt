@@ -16,8 +16,9 @@ returns : tie.Need-returns
 returns c =
     let args = c .before .before .before .args in
     let l = now (args .l) in
+    let w = dateTimeOf (args .reading) l in
     let read = c .before .read-date-time .ensures in
-    rw (kept-none (dateTimeOf (args .reading) l) (args .n) (rw (counted l (dateTimeOf (args .reading) l) read) at (c .match .keys2))) read
+    rw (kept-none w (args .n) (rw (counted (args .reading) l w read) at (c .match .keys2))) read
 
 ended-requires : tie.Need-ended-requires
 ended-requires c κs = search needs
@@ -26,17 +27,19 @@ returns-2 : tie.Need-returns-2
 returns-2 c =
     let args = c .before .before .before .before .before .before .before .args in
     let l = now (args .l) in
+    let w = dateTimeOf (args .reading) l in
     let read = c .before .before .before .before .before .read-date-time .ensures in
     let is = c .before .before .before .taken .given .1 in
-    c .ended .ensures ∙ kept-left l (dateTimeOf (args .reading) l) (args .n) (sym (counted l (dateTimeOf (args .reading) l) read) ∙ is) (c .before .if1 .taken)
+    c .ended .ensures (args .reading) ∙ kept-left (args .reading) l w (args .n) (sym (counted (args .reading) l w read) ∙ is) (c .before .if1 .taken)
 
 returns-3 : tie.Need-returns-3
 returns-3 c =
     let args = c .before .before .before .before .before .before .args in
     let l = now (args .l) in
+    let w = dateTimeOf (args .reading) l in
     let read = c .before .before .before .before .read-date-time .ensures in
     let is = c .before .before .taken .given .1 in
-    rw (kept-all (dateTimeOf (args .reading) l) (args .n) (sym (counted l (dateTimeOf (args .reading) l) read) ∙ is) (c .if1 .left)) read
+    rw (kept-all w (args .n) (sym (counted (args .reading) l w read) ∙ is) (c .if1 .left)) read
 
 pub read-outline-spec : {M : Type 1} → statement M
 read-outline-spec =

@@ -21,9 +21,9 @@ turn-stopped-requires c κs = search needs
 returns : tie.Need-returns
 unfolding timedTurnOf
 returns c =
-    let l = now (c .before .before .before .before .args .l) in
+    let args = c .before .before .before .before .args in
     let read-time = c .before .before .read-time in
-    rw (← (read-time .ensures .0)) (c .turn-stopped .ensures ∙ time-unread l (read-time .result) _ (c .before .match .keys2))
+    rw (← (read-time .ensures .0)) (c .turn-stopped .ensures (args .reading) ∙ time-unread (args .reading) (now (args .l)) (read-time .result) _ (c .before .match .keys2))
 
 take-comma-or-requires : tie.Need-take-comma-or-requires
 take-comma-or-requires c κs = search needs

@@ -38,8 +38,8 @@ returns-2 c =
     let behind = c .before .before .time-behind in
     let args = d .before .before .before .before .args in
     let dated = dated-turn (args .reading) (now (args .l)) (d .before .before .is-at .ensures .0) (d .before .if1 .left) (d .read-expr .ensures .0) (e .given .1) in
-    let stopped = time-stopped (e .given .0 .0) (e .given .0 .1 .1 .0) (behind .result) (c .before .match2 .keys2) (behind .ensures) in
-    c .turn-stopped .ensures ∙ stopped ∙ dated
+    let stopped = time-stopped (args .reading) (e .given .0 .0) (e .given .0 .1 .1 .0) (behind .result) (c .before .match2 .keys2) (behind .ensures) in
+    c .turn-stopped .ensures (args .reading) ∙ stopped ∙ dated
 
 enum-told : tie.Need-enum-told
 enum-told c = search needs

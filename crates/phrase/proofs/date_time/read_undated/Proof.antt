@@ -27,9 +27,10 @@ enum-told-2 c = search needs
 returns : tie.Need-returns
 unfolding undatedTurnOf
 returns c =
-    let l = now (c .before .before .before .before .before .before .args .l) in
+    let args = c .before .before .before .before .before .before .args in
+    let l = now (args .l) in
     let read = taken-read (durationOf l) (c .before .before .before .before .read-duration .ensures .0) (c .before .before .taken .given .1) in
-    rw (read .reading) (c .with-duration .ensures (read .duration))
+    rw (read .reading) (c .with-duration .ensures (args .reading) (read .duration))
 
 returns-2 : tie.Need-returns-2
 unfolding undatedTurnOf

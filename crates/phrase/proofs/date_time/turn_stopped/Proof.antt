@@ -7,10 +7,10 @@ enum-told : tie.Need-enum-told
 enum-told c = search needs
 
 returns : tie.Need-returns
-returns c = time-dropped (c .before .args .a) (c .match .keys2)
+returns c = λ reading. time-dropped reading (c .before .args .a) (c .match .keys2)
 
 returns-2 : tie.Need-returns-2
-returns-2 c = search needs
+returns-2 c = λ reading. rw (c .enum-told .given .1)
 
 pub turn-stopped-spec : {M : Type 1} → statement M
 turn-stopped-spec = tie.close (tie.spec enum-told returns returns-2)

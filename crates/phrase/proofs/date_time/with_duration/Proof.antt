@@ -13,7 +13,7 @@ add-t4 c = let room = there (c .before .is-at .ensures .1) (c .if1 .taken) in om
 
 returns : tie.Need-returns
 unfolding withDurationOf
-returns c = λ dur. rw (← (c .before .is-at .ensures .0), c .if1 .taken)
+returns c = λ reading dur. rw (← (c .before .is-at .ensures .0), c .if1 .taken)
 
 is-at-requires-2 : tie.Need-is-at-requires-2
 is-at-requires-2 c κs = search needs
@@ -24,7 +24,7 @@ add-t6 c = let room = there (c .before .is-at2 .ensures .1) (c .if2 .taken) in o
 returns-2 : tie.Need-returns-2
 unfolding withDurationOf
 returns-2 c =
-    λ dur. rw (
+    λ reading dur. rw (
       ← (c .before .before .before .is-at .ensures .0),
       c .before .before .if1 .left,
       ← (c .before .is-at2 .ensures .0),
@@ -40,7 +40,7 @@ add-t8 c = let room = there (c .before .is-at3 .ensures .1) (c .if3 .taken) in o
 returns-3 : tie.Need-returns-3
 unfolding withDurationOf
 returns-3 c =
-    λ dur. rw (
+    λ reading dur. rw (
       ← (c .before .before .before .before .before .is-at .ensures .0),
       c .before .before .before .before .if1 .left,
       ← (c .before .before .before .is-at2 .ensures .0),
@@ -58,7 +58,7 @@ add-t10 c = let room = there (c .before .is-at4 .ensures .1) (c .if4 .taken) in 
 returns-4 : tie.Need-returns-4
 unfolding withDurationOf
 returns-4 c =
-    λ dur. rw (
+    λ reading dur. rw (
       ← (c .before .before .before .before .before .before .before .is-at .ensures .0),
       c .before .before .before .before .before .before .if1 .left,
       ← (c .before .before .before .before .before .is-at2 .ensures .0),
@@ -72,7 +72,7 @@ returns-4 c =
 returns-5 : tie.Need-returns-5
 unfolding withDurationOf
 returns-5 c =
-    λ dur. rw (
+    λ reading dur. rw (
       ← (c .before .before .before .before .before .before .before .is-at .ensures .0),
       c .before .before .before .before .before .before .if1 .left,
       ← (c .before .before .before .before .before .is-at2 .ensures .0),

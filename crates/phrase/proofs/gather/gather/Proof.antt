@@ -25,7 +25,7 @@ loop-holds c = begin (now (c .before .before .args .l)) (c .before .before .args
 gathering : (a : tie.At-loop Inv-loop μ-loop) →
     let args = a .before .before .before .args in
     let w = kept (args .n) (dateTimeOf (args .reading) (now (args .l))) in
-    Gathering (now (args .l)) (countOf w) (a .before .read-outline .result) (chainOf (treeIn w)) (a .loop .parts) (a .loop .links) (a .loop .i) (a .loop .at)
+    Gathering (args .reading) (now (args .l)) (countOf w) (a .before .read-outline .result) (chainOf (treeIn w)) (a .loop .parts) (a .loop .links) (a .loop .i) (a .loop .at)
 gathering a = a .loop .inv (a .before .before .before .args .reading) (a .before .read-outline .ensures)
 
 rest-requires : tie.Need-rest-requires Inv-loop μ-loop
