@@ -154,12 +154,12 @@ pub fn token_at(reading: Reading, s: &[u8], at: usize) -> Token
 {
     match reading {
         Reading::First => {
-            let words = first_rows();
-            token_in(reading, &words, s, at)
+            let first = first_rows();
+            token_in(reading, &first, s, at)
         }
         Reading::Second => {
-            let words = second_rows();
-            token_in(reading, &words, s, at)
+            let second = second_rows();
+            token_in(reading, &second, s, at)
         }
     }
 }
@@ -225,12 +225,12 @@ pub fn lex(reading: Reading, s: &[u8], codes: &mut [u64; 64], starts: &mut [u8; 
     }
     match reading {
         Reading::First => {
-            let words = first_rows();
-            lex_in(reading, &words, s, codes, starts)
+            let first = first_rows();
+            lex_in(reading, &first, s, codes, starts)
         }
         Reading::Second => {
-            let words = second_rows();
-            lex_in(reading, &words, s, codes, starts)
+            let second = second_rows();
+            lex_in(reading, &second, s, codes, starts)
         }
     }
 }
