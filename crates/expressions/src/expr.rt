@@ -22,6 +22,7 @@ use numbers::slices::rest;
 ghost use mathlib.Core.Path.{_≡_};
 ghost use Prim.Native.Nat.{ℕ, _+_, _≤_};
 ghost use lib.ListN.{length, drop};
+ghost use Rattle.lexer.specs.declared.reading.Reading.{Reading};
 ghost use Rattle.dates.specs.Parsed.{is, andThen, stopped};
 ghost use Rattle.dates.specs.Durations.{Duration, isSubDaily};
 ghost use Rattle.dates.specs.Dates.{dateOf, parsedDate};
@@ -78,7 +79,7 @@ pub fn has_duration(e: Expr) -> bool
 
 // A head of t lexemes, and a tail that is given up, which ends at s: behind a date the count is rolled back.
 fn stray(h: Head, t: usize, s: usize) -> ExprTaken
-    ensures { λ r. ⌜ ((u : ℕ) → s ≡ t + u → r ≡ tailedAnswer h t (is stray u)) ⌝ }
+    ensures { λ r. ⌜ ((reading : Reading) (u : ℕ) → s ≡ t + u → r ≡ tailedAnswer reading h t (is stray u)) ⌝ }
 {
     match h {
         Head::Date(d) => ExprTaken::Is(Expr::Date(d), t, 0),
@@ -88,7 +89,7 @@ fn stray(h: Head, t: usize, s: usize) -> ExprTaken
 
 // A head and a relative tail, which ends at s.
 fn relative(h: Head, spec: RelativeSpecifier, unit: Unit, s: usize) -> ExprTaken
-    ensures { λ r. ⌜ ((t u : ℕ) → s ≡ t + u → r ≡ tailedAnswer h t (is (relative spec unit) u)) ⌝ }
+    ensures { λ r. ⌜ ((reading : Reading) (t u : ℕ) → s ≡ t + u → r ≡ tailedAnswer reading h t (is (relative spec unit) u)) ⌝ }
 {
     match h {
         Head::Date(d) => ExprTaken::Is(Expr::DateRelative(d, spec, unit), s, 0),
@@ -98,7 +99,7 @@ fn relative(h: Head, spec: RelativeSpecifier, unit: Unit, s: usize) -> ExprTaken
 
 // A head and a tail with "ago", whose duration begins at t, and which ends at s.
 fn ago(h: Head, t: usize, s: usize) -> ExprTaken
-    ensures { λ r. ⌜ ((dur : Duration) (u : ℕ) → s ≡ t + u → r ≡ tailedAnswer h t (is (ago dur) u)) ⌝ }
+    ensures { λ r. ⌜ ((reading : Reading) (dur : Duration) (u : ℕ) → s ≡ t + u → r ≡ tailedAnswer reading h t (is (ago dur) u)) ⌝ }
 {
     match h {
         Head::Date(d) => ExprTaken::Is(Expr::DateExpressionBefore(d), s, t),
@@ -122,7 +123,7 @@ fn inside(reading: Reading, h: Head, p: usize, s: usize) -> ExprTaken
 // in <duration>, unless that is sub-daily, behind a head of t lexemes
 fn read_in_tail(reading: Reading, l: &[u64], h: Head, t: usize) -> ExprTaken
     requires { ⌜ t ≤ length (now l) ⌝ }
-    ensures { λ r. ⌜ r ≡ tailedAnswer h t (inTailOf reading (drop t (now (l .entry)))) ⌝ }
+    ensures { λ r. ⌜ r ≡ tailedAnswer reading h t (inTailOf reading (drop t (now (l .entry)))) ⌝ }
 {
     let tail = rest(l, t);
     if is_at(tail, 0, IN) {
@@ -151,7 +152,7 @@ fn read_in_tail(reading: Reading, l: &[u64], h: Head, t: usize) -> ExprTaken
 // <duration> ago, unless that is sub-daily; else in <duration>
 fn read_duration_tail(reading: Reading, l: &[u64], h: Head, t: usize) -> ExprTaken
     requires { ⌜ t ≤ length (now l) ⌝ }
-    ensures { λ r. ⌜ r ≡ tailedAnswer h t (durationTailOf reading (drop t (now (l .entry)))) ⌝ }
+    ensures { λ r. ⌜ r ≡ tailedAnswer reading h t (durationTailOf reading (drop t (now (l .entry)))) ⌝ }
 {
     let tail = rest(l, t);
     match read_duration(reading, tail) {
@@ -175,7 +176,7 @@ fn read_duration_tail(reading: Reading, l: &[u64], h: Head, t: usize) -> ExprTak
 // <relative_specifier> <unit> | <duration> ago | in <duration>, behind a head of t lexemes; not looked for where no lexeme is left
 fn read_tail(reading: Reading, l: &[u64], h: Head, t: usize) -> ExprTaken
     requires { ⌜ t ≤ length (now l) ⌝ }
-    ensures { λ r. ⌜ r ≡ tailedAnswer h t (tailOf reading (drop t (now (l .entry)))) ⌝ }
+    ensures { λ r. ⌜ r ≡ tailedAnswer reading h t (tailOf reading (drop t (now (l .entry)))) ⌝ }
 {
     if l.len() <= t {
         return stray(h, t, t);
@@ -251,7 +252,7 @@ fn read_relative(l: &[u64]) -> ExprTaken
 
 // A weekday and its tail, or a relative specifier.
 fn read_weekday_expr(reading: Reading, l: &[u64]) -> ExprTaken
-    ensures { λ r. ⌜ r ≡ answerAt (weekdayPlace (now (l .entry))) (weekdayExprOf reading (now (l .entry))) ⌝ }
+    ensures { λ r. ⌜ r ≡ answerAt (weekdayPlace reading (now (l .entry))) (weekdayExprOf reading (now (l .entry))) ⌝ }
 {
     let WeekdayFound::Is(w) = read_weekday(l) else {
         return read_relative(l);
@@ -261,7 +262,7 @@ fn read_weekday_expr(reading: Reading, l: &[u64]) -> ExprTaken
 
 // A duration and what stands behind it, or what begins with a weekday or a relative specifier.
 fn read_undated(reading: Reading, l: &[u64]) -> ExprTaken
-    ensures { λ r. ⌜ r ≡ answerAt (undatedPlace (now (l .entry))) (undatedOf reading (now (l .entry))) ⌝ }
+    ensures { λ r. ⌜ r ≡ answerAt (undatedPlace reading (now (l .entry))) (undatedOf reading (now (l .entry))) ⌝ }
 {
     match read_duration(reading, l) {
         Taken::Is {
