@@ -22,7 +22,6 @@ use numbers::slices::rest;
 ghost use mathlib.Core.Path.{_≡_};
 ghost use Prim.Native.Nat.{ℕ, _+_, _≤_};
 ghost use lib.ListN.{length, drop};
-ghost use Rattle.lexer.specs.declared.reading.Reading.{Reading};
 ghost use Rattle.dates.specs.Parsed.{is, andThen, stopped};
 ghost use Rattle.dates.specs.Durations.{Duration, isSubDaily};
 ghost use Rattle.dates.specs.Dates.{dateOf, parsedDate};
