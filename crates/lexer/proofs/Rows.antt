@@ -20,6 +20,7 @@ use Rattle.lexer.proofs.Halves.{increasing}
 abbrev spelled : Word → Bool
 spelled w = ltb (length (w .spelling)) 12 && small (w .spelling)
 
+-- and so has each of a list
 abbrev all-spelled : List Word → Bool
 all-spelled [] = true
 all-spelled (w ∷ ws) = spelled w && all-spelled ws
@@ -66,9 +67,11 @@ module _ (reading : Reading) (i : ℕ) (h : i < countIn reading) where
   abbrev spelling : List ℕ
   spelling = spellingAt rows i
 
+  -- it is a row of the table
   pub in-table : i < length rows
   in-table = omega (arith, rows-count reading)
 
+  -- its word has at most 11 letters, all of them small
   row-spelled : T (ltb (length spelling) 12 && small spelling)
   row-spelled = spelled-at rows (rows-spelled reading) i in-table
 
@@ -80,16 +83,20 @@ module _ (reading : Reading) (i : ℕ) (h : i < countIn reading) where
 
   -- the same in the rows that are lent
   module _ {words : List ℕ} (lent : words ≡ cells rows) where
+    -- its 16 bytes
     pub row-within : i * 16 + 16 ≤ length words
     row-within = rw lent (omega (arith, cells-count reading))
 
+    -- the first 8 of its word as one number
     pub row-head : bytesFrom 0 (take 8 (drop (i * 16) words)) ≡ headOf spelling
     unfolding headOf
     row-head = rw lent (ap (bytesFrom 0) (head-cells rows i in-table))
 
+    -- the next 4
     pub row-tail : bytesFrom 0 (take 4 (drop (i * 16 + 8) words)) ≡ tailOf spelling
     unfolding tailOf
     row-tail = rw lent (ap (bytesFrom 0) (tail-cells rows i in-table))
 
+    -- what it means
     pub row-lexeme : getD words (i * 16 + 15) 0 ≡ lexemeAt rows i
     row-lexeme = rw lent (lexeme-cell rows i in-table)

@@ -66,12 +66,14 @@ module _ (c : tie.After-compare Inv-loop μ-loop) where
   abbrev mid : ℕ
   mid = (at .loop .lo + at .loop .hi - 1) / 2
 
+  -- it is one of the reading's rows
   mid-below : mid < countIn reading
   mid-below = omega arith
 
   mid-in : mid < length rows
   mid-in = in-table reading mid mid-below
 
+  -- how it stands to the word is what was compared
   compared : (w : List ℕ) → Stands (start .args .head) (start .args .tail) w → ordered (spellingAt rows mid) w ≡ c .compare .result
   compared w k =
       stands-ordered (spellingAt rows mid) (row-small reading mid mid-below) (row-short reading mid mid-below)

@@ -76,6 +76,7 @@ module _ (d : tie.After-t2 Inv-loop μ-loop) where
   abbrev end : ℕ
   end = d .t2 .given .0 .1 .1 .0
 
+  -- what is taken there is what the phrase has there
   taken : tokenAt (words at) (phrase at) (at .loop .at) ≡ Taken code start end
   taken = sym (d .before .before .token-in .ensures) ∙ d .t2 .given .1
 

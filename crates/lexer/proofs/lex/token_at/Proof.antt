@@ -1,5 +1,4 @@
 -- `lexer::lex::token_at` meets its contract. Assumes nothing.
-use mathlib.Core.Path.{_≡_}
 use borrow.Author.Needs.{needs}
 use Rattle.lexer.proofs.lex.token_at.Statement.{statement}
 use Rattle.lexer.proofs.lex.token_at.Tie as tie
