@@ -78,7 +78,7 @@ pub fn has_duration(e: Expr) -> bool
 
 // A head of t lexemes, and a tail that is given up, which ends at s: behind a date the count is rolled back.
 fn stray(h: Head, t: usize, s: usize) -> ExprTaken
-    ensures { λ r. ⌜ ((u : ℕ) → s ≡ t + u → r ≡ tailedAnswer h t (is stray u)) ⌝ }
+    ensures { λ r. ⌜ ((reading : Reading) (u : ℕ) → s ≡ t + u → r ≡ tailedAnswer reading h t (is stray u)) ⌝ }
 {
     match h {
         Head::Date(d) => ExprTaken::Is(Expr::Date(d), t, 0),
@@ -88,7 +88,7 @@ fn stray(h: Head, t: usize, s: usize) -> ExprTaken
 
 // A head and a relative tail, which ends at s.
 fn relative(h: Head, spec: RelativeSpecifier, unit: Unit, s: usize) -> ExprTaken
-    ensures { λ r. ⌜ ((t u : ℕ) → s ≡ t + u → r ≡ tailedAnswer h t (is (relative spec unit) u)) ⌝ }
+    ensures { λ r. ⌜ ((reading : Reading) (t u : ℕ) → s ≡ t + u → r ≡ tailedAnswer reading h t (is (relative spec unit) u)) ⌝ }
 {
     match h {
         Head::Date(d) => ExprTaken::Is(Expr::DateRelative(d, spec, unit), s, 0),
@@ -98,7 +98,7 @@ fn relative(h: Head, spec: RelativeSpecifier, unit: Unit, s: usize) -> ExprTaken
 
 // A head and a tail with "ago", whose duration begins at t, and which ends at s.
 fn ago(h: Head, t: usize, s: usize) -> ExprTaken
-    ensures { λ r. ⌜ ((dur : Duration) (u : ℕ) → s ≡ t + u → r ≡ tailedAnswer h t (is (ago dur) u)) ⌝ }
+    ensures { λ r. ⌜ ((reading : Reading) (dur : Duration) (u : ℕ) → s ≡ t + u → r ≡ tailedAnswer reading h t (is (ago dur) u)) ⌝ }
 {
     match h {
         Head::Date(d) => ExprTaken::Is(Expr::DateExpressionBefore(d), s, t),
@@ -122,7 +122,7 @@ fn inside(reading: Reading, h: Head, p: usize, s: usize) -> ExprTaken
 // in <duration>, unless that is sub-daily, behind a head of t lexemes
 fn read_in_tail(reading: Reading, l: &[u64], h: Head, t: usize) -> ExprTaken
     requires { ⌜ t ≤ length (now l) ⌝ }
-    ensures { λ r. ⌜ r ≡ tailedAnswer h t (inTailOf reading (drop t (now (l .entry)))) ⌝ }
+    ensures { λ r. ⌜ r ≡ tailedAnswer reading h t (inTailOf reading (drop t (now (l .entry)))) ⌝ }
 {
     let tail = rest(l, t);
     if is_at(tail, 0, IN) {
@@ -151,7 +151,7 @@ fn read_in_tail(reading: Reading, l: &[u64], h: Head, t: usize) -> ExprTaken
 // <duration> ago, unless that is sub-daily; else in <duration>
 fn read_duration_tail(reading: Reading, l: &[u64], h: Head, t: usize) -> ExprTaken
     requires { ⌜ t ≤ length (now l) ⌝ }
-    ensures { λ r. ⌜ r ≡ tailedAnswer h t (durationTailOf reading (drop t (now (l .entry)))) ⌝ }
+    ensures { λ r. ⌜ r ≡ tailedAnswer reading h t (durationTailOf reading (drop t (now (l .entry)))) ⌝ }
 {
     let tail = rest(l, t);
     match read_duration(reading, tail) {
@@ -175,7 +175,7 @@ fn read_duration_tail(reading: Reading, l: &[u64], h: Head, t: usize) -> ExprTak
 // <relative_specifier> <unit> | <duration> ago | in <duration>, behind a head of t lexemes; not looked for where no lexeme is left
 fn read_tail(reading: Reading, l: &[u64], h: Head, t: usize) -> ExprTaken
     requires { ⌜ t ≤ length (now l) ⌝ }
-    ensures { λ r. ⌜ r ≡ tailedAnswer h t (tailOf reading (drop t (now (l .entry)))) ⌝ }
+    ensures { λ r. ⌜ r ≡ tailedAnswer reading h t (tailOf reading (drop t (now (l .entry)))) ⌝ }
 {
     if l.len() <= t {
         return stray(h, t, t);
@@ -251,7 +251,7 @@ fn read_relative(l: &[u64]) -> ExprTaken
 
 // A weekday and its tail, or a relative specifier.
 fn read_weekday_expr(reading: Reading, l: &[u64]) -> ExprTaken
-    ensures { λ r. ⌜ r ≡ answerAt (weekdayPlace (now (l .entry))) (weekdayExprOf reading (now (l .entry))) ⌝ }
+    ensures { λ r. ⌜ r ≡ answerAt (weekdayPlace reading (now (l .entry))) (weekdayExprOf reading (now (l .entry))) ⌝ }
 {
     let WeekdayFound::Is(w) = read_weekday(l) else {
         return read_relative(l);
@@ -261,7 +261,7 @@ fn read_weekday_expr(reading: Reading, l: &[u64]) -> ExprTaken
 
 // A duration and what stands behind it, or what begins with a weekday or a relative specifier.
 fn read_undated(reading: Reading, l: &[u64]) -> ExprTaken
-    ensures { λ r. ⌜ r ≡ answerAt (undatedPlace (now (l .entry))) (undatedOf reading (now (l .entry))) ⌝ }
+    ensures { λ r. ⌜ r ≡ answerAt (undatedPlace reading (now (l .entry))) (undatedOf reading (now (l .entry))) ⌝ }
 {
     match read_duration(reading, l) {
         Taken::Is {

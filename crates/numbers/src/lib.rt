@@ -299,7 +299,7 @@ fn num_triple_unit(l: &[u64]) -> NumberFound
 // `<num_triple> <num_triple_unit> [[and] <num>]` for the triple that was read: the tail behind it, in which a number begins again.
 fn units(reading: Reading, l: &[u64], triple: NumberFound) -> NumberFound
     requires { ⌜ Taken triple 0 999 (length (now l)) ⌝ }
-    ensures { λ r. ⌜ r ≡ unitsOf numOf reading (now (l .entry)) triple ⌝ }
+    ensures { λ r. ⌜ r ≡ unitsOf (numOf reading) (now (l .entry)) triple ⌝ }
     ensures { λ r. ⌜ Read r 1 (length (now (l .entry))) ⌝ }
 {
     let NumberFound::Is(n) = triple else {
