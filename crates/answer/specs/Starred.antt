@@ -99,6 +99,12 @@ both =
     ∷ under Second "march 3, 2027" (day 2027 3 3)
     ∷ under Second "march 3, 5 pm" (clock 2026 3 3 17)
     ∷ under Second "march 24th" (day 2026 3 24)
+    ∷ under Second "march 24th, 2027" (day 2027 3 24)
+    ∷ under Second "january 1, 2010 5:00" (clock 2010 1 1 5)
+    ∷ under Second "january 1, 5:00" (clock 2026 1 1 5)
+    ∷ under Second "1 january, 2010" (refuse 7 2 15)
+    ∷ under Second "eighth of march" (refuse 2 7 9)
+    ∷ under Second "1001st day from now" (day 2028 11 8)
     ∷ under First "forty days ago" (refuse 2 0 5)
     ∷ under Second "forty days ago" (day 2026 1 2)
     ∷ []
