@@ -15,7 +15,8 @@ use Rattle.numbers.specs.declared.NumberFound.{NumberFound}
 use Rattle.numbers.specs.declared.NumberFound.the-variants.{Is, Nothing, Overflow}
 use Rattle.numbers.specs.Slices.{get, isAt, oneIf, within}
 use Rattle.numbers.specs.Answers.{MAX, Bounded, Taken, Read, number, orZero, fitsOf}
-use Rattle.numbers.specs.Numbers.{isEnding, wordOf, literalOf, literalTokens, onesOf, teensOf, tensOf, tensOnesOf, numDoubleOf, sumOf, tailOf, hundredsOf, numTripleOf, numTripleUnitOf, unitsOf, numStep, numOf}
+use Rattle.numbers.specs.Numbers.{isEnding, wordOf, literalOf, literalTokens, onesOf, teensOf, tensOf, tensOnesOf}
+use Rattle.numbers.specs.Numbers.{numDoubleOf, sumOf, tailOf, hundredsOf, numTripleOf, numTripleUnitOf, unitsOf, numStep, numOf}
 use Rattle.numbers.proofs.LexemeAt.{one-most, within-bounds, literal-bounds, at-most, there}
 use Rattle.numbers.proofs.Again.{again-keeps}
 use Rattle.numbers.proofs.NumberAnswers.{nothing, wider, read, pick-bounded, or-bounded, then-bounded}

@@ -17,7 +17,8 @@ use Rattle.numbers.specs.declared.NumberFound.the-variants.{Is, Nothing,
 use Rattle.numbers.specs.Slices.{get, isAt, within, oneIf}
 use Rattle.numbers.specs.Again.{turns, again}
 use Rattle.numbers.specs.Answers.{number, pick, orElse, andThen, orZero}
-use Rattle.numbers.specs.Numbers.{isEnding, wordOf, literalOf, literalTokens, onesOf, teensOf, tensOf, tensOnesOf, numDoubleOf, sumOf, tailOf, hundredsOf, numTripleOf, numTripleUnitOf, unitsOf, numStep, numOf}
+use Rattle.numbers.specs.Numbers.{isEnding, wordOf, literalOf, literalTokens, onesOf, teensOf, tensOf, tensOnesOf}
+use Rattle.numbers.specs.Numbers.{numDoubleOf, sumOf, tailOf, hundredsOf, numTripleOf, numTripleUnitOf, unitsOf, numStep, numOf}
 use Rattle.numbers.specs.Written.{plain, plainOf, unwritten}
 use Rattle.numbers.proofs.NumberAnswers.{then-same}
 use Rattle.numbers.proofs.NumberBounds.{tens-taken}
