@@ -36,8 +36,8 @@ extern "C" {
 
 /* The two readings of a phrase; the first is the Rust library's. They differ in what "in" behind a weekday means: at Wednesday, 11 February 2026,
  * "tuesday in two weeks" is 27 January in the first and 3 March in the second; and in what the year behind month and day is: any number in the first,
- * so that "march 3 5 pm" is refused, and four digits in the second, in which it is 17:00 on 3 March. Any other number of a reading is refused with 15,
- * before everything else. */
+ * so that "march 3 5 pm" is refused, and four digits in the second, in which it is 17:00 on 3 March. The second also takes "24th" with any ending,
+ * "january 1, 2010" with a comma, and "forty", "fortieth" and "eighth". Any other number of a reading is refused with 15, before everything else. */
 enum fuzzy_reading {
     FUZZY_FIRST = 1,
     FUZZY_SECOND = 2

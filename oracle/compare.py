@@ -222,15 +222,18 @@ WEEKDAY_IN = re.compile(rf"\b({'|'.join(model.Weekday.NAMES)}) In\b")
 # 02: a month, a lexeme that a number begins with, and more that may belong to numbers
 NUMBER_WORDS = [*model.Ones.VALUES, *model.Teens.VALUES, *model.Tens.VALUES, "Hundred", *model.NumTripleUnit.VALUES]
 NUMBER = rf"(Num\(\d+\)|{'|'.join(NUMBER_WORDS)})"
-MONTH_NUMBERS = re.compile(rf"\b({'|'.join(model.Month.NAMES)}) {NUMBER}( ({NUMBER}|Dash|And|ST|ND|RD|TH))+(?= |$)")
+MONTH_NUMBERS = re.compile(rf"\b({'|'.join(model.Month.NAMES)}) {NUMBER}( ({NUMBER}|Dash|And|ST|ND|RD|TH|Comma))+(?= |$)")
+# 02: a literal with an ordinal's ending, and the words that differ
+ORDINAL = re.compile(r"Num\(\d+\) (ST|ND|RD|TH)\b")
+NEW_WORD = re.compile(rb"(?<![a-z])(th|forty|fortieth|eighth)(?![a-z])", re.IGNORECASE)
 
 
-def may_differ(first, second):
-    """Whether the model's lines in the two readings may differ as 02 says: where two numbers may stand behind a month; else by the node of a
-    weekday with "in", and by the answer."""
+def may_differ(phrase, first, second):
+    """Whether the model's lines in the two readings may differ as 02 says: where a word of reading 2 stands, a literal with an ending, or two
+    numbers behind a month; else by the node of a weekday with "in", and by the answer."""
     other_way = second.replace("WeekdayExpressionAfter", "WeekdayExpressionBefore")
     fields = other_way.split("|")
-    if MONTH_NUMBERS.search(fields[0]):
+    if NEW_WORD.search(phrase) or ORDINAL.search(fields[0]) or MONTH_NUMBERS.search(fields[0]):
         return True
     return bool(WEEKDAY_IN.search(fields[0])) and other_way != second and fields[:-1] == first.split("|")[:-1]
 
@@ -337,7 +340,7 @@ class SecondTally(Tally):
     def count(self, line, first, second):
         self.readings_differ += 1
         self.answers_differ += last_field(first) != last_field(second)
-        if not may_differ(first, second):
+        if not may_differ(split_line(line)[1], first, second):
             self.wrongly += 1
             print(f"THE READINGS MUST NOT DIFFER SO: {line}\n    first  {first}\n    second {second}")
 
@@ -375,6 +378,14 @@ def behind_month_and_day():
         yield from exhaustive_lines(2, "march", "3", year)
 
 
+def behind_ordinal():
+    """Every lexeme behind a literal of each size with each ending, and behind month, day and comma."""
+    for ordinal in phrases.ORDINALS:
+        yield from exhaustive_lines(1, "march", ordinal)
+        yield from exhaustive_lines(1, ordinal)
+    yield from exhaustive_lines(2, "march", "3", ",")
+
+
 def random_lines(count, seed):
     """Grammar-made phrases (half of all), damaged copies, word soup, long chains and raw bytes."""
     dice = phrases.Dice(seed)
@@ -385,9 +396,9 @@ def random_lines(count, seed):
 
 
 def second_random_lines(count, seed):
-    """As above, but most phrases have a weekday, "in" and a duration, or month and day and a number behind them."""
+    """As above, but most phrases have a weekday, "in" and a duration, month and day and a number behind them, endings or commas."""
     dice = phrases.Dice(seed)
-    makers = [*[dice.ahead, dice.dated] * 3, lambda: dice.damaged(dice.ahead()), lambda: dice.damaged(dice.dated()), dice.phrase,
+    makers = [*[dice.ahead, dice.dated, dice.ordinal] * 2, lambda: dice.damaged(dice.ahead()), lambda: dice.damaged(dice.ordinal()), dice.phrase,
               lambda: dice.damaged(dice.phrase()), lambda: dice.pick([dice.soup, dice.chain, dice.raw])()]
     return made_lines(count, dice, makers)
 
@@ -445,6 +456,7 @@ def compare_second(count, seed):
         "three lexemes": exhaustive_lines(3),
         "two lexemes behind a weekday and in": behind_weekday_in(),
         "one or two lexemes behind month, day and number": behind_month_and_day(),
+        "a lexeme behind a literal with an ending, two behind a comma": behind_ordinal(),
         "sweeps of nows": phrases.second_sweep(),
         f"random with seed {seed}": second_random_lines(count, seed),
     })

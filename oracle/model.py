@@ -83,21 +83,24 @@ KEYWORDS = {
     "yesterday": "Yesterday", "zero": "Zero",
 }
 
+# 02: the words of each reading; the second has "th" as `TH`, and the usual spellings beside the Rust's: 136
+WORDS = {FIRST: KEYWORDS, SECOND: KEYWORDS | {"th": "TH", "forty": "Fourty", "fortieth": "Fourty", "eighth": "Eight"}}
+
 MARKS = {"-": "Dash", "/": "Slash", ".": "Dot", ",": "Comma", ":": "Colon"}
 
 # A word, a number, a mark, separators, or one byte with no meaning (latin-1 gives each byte one character)
 PART = re.compile(r"(?P<word>[A-Za-z]+)|(?P<number>[0-9]+)|(?P<mark>[-/.,:])|(?P<blank>[ \t]+)|(?P<other>.)", re.DOTALL)
 
 
-def lex_line(phrase, most_bytes=MOST_BYTES, most_lexemes=MOST_LEXEMES):
-    """`Lexeme::lex_line` by 01's rule: the lexemes and the place of each, or refusal 1, 2, 3 or 4."""
+def lex_line(phrase, most_bytes=MOST_BYTES, most_lexemes=MOST_LEXEMES, reading=FIRST):
+    """`Lexeme::lex_line` by 01's rule, with the words of a reading: the lexemes and the place of each, or refusal 1, 2, 3 or 4."""
     if len(phrase) > most_bytes:
         raise Refused(1)
     lexemes, places = [], []
     for part in PART.finditer(phrase.decode("latin-1")):
         if part["blank"]:
             continue
-        lexeme = judge(part)
+        lexeme = judge(part, WORDS[reading])
         # 01: a word or number is judged before it is counted
         if len(lexemes) == most_lexemes:
             raise Refused(4, part.start(), part.end())
@@ -106,7 +109,7 @@ def lex_line(phrase, most_bytes=MOST_BYTES, most_lexemes=MOST_LEXEMES):
     return lexemes, places
 
 
-def judge(part):
+def judge(part, words):
     """The lexeme of one part of the phrase, or refusal 2 or 3."""
     if part["mark"]:
         return MARKS[part["mark"]]
@@ -115,9 +118,9 @@ def judge(part):
             raise Refused(3, part.start(), part.end())
         return Literal(part["number"])
     word = (part["word"] or "").lower()
-    if word not in KEYWORDS:
+    if word not in words:
         raise Refused(2, part.start(), part.end())
-    return KEYWORDS[word]
+    return words[word]
 
 
 # ---------------------------------------------------------------- ast.rs, the parsers
@@ -142,6 +145,13 @@ def digits_of(number):
     return number.digits if is_literal(number) else 0
 
 
+def literal_tokens(l, tokens, reading):
+    """The lexemes of a literal that takes so many in the Rust. 02: in reading 2 any ending may follow any literal."""
+    if reading == SECOND:
+        return 2 if get(l, 1) in ("ST", "RD", "ND", "TH") else 1
+    return tokens
+
+
 def u32(n):
     """A sum or product in a number. 01: beyond u32 the whole reading stops (the Rust's overflow check panics)."""
     if n > U32_MAX:
@@ -163,12 +173,12 @@ class DateTime:
             # a comma or "at" is taken even if no time follows
             if get(l, tokens) in ("Comma", "At"):
                 tokens += 1
-            if found := Time.parse(l[tokens:]):
+            if found := Time.parse(l[tokens:], reading):
                 time, t = found
                 return ("DateTime", date_expr, time), tokens + t
             return ("DateTime", date_expr, "Empty"), tokens
 
-        if found := Duration.parse(l):
+        if found := Duration.parse(l, reading):
             dur, t = found
             tokens += t
             if get(l, tokens) in ("After", "From"):
@@ -185,7 +195,7 @@ class DateTime:
                 return ("Before", dur, "Now"), tokens + 1
             return None
 
-        if found := Time.parse(l):
+        if found := Time.parse(l, reading):
             time, t = found
             tokens += t
             # a comma or "on" is taken even if no date follows
@@ -205,9 +215,9 @@ class DateExpr:
         if found := Date.parse(l, reading):
             date, date_tokens = found
             # a tail that fails gives its lexemes back
-            return DateExpr.dated(l[date_tokens:], date, date_tokens) or (("Date", date), date_tokens)
+            return DateExpr.dated(l[date_tokens:], date, date_tokens, reading) or (("Date", date), date_tokens)
 
-        if found := Duration.parse(l):
+        if found := Duration.parse(l, reading):
             duration, tokens = found
             if is_sub_daily(duration):
                 return None
@@ -237,7 +247,7 @@ class DateExpr:
         return None
 
     @staticmethod
-    def dated(l, date, tokens):
+    def dated(l, date, tokens, reading):
         """The tail behind a date, or None if there is none; `tokens` stand before it."""
         if found := RelativeSpecifier.parse(l):
             spec, t = found
@@ -246,14 +256,14 @@ class DateExpr:
                 return ("DateRelative", date, spec, unit), tokens + t + u
             return None
 
-        if found := Duration.parse(l):
+        if found := Duration.parse(l, reading):
             duration, t = found
             if get(l, t) == "Ago" and not is_sub_daily(duration):
                 return ("DateExpressionBefore", date, duration), tokens + t + 1
             return None
 
         if get(l, 0) == "In":
-            if found := Duration.parse(l[1:]):
+            if found := Duration.parse(l[1:], reading):
                 duration, t = found
                 if not is_sub_daily(duration):
                     return ("DateExpressionAfter", date, duration), tokens + 1 + t
@@ -270,7 +280,7 @@ class DateExpr:
                 return ("WeekdayRelative", weekday, relspec, unit), tokens + t
             return ("Weekday", weekday), tokens
 
-        if found := Duration.parse(l[tokens:]):
+        if found := Duration.parse(l[tokens:], reading):
             duration, t = found
             tokens += t
             if get(l, tokens) == "Ago" and not is_sub_daily(duration):
@@ -279,7 +289,7 @@ class DateExpr:
 
         if get(l, tokens) == "In":
             tokens += 1
-            if found := Duration.parse(l[tokens:]):
+            if found := Duration.parse(l[tokens:], reading):
                 duration, t = found
                 if not is_sub_daily(duration):
                     # 02: ahead in reading 2 (the Rust has that node, and its parser never gives it)
@@ -294,48 +304,49 @@ class Date:
         if get(l, 0) in ("Today", "Tomorrow", "Yesterday"):
             return l[0], 1
 
-        if found := Num.parse(l):
+        if found := Num.parse(l, reading):
             day, tokens = found
             if found := Month.parse(l[tokens:]):
                 month, t = found
                 tokens += t
-                if found := Num.parse(l[tokens:]):
+                if found := Num.parse(l[tokens:], reading):
                     year, t = found
                     return ("DayMonthYear", day, month, year), tokens + t
 
         if found := Month.parse(l):
             month, tokens = found
-            found = Num.parse(l[tokens:])
+            found = Num.parse(l[tokens:], reading)
             if not found:
                 return None
             num, t = found
             tokens += t
-            if found := Num.parse(l[tokens:]):
+            # 02: in reading 2 a comma may stand before the year, which is a run of four digits; any other number is left to what follows
+            comma = reading == SECOND and get(l, tokens) == "Comma"
+            if found := Num.parse(l[tokens + comma:], reading):
                 year, t = found
-                # 02: a year of four digits in reading 2, and any other number is left to what follows
                 if reading == FIRST or digits_of(year) == 4:
-                    return ("MonthDayYear", month, num, year), tokens + t
+                    return ("MonthDayYear", month, num, year), tokens + comma + t
             return ("MonthDay", month, num), tokens
 
-        if found := Num.parse(l):
+        if found := Num.parse(l, reading):
             num1, tokens = found
             delim = get(l, tokens)
             if delim in ("Slash", "Dash", "Dot"):
                 tokens += 1
-                if found := Num.parse(l[tokens:]):
+                if found := Num.parse(l[tokens:], reading):
                     num2, t = found
-                    return Date.delimited(l, num1, delim, num2, tokens + t)
+                    return Date.delimited(l, num1, delim, num2, tokens + t, reading)
 
         return None
 
     @staticmethod
-    def delimited(l, num1, delim, num2, tokens):
+    def delimited(l, num1, delim, num2, tokens, reading):
         """What stands behind two numbers and the mark between them. At the end of the phrase there is no date."""
         if get(l, tokens) is None:
             return None
         if l[tokens] == delim:
             tokens += 1
-            found = Num.parse(l[tokens:])
+            found = Num.parse(l[tokens:], reading)
             if not found:
                 return None
             num3, t = found
@@ -375,19 +386,19 @@ class Month:
 
 class Time:
     @staticmethod
-    def parse(l):
+    def parse(l, reading):
         if get(l, 0) == "Midnight":
             return ("HourMin", 0, 0), 1
         if get(l, 0) == "Noon":
             return ("HourMin", 12, 0), 1
 
-        if found := Num.parse(l):
+        if found := Num.parse(l, reading):
             hour, tokens = found
             minute = 0
             if get(l, tokens) == "Colon":
                 # the colon is taken even if no number follows
                 tokens += 1
-                if found := Num.parse(l[tokens:]):
+                if found := Num.parse(l[tokens:], reading):
                     minute, t = found
                     tokens += t
             if get(l, tokens) == "AM":
@@ -407,19 +418,19 @@ class Article:
 
 class Duration:
     @staticmethod
-    def parse(l):
-        if found := Duration.parse_concrete(l):
+    def parse(l, reading):
+        if found := Duration.parse_concrete(l, reading):
             d, t = found
             if get(l, t) == "And":
-                if found := Duration.parse(l[t + 1:]):
+                if found := Duration.parse(l[t + 1:], reading):
                     dur2, t2 = found
                     return ("Concat", d, dur2), t + 1 + t2
             return d, t
         return None
 
     @staticmethod
-    def parse_concrete(l):
-        if found := Num.parse(l):
+    def parse_concrete(l, reading):
+        if found := Num.parse(l, reading):
             num, t = found
             if found := Unit.parse(l[t:]):
                 unit, u = found
@@ -480,13 +491,13 @@ class Teens:
                   Fifteen=15, Sixteen=16, Seventeen=17, Eighteen=18, Nineteen=19)
 
     @staticmethod
-    def parse(l):
+    def parse(l, reading):
         tokens = 2 if get(l, 1) == "TH" else 1
         first = get(l, 0)
         if first in Teens.VALUES:
             return Teens.VALUES[first], tokens
         if is_literal(first) and 10 <= first < 20:
-            return first, tokens
+            return first, literal_tokens(l, tokens, reading)
         return None
 
 
@@ -504,7 +515,7 @@ class Tens:
 
 class NumDouble:
     @staticmethod
-    def parse(l):
+    def parse(l, reading):
         if found := Tens.parse(l):
             tens, tokens = found
             # the dash is taken even if no ones follow
@@ -513,29 +524,29 @@ class NumDouble:
             ones, t = Ones.parse(l[tokens:]) or (0, 0)
             return tens + ones, tokens + t
 
-        if found := Teens.parse(l) or Ones.parse(l):
+        if found := Teens.parse(l, reading) or Ones.parse(l):
             return found
 
         first = get(l, 0)
         if is_literal(first) and 19 < first < 100:
-            return first, 1
+            return first, literal_tokens(l, 1, reading)
         return None
 
 
 class NumTriple:
     @staticmethod
-    def parse(l):
+    def parse(l, reading):
         if found := Ones.parse(l):
             ones, tokens = found
             if get(l, tokens) == "Hundred":
-                if found := NumTriple.after_hundred(l, ones * 100, tokens + 1):
+                if found := NumTriple.after_hundred(l, ones * 100, tokens + 1, reading):
                     return found
 
         if get(l, 0) == "Hundred":
-            if found := NumTriple.after_hundred(l, 100, 1):
+            if found := NumTriple.after_hundred(l, 100, 1, reading):
                 return found
 
-        if found := NumDouble.parse(l):
+        if found := NumDouble.parse(l, reading):
             return found
 
         first = get(l, 0)
@@ -544,12 +555,12 @@ class NumTriple:
         return None
 
     @staticmethod
-    def after_hundred(l, hundreds, tokens):
+    def after_hundred(l, hundreds, tokens, reading):
         """Behind "hundred": an "and" must be followed by a number, else one may follow."""
         required = get(l, tokens) == "And"
         if required:
             tokens += 1
-        double = NumDouble.parse(l[tokens:])
+        double = NumDouble.parse(l[tokens:], reading)
         if required and not double:
             return None
         double, t = double or (0, 0)
@@ -567,34 +578,34 @@ class NumTripleUnit:
 
 class Num:
     @staticmethod
-    def parse(l):
-        if found := NumTriple.parse(l):
+    def parse(l, reading):
+        if found := NumTriple.parse(l, reading):
             triple, tokens = found
             if found := NumTripleUnit.parse(l[tokens:]):
                 unit, t = found
-                if found := Num.after_unit(l, triple, unit, tokens + t):
+                if found := Num.after_unit(l, triple, unit, tokens + t, reading):
                     return found
 
         if found := NumTripleUnit.parse(l):
             unit, tokens = found
-            if found := Num.after_unit(l, 1, unit, tokens):
+            if found := Num.after_unit(l, 1, unit, tokens, reading):
                 return found
 
-        if found := NumTriple.parse(l):
+        if found := NumTriple.parse(l, reading):
             return found
 
         first = get(l, 0)
         if is_literal(first) and first >= 1000:
-            return first, 1
+            return first, literal_tokens(l, 1, reading)
         return None
 
     @staticmethod
-    def after_unit(l, triple, unit, tokens):
+    def after_unit(l, triple, unit, tokens, reading):
         """Behind a unit word the number begins again: an "and" must be followed by one, else one may follow."""
         required = get(l, tokens) == "And"
         if required:
             tokens += 1
-        num = Num.parse(l[tokens:])
+        num = Num.parse(l[tokens:], reading)
         if required and not num:
             return None
         num, t = num or (0, 0)
@@ -870,7 +881,7 @@ def answer(now_text, phrase, number=FIRST):
     fields = []
     try:
         reading = reading_of(number)
-        lexemes, places = lex_line(phrase)
+        lexemes, places = lex_line(phrase, reading=reading)
         fields.append(show_lexemes(lexemes))
         tree, taken = read(lexemes, reading)
         fields += [show_tree(tree), str(taken)]
@@ -988,6 +999,29 @@ READINGS_TABLE = [
     (SECOND, A, "a day after march 3 5 pm", "2026-03-04 17:00:00"),
     (SECOND, A, "3 march 5", "0005-03-03"),
     (SECOND, A, "5/2/22", "0022-05-02"),
+    # ordinals, the usual spellings, and a comma before the year
+    (FIRST, A, "march 24th", "refused 7 at 8 to 10"),
+    (SECOND, A, "march 24th", "2026-03-24"),
+    (SECOND, A, "march 24th, 2027", "2027-03-24"),
+    (SECOND, A, "march 3rd, 2027th", "2027-03-03"),
+    (FIRST, A, "january 1, 2010 5:00", "refused 7 at 16 to 20"),
+    (SECOND, A, "january 1, 2010 5:00", "2010-01-01 05:00:00"),
+    (SECOND, A, "january 1, 2010", "2010-01-01"),
+    (SECOND, A, "january 1, 5:00", "2026-01-01 05:00:00"),
+    (SECOND, A, "january 1, 20", "2026-01-01 20:00:00"),
+    (SECOND, A, "january 1,, 2010", "refused 7 at 10 to 16"),
+    (SECOND, A, "january 1, five billion", "refused 6 at 0 to 0"),
+    (SECOND, A, "1 january, 2010", "refused 7 at 2 to 15"),
+    (FIRST, A, "forty days ago", "refused 2 at 0 to 5"),
+    (SECOND, A, "forty days ago", "2026-01-02"),
+    (SECOND, A, "fortieth day from now", "2026-03-23"),
+    (SECOND, A, "eighth of march", "refused 2 at 7 to 9"),
+    (SECOND, A, "march eighth", "2026-03-08"),
+    (SECOND, A, "march eigth", "2026-03-08"),
+    (FIRST, A, "1001st day from now", "refused 7 at 4 to 19"),
+    (SECOND, A, "1001st day from now", "2028-11-08"),
+    (SECOND, A, "twenty-first day from now", "2026-03-04"),
+    (SECOND, A, "twentieth st day from now", "refused 7 at 10 to 25"),
     # all else is as in reading 1
     (SECOND, A, "tuesday two weeks ago", "2026-01-27"),
     (SECOND, A, "today in two weeks", "2026-02-25"),
@@ -1013,9 +1047,9 @@ def selftest():
         if found.rsplit("|", 1)[-1] != expected:
             failed += 1
             print(f"reading {reading}, {now}|{phrase}: {found} and not {expected}")
-    if len(KEYWORDS) != 133 or list(KEYWORDS) != sorted(KEYWORDS):
+    if len(KEYWORDS) != 133 or list(KEYWORDS) != sorted(KEYWORDS) or len(WORDS[SECOND]) != 136:
         failed += 1
-        print("the words are not 133 in byte order")
+        print("the words are not 133 in byte order, and 136")
     if fuzzy(LISTING_IN) != LISTING_OUT:
         failed += 1
         print(f"the listing: {fuzzy(LISTING_IN)!r}")

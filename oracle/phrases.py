@@ -9,6 +9,7 @@ sides of each limit.
 """
 
 import datetime
+import re
 import sys
 
 from model import KEYWORDS, Month, READINGS_TABLE, SECOND, TABLE, Weekday, escape
@@ -338,6 +339,20 @@ BEHIND_YEARS = ["", "5 pm", "0500 pm", "at noon", ", 5 pm", "5:00", "17:45", ", 
 YEAR_PLACES = ["march 3 {}", "march 3rd {}", "march 0003 {}", "march third {}", "march twenty-3 {}", "february 29 {}", "5 pm march 3 {}",
                "noon on march 3 {}", "a day after march 3 {}", "a day before march 3 {}", "3 march {}", "5/2/{}", "2.5.{}"]
 
+# Literals of every size with each ending, numbers in words with one, and the spellings that reading 2 adds
+ORDINALS = [f"{n}{ending}" for n in (0, 1, 2, 3, 4, 9, 10, 11, 12, 13, 19, 20, 21, 24, 31, 32, 99, 100, 101, 999, 1000, 1001, 2027, 4294967295)
+            for ending in ("st", "nd", "rd", "th")]
+ORDINAL_WORDS = ["forty", "fortieth", "fourty", "fourtieth", "eighth", "eigth", "forty-eighth", "fortieth-eighth", "forty eight", "forty th",
+                 "fortieth th", "eighth th", "eight th", "twenty th", "twentieth st", "ten st", "tenth th", "five th", "hundred th", "5 th",
+                 "24 th", "24 - th", "24thth", "24th th", "24th st", "0024th", "24 hundredth", "5th hundred", "24th hundred", "24th thousand",
+                 "1000th thousand", "2 thousand 24th", "thousand and 24th", "FORTY", "24TH", "Eighth", "forties", "ths", "th", "st"]
+ORDINAL_PLACES = ["march {}", "march {} 2027", "march {}, 2027", "march {} 5 pm", "{} march 2027", "{} days ago", "{} day from now", "at {}",
+                  "{}:30 pm", "5:{}", "friday at {} pm", "tuesday in {} days", "5/{}/2027", "{}/5/2027", "2027-5-{}", "{}"]
+# A comma behind month and day
+COMMAS = ["march 3,{}", "march 3 , {}", "march 3,, {}", "march 3rd, {}", "march 24th,{}", "march, {}", "march 3 2027, {}", "3 march, {}",
+          "5/2, {}", "5/2/2022, {}", "a day after march 3, {}", "noon on march 3, {}", "5 pm, march 3, {}", "march 3, {} at noon",
+          "march 3, {}, 5 pm", "march 3, {} 5:00", "march 3, {} next year"]
+
 # At every now: month ends and new years, the weekday that the duration reaches, the way on alone
 AHEAD_AT_EVERY_NOW = [f"{day} in a month" for day in WEEKDAYS] + [
     "monday in 0 days", "friday in a day", "saturday in 0 weeks", "sunday in a week", "thursday in two weeks", "wednesday in a year",
@@ -373,9 +388,12 @@ def second_list():
     lines += [(A, joined("march 3", year, behind)) for year in YEARS for behind in BEHIND_YEARS]
     lines += [(A, place.format(year)) for place in YEAR_PLACES for year in YEARS]
     lines += [(A, f"march 3 {year.rjust(length - len('march 3 '), '0')}") for year in ("5", "2027") for length in (255, 256, 257)]
+    lines += [(A, place.format(ordinal)) for place in ORDINAL_PLACES[:8] for ordinal in ORDINALS]
+    lines += [(A, place.format(word)) for place in ORDINAL_PLACES for word in ORDINAL_WORDS]
+    lines += [(A, place.format(year)) for place in COMMAS for year in YEARS]
     lines += [(now, phrase) for now in NO_NOWS for phrase in ("tuesday in two weeks", "tuesday in an hour", "march 3 5 pm")]
     dice = Dice(2)
-    for made in (dice.ahead, dice.dated):
+    for made in (dice.ahead, dice.dated, dice.ordinal):
         lines += [(dice.pick(NOWS), made()) for _ in range(100)]
         lines += [(dice.pick(NOWS), dice.damaged(made())) for _ in range(100)]
     return list(dict.fromkeys(as_lines(lines) + fixed_list()[::33]))
@@ -555,6 +573,17 @@ class Dice:
         for _ in range(self.pick([0, 0, 0, 1])):
             phrase = [self.duration(), self.pick(["after", "from", "before"]), *phrase]
         return joined(*phrase)
+
+    def ordinal(self):
+        """A phrase of the first grammar with endings behind literals, commas before numbers, and the spellings that reading 2 adds"""
+        phrase = self.pick([self.phrase, self.dated, self.ahead])()
+        words = {"fourty": "forty", "fourtieth": "fortieth", "eigth": "eighth"}
+        phrase = re.sub("|".join(words), lambda word: words[word[0]], phrase)
+        if self.one_in(2):
+            phrase = re.sub(r"(\d)(?=[ ,]|$)", lambda digit: digit[1] + self.pick(["", "st", "nd", "rd", "th"]), phrase)
+        if self.one_in(2):
+            phrase = re.sub(r" (?=\d)", lambda _: self.pick([" ", ", ", ","]), phrase)
+        return phrase
 
     # phrases by no grammar
 

@@ -106,7 +106,8 @@ impl fmt::Display for Moment {
     }
 }
 
-/// The two readings of a phrase. They differ in what "in" behind a weekday means, and in what the year behind month and day is.
+/// The two readings of a phrase. They differ in what "in" behind a weekday means, in what the year behind month and day is, and in
+/// ordinals, spellings and commas.
 ///
 /// ```
 /// # use fuzzydate::{read, Moment, Reading};
@@ -117,13 +118,17 @@ impl fmt::Display for Moment {
 ///
 /// assert!(read(Reading::First, "march 3 5 pm", wednesday).is_err());
 /// assert_eq!(read(Reading::Second, "march 3 5 pm", wednesday).unwrap().to_string(), "2026-03-03 17:00:00");
+///
+/// assert!(read(Reading::First, "january 1st, 2010", wednesday).is_err());
+/// assert_eq!(read(Reading::Second, "january 1st, 2010", wednesday).unwrap().to_string(), "2010-01-01 09:30:15");
 /// ```
 #[derive(Clone, Copy, Debug, PartialEq, Eq, Hash)]
 #[repr(u32)]
 pub enum Reading {
     /// As the Rust library fuzzydate reads it: "in" goes back in time, and any number is a year.
     First = 1,
-    /// "in" goes forward by the duration, and on to the first such weekday, that day included; a year has four digits.
+    /// "in" goes forward by the duration, and on to the first such weekday, that day included; a year has four digits, and a comma may stand
+    /// before it; any ending may follow digits; "forty", "fortieth" and "eighth" are words.
     Second = 2,
 }
 

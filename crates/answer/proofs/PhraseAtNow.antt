@@ -9,7 +9,7 @@ use Rattle.refusals.specs.Table.{NoNow}
 use Rattle.refusals.specs.Answers.{Answer, given, refused, refusalAt, refuse, andThen}
 use Rattle.refusals.specs.declared.Refusal.{Refusal}
 use Rattle.refusals.proofs.Holds.{Holds, of-given, of-refusal, Bounded, given-holds, refusal-holds}
-use Rattle.lexer.specs.Keywords.{keywords}
+use Rattle.lexer.specs.Keywords.{wordsIn}
 use Rattle.lexer.specs.declared.reading.Reading.{Reading}
 use Rattle.calendar.specs.Moments.{IsMoment, Outcome, refused as unreached, isMoment}
 use Rattle.calendar.specs.declared.moments.Moment.{Moment}
@@ -22,22 +22,22 @@ use Rattle.answer.specs.Answer.{placed, readingAt, answerOf}
 use Rattle.answer.proofs.Leads.{Leads, leads, refuses, timeOf, hasSubDaily, SameTime}
 use Rattle.answer.proofs.Leads.{valid-leads, second-leads, time-of-day-leads}
 
-module _ (reading : Reading) (s : List ℕ) {x : TreeRead} (read : readOf reading keywords s ≡ given x) where
+module _ (reading : Reading) (s : List ℕ) {x : TreeRead} (read : readOf reading (wordsIn reading) s ≡ given x) where
   -- a phrase that is read is answered by its reading
-  by-reading : (n : Moment) → answerOf reading keywords s n ≡ readingAt n x
+  by-reading : (n : Moment) → answerOf reading (wordsIn reading) s n ≡ readingAt n x
   unfolding answerOf
   by-reading n = rw read
 
   -- it is evaluated at a now of the calendar
-  pub at-now : (n : Moment) → isMoment n ≡ true → answerOf reading keywords s n ≡ placed (evaluate (x .tree) n)
+  pub at-now : (n : Moment) → isMoment n ≡ true → answerOf reading (wordsIn reading) s n ≡ placed (evaluate (x .tree) n)
   at-now n h = by-reading n ∙ rw h
 
   -- and at any other now it is refused 8
-  pub at-no-now : (n : Moment) → isMoment n ≡ false → answerOf reading keywords s n ≡ refuse NoNow 0 0
+  pub at-no-now : (n : Moment) → isMoment n ≡ false → answerOf reading (wordsIn reading) s n ≡ refuse NoNow 0 0
   at-no-now n h = by-reading n ∙ rw h
 
 -- a phrase that reading refuses is refused so at every now
-pub refused-reading : (reading : Reading) (s : List ℕ) {r : Refusal} → readOf reading keywords s ≡ refused r → (n : Moment) → answerOf reading keywords s n ≡ refused r
+pub refused-reading : (reading : Reading) (s : List ℕ) {r : Refusal} → readOf reading (wordsIn reading) s ≡ refused r → (n : Moment) → answerOf reading (wordsIn reading) s n ≡ refused r
 unfolding answerOf
 refused-reading reading s h n = rw h
 
@@ -67,7 +67,7 @@ reading-settled : {m : ℕ} (x : TreeRead) (n : Moment) → Holds IsMoment (Boun
 reading-settled x n = reading-holds x n (valid-leads (x .tree) n)
 
 -- every answer is a moment of the calendar, or a refusal of 1 to 13 with a part within the phrase and the 256 bytes that it may have
-pub settled : (reading : Reading) (s : List ℕ) (n : Moment) → Holds IsMoment (Bounded 1 13 (min (length s) 256)) (answerOf reading keywords s n)
+pub settled : (reading : Reading) (s : List ℕ) (n : Moment) → Holds IsMoment (Bounded 1 13 (min (length s) 256)) (answerOf reading (wordsIn reading) s n)
 unfolding answerOf
 settled reading s n = go (read-holds reading s)
   where
@@ -78,10 +78,10 @@ settled reading s n = go (read-holds reading s)
 
 -- a refusal of 1 to 7 does not depend on now
 pub whatever-now :
-    (reading : Reading) (s : List ℕ) (n m : Moment) {r : Refusal} → answerOf reading keywords s n ≡ refused r → r .number ≤ 7 → answerOf reading keywords s m ≡ refused r
-whatever-now reading s n m {r} answer few = go (readOf reading keywords s) refl
+    (reading : Reading) (s : List ℕ) (n m : Moment) {r : Refusal} → answerOf reading (wordsIn reading) s n ≡ refused r → r .number ≤ 7 → answerOf reading (wordsIn reading) s m ≡ refused r
+whatever-now reading s n m {r} answer few = go (readOf reading (wordsIn reading) s) refl
   where
-    go : (w : ReadPhrase) → readOf reading keywords s ≡ w → answerOf reading keywords s m ≡ refused r
+    go : (w : ReadPhrase) → readOf reading (wordsIn reading) s ≡ w → answerOf reading (wordsIn reading) s m ≡ refused r
     go (given x) h =
         let high = refusal-holds (reading-settled {m = 0} x n) (sym (by-reading reading s h n) ∙ answer) .least in
         absurd (omega arith)
@@ -91,13 +91,13 @@ whatever-now reading s n m {r} answer few = go (readOf reading keywords s) refl
 pub record ReadAtNoNow (reading : Reading) (s : List ℕ) (n : Moment) : Type 0 where
   pub no-now : isMoment n ≡ false
   pub tree-read : TreeRead
-  pub read : readOf reading keywords s ≡ given tree-read
+  pub read : readOf reading (wordsIn reading) s ≡ given tree-read
 
 -- refusal 8 is given only there; `at-no-now` says that it is given wherever that holds
-pub eight-only : (reading : Reading) (s : List ℕ) (n : Moment) {r : Refusal} → answerOf reading keywords s n ≡ refused r → r .number ≡ NoNow → ReadAtNoNow reading s n
-eight-only reading s n {r} answer eight = go (readOf reading keywords s) (isMoment n) refl refl
+pub eight-only : (reading : Reading) (s : List ℕ) (n : Moment) {r : Refusal} → answerOf reading (wordsIn reading) s n ≡ refused r → r .number ≡ NoNow → ReadAtNoNow reading s n
+eight-only reading s n {r} answer eight = go (readOf reading (wordsIn reading) s) (isMoment n) refl refl
   where
-    go : (w : ReadPhrase) (b : Bool) → readOf reading keywords s ≡ w → isMoment n ≡ b → ReadAtNoNow reading s n
+    go : (w : ReadPhrase) (b : Bool) → readOf reading (wordsIn reading) s ≡ w → isMoment n ≡ b → ReadAtNoNow reading s n
     go (given x) true h i =
         let led = placed-holds {m = 0} (valid-leads (x .tree) n (test-moment n i)) in
         let high = refusal-holds led (sym (at-now reading s h n i) ∙ answer) .least in
@@ -109,15 +109,15 @@ eight-only reading s n {r} answer eight = go (readOf reading keywords s) (isMome
         let same : q .number ≡ r .number = cc in
         absurd (omega arith)
 
-module _ (reading : Reading) (s : List ℕ) {x : TreeRead} (read : readOf reading keywords s ≡ given x) (untimed : timeOf (x .tree) ≡ NoTime) where
+module _ (reading : Reading) (s : List ℕ) {x : TreeRead} (read : readOf reading (wordsIn reading) s ≡ given x) (untimed : timeOf (x .tree) ≡ NoTime) where
   answered :
-      {M : Moment → Type 0} (n : Moment) {t : Moment} → (IsMoment n → Leads M (evaluate (x .tree) n)) → answerOf reading keywords s n ≡ given t → M t
+      {M : Moment → Type 0} (n : Moment) {t : Moment} → (IsMoment n → Leads M (evaluate (x .tree) n)) → answerOf reading (wordsIn reading) s n ≡ given t → M t
   answered n leading answer = given-holds (reading-holds {m = 0} x n leading) (sym (by-reading reading s read n) ∙ answer)
 
   -- without a stated time the answer keeps now's second
-  pub keeps-second : (n : Moment) {t : Moment} → answerOf reading keywords s n ≡ given t → t .second ≡ n .second
+  pub keeps-second : (n : Moment) {t : Moment} → answerOf reading (wordsIn reading) s n ≡ given t → t .second ≡ n .second
   keeps-second n answer = answered n (λ v. second-leads (x .tree) n v untimed) answer .second
 
   -- and without hours or minutes in the durations around its date the whole time of day
-  pub keeps-time : hasSubDaily (x .tree) ≡ false → (n : Moment) {t : Moment} → answerOf reading keywords s n ≡ given t → SameTime n t
+  pub keeps-time : hasSubDaily (x .tree) ≡ false → (n : Moment) {t : Moment} → answerOf reading (wordsIn reading) s n ≡ given t → SameTime n t
   keeps-time none n answer = answered n (λ v. time-of-day-leads (x .tree) n v untimed none) answer

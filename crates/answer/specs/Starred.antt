@@ -4,7 +4,7 @@ use mathlib.Core.List.{List, [], _∷_, map}
 use Prim.Native.Nat.{ℕ}
 use Prim.Native.String.{String}
 use Rattle.digits.specs.Bytes.{bytesOf}
-use Rattle.lexer.specs.Keywords.{keywords}
+use Rattle.lexer.specs.Keywords.{keywords, wordsIn}
 use Rattle.lexer.specs.declared.reading.Reading.{Reading}
 use Rattle.lexer.specs.declared.reading.Reading.the-variants.{First, Second}
 use Rattle.lexer.specs.Classes.{classOf, markOf}
@@ -81,7 +81,8 @@ abbrev under : Reading → String → Answer Moment → Under
 under r s a = record { reading = r; case = row A s a }
 
 -- where the readings differ: "in" behind a weekday goes back to the weekday, or on to it, that day included, and "ago" goes back under both;
--- the year behind month and day is any number, or a run of four digits
+-- the year behind month and day is any number, or a run of four digits, also behind a comma; any ending may stand behind a literal; and
+-- the usual spellings are words
 unfoldable pub both : List Under
 both =
     under First "tuesday in two weeks" (day 2026 1 27)
@@ -94,12 +95,24 @@ both =
     ∷ under Second "march 3 2027 5 pm" (clock 2027 3 3 17)
     ∷ under Second "march 3 0027" (day 27 3 3)
     ∷ under Second "march 3 twenty" (clock 2026 3 3 20)
+    ∷ under First "march 3, 2027" (refuse 11 0 0)
+    ∷ under Second "march 3, 2027" (day 2027 3 3)
+    ∷ under Second "march 3, 5 pm" (clock 2026 3 3 17)
+    ∷ under Second "march 24th" (day 2026 3 24)
+    ∷ under Second "march 24th, 2027" (day 2027 3 24)
+    ∷ under Second "january 1, 2010 5:00" (clock 2010 1 1 5)
+    ∷ under Second "january 1, 5:00" (clock 2026 1 1 5)
+    ∷ under Second "1 january, 2010" (refuse 7 2 15)
+    ∷ under Second "eighth of march" (refuse 2 7 9)
+    ∷ under Second "1001st day from now" (day 2028 11 8)
+    ∷ under First "forty days ago" (refuse 2 0 5)
+    ∷ under Second "forty days ago" (day 2026 1 2)
     ∷ []
 
 -- each phrase answers as the paper's table has it, in the first reading, and as listed in both
-pub starred-as-listed : (map (λ c. answerOf First keywords (c .phrase) (c .from)) starred ≡ map (λ c. c .answer) starred)
-    × (map (λ c. answerOf (c .reading) keywords (c .case .phrase) (c .case .from)) both ≡ map (λ c. c .case .answer) both)
-unfolding starred both keywords classOf markOf wordAt numberAt tokenAt lexed turns again get isAt within fitsOf isEnding wordOf
+pub starred-as-listed : (map (λ c. answerOf First (wordsIn First) (c .phrase) (c .from)) starred ≡ map (λ c. c .answer) starred)
+    × (map (λ c. answerOf (c .reading) (wordsIn (c .reading)) (c .case .phrase) (c .case .from)) both ≡ map (λ c. c .case .answer) both)
+unfolding starred both keywords wordsIn classOf markOf wordAt numberAt tokenAt lexed turns again get isAt within fitsOf isEnding wordOf
     literalOf onesOf teensOf tensOf tensOnesOf numDoubleOf sumOf hundredsOf numTailOf numTripleOf numTripleUnitOf unitsOf numStep numOf
     isArticle unitOf namedMonthOf weekdayOf relativeSpecifierOf specificOf articleOf concreteOf durationTurn durationOf namedDayOf
     dayMonthYearOf monthDayOf isDelim threeNumbersOf twoNumbersOf behindSecondOf delimitedOf dateOf minuteOf halfOf clockOf timeOf

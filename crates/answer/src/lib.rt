@@ -7,7 +7,7 @@ use phrase::read::read;
 use refusals::NO_NOW;
 use refusals::Refusal;
 ghost use mathlib.Core.Path.{_≡_};
-ghost use Rattle.lexer.specs.Keywords.{keywords};
+ghost use Rattle.lexer.specs.Keywords.{wordsIn};
 ghost use Rattle.calendar.specs.Moments.{reachedOf};
 ghost use Rattle.answer.specs.Answer.{answerFrom, placed, answerOf};
 
@@ -33,7 +33,7 @@ fn place(x: Reached) -> Answered
 
 // A phrase at a now, in one of the readings: refusals 1 to 7, then 8, then 9 to 13; or the moment.
 pub fn answer(reading: Reading, phrase: &[u8], at: Moment) -> Answered
-    ensures { λ r. ⌜ answerFrom r ≡ answerOf reading keywords (now (phrase .entry)) at ⌝ }
+    ensures { λ r. ⌜ answerFrom r ≡ answerOf reading (wordsIn reading) (now (phrase .entry)) at ⌝ }
 {
     let read = read(reading, phrase);
     let refusal = read.refusal;

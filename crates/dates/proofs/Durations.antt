@@ -11,6 +11,7 @@ use borrow.Author.Tests.{ltb-true, ltb-false, lt-ltb, le-ltb}
 use types.Run.{OneOf}
 use denote.Enum.Declared.{tagOf}
 use Rattle.lexer.specs.Lexemes as lexeme
+use Rattle.lexer.specs.declared.reading.Reading.{Reading}
 use Rattle.numbers.specs.Slices.{isAt}
 use Rattle.numbers.proofs.Again.{again-is, again-keeps}
 use Rattle.numbers.proofs.LexemeAt.{at-most, there}
@@ -45,10 +46,10 @@ module _ {A B : Type 0} where
   then-same nothing f g h same = refl
   then-same overflow f g h same = refl
 
-pub specific-took : (l : List ℕ) → Took (specificOf l) 2 (length l)
+pub specific-took : (reading : Reading) (l : List ℕ) → Took (specificOf reading l) 2 (length l)
 unfolding specificOf
-specific-took l =
-    then-took _ _ (num-took l) (λ num t a b.
+specific-took reading l =
+    then-took _ _ (num-took reading l) (λ num t a b.
     then-took _ _ (unit-took (drop t l)) (λ u k d e. record { bounds = let left = length-drop t l in (omega arith, omega arith) }))
 
 pub article-took : (l : List ℕ) → Took (articleOf l) 2 (length l)
@@ -60,31 +61,31 @@ article-took l =
     (λ e. nothing-took)
 
 -- a part has a number or an article, and a unit
-pub concrete-took : (l : List ℕ) → Took (concreteOf l) 2 (length l)
+pub concrete-took : (reading : Reading) (l : List ℕ) → Took (concreteOf reading l) 2 (length l)
 unfolding concreteOf
-concrete-took l = or-took _ _ (specific-took l) (article-took l)
+concrete-took reading l = or-took _ _ (specific-took reading l) (article-took l)
 
-step-agree : (D E : List ℕ → Parsed Duration) (l : List ℕ) → ((m : List ℕ) → length m < length l → D m ≡ E m)
-    → durationTurn D l ≡ durationTurn E l
+step-agree : (reading : Reading) (D E : List ℕ → Parsed Duration) (l : List ℕ) → ((m : List ℕ) → length m < length l → D m ≡ E m)
+    → durationTurn reading D l ≡ durationTurn reading E l
 unfolding durationTurn
-step-agree D E l agree =
-    then-same (concreteOf l) _ _ (concrete-took l) (λ p t a b.
+step-agree reading D E l agree =
+    then-same (concreteOf reading l) _ _ (concrete-took reading l) (λ p t a b.
     rw (agree (drop (t + 1) l) (let left = length-drop (t + 1) l in omega arith)))
 
 -- `Duration::parse` calls itself
-pub duration-is : (l : List ℕ) → durationOf l ≡ durationTurn durationOf l
+pub duration-is : (reading : Reading) (l : List ℕ) → durationOf reading l ≡ durationTurn reading (durationOf reading) l
 unfolding durationOf
-duration-is l = again-is nothing durationTurn step-agree l
+duration-is reading l = again-is nothing (durationTurn reading) (step-agree reading) l
 
 -- at least two and at most n lexemes, and three for each part but for the last one's connection
 abbrev Sizes : ℕ → Duration → ℕ → Type 0
 Sizes n d t = (2 ≤ t) × (t ≤ n) × (3 * size d ≤ t + 1)
 
-step-sized : (D : List ℕ → Parsed Duration) → ((m : List ℕ) → Each (Sizes (length m)) (D m)) → (l : List ℕ)
-    → Each (Sizes (length l)) (durationTurn D l)
+step-sized : (reading : Reading) (D : List ℕ → Parsed Duration) → ((m : List ℕ) → Each (Sizes (length m)) (D m)) → (l : List ℕ)
+    → Each (Sizes (length l)) (durationTurn reading D l)
 unfolding durationTurn
-step-sized D sized l =
-    then-each (concreteOf l) _ (λ p t e. let b = found e (concrete-took l) in
+step-sized reading D sized l =
+    then-each (concreteOf reading l) _ (λ p t e. let b = found e (concrete-took reading l) in
     pick-each (isAt l t lexeme.And)
     (λ h. let left = length-drop (t + 1) l in let room = there (at-most l t lexeme.And) h in
     if-let-each (D (drop (t + 1) l)) _ _
@@ -92,13 +93,13 @@ step-sized D sized l =
     (record { bounds = (omega arith, omega arith, omega arith) }))
     (λ h. record { bounds = (omega arith, omega arith, omega arith) }))
 
-duration-sized : (l : List ℕ) → Each (Sizes (length l)) (durationOf l)
+duration-sized : (reading : Reading) (l : List ℕ) → Each (Sizes (length l)) (durationOf reading l)
 unfolding durationOf
-duration-sized l = again-keeps nothing durationTurn (λ m w. Each (Sizes (length m)) w) (λ m. record { bounds = tt }) step-sized l
+duration-sized reading l = again-keeps nothing (durationTurn reading) (λ m w. Each (Sizes (length m)) w) (λ m. record { bounds = tt }) (step-sized reading) l
 
 -- the bounds of a duration
-pub duration-bounds : (l : List ℕ) {d : Duration} {t : ℕ} → durationOf l ≡ is d t → (2 ≤ t) × (t ≤ length l) × (3 * size d ≤ t + 1)
-duration-bounds l e = (rw e at (duration-sized l)) .bounds
+pub duration-bounds : (reading : Reading) (l : List ℕ) {d : Duration} {t : ℕ} → durationOf reading l ≡ is d t → (2 ≤ t) × (t ≤ length l) × (3 * size d ≤ t + 1)
+duration-bounds reading l e = (rw e at (duration-sized reading l)) .bounds
 
 -- the row has as many parts more as the duration
 pub into-n : (d : Duration) (ps : Parts) → into d ps .n ≡ ps .n + size d
@@ -115,9 +116,9 @@ pub taken-found : {r : Taken} {t n : ℕ} {b : Bool} → r ≡ Is t b → TakenC
 taken-found e h = (rw e at h) .bounds
 
 -- what `read_duration` promises
-pub taken-promised : {r : Taken} (l : List ℕ) → r ≡ takenAnswer (durationOf l)
-    → (r ≡ takenAnswer (durationOf l)) × TakenCounted r (length l)
-taken-promised l e = (e, rw e (taken-counted (durationOf l) (length l) (duration-sized l)))
+pub taken-promised : (reading : Reading) {r : Taken} (l : List ℕ) → r ≡ takenAnswer (durationOf reading l)
+    → (r ≡ takenAnswer (durationOf reading l)) × TakenCounted r (length l)
+taken-promised reading l e = (e, rw e (taken-counted (durationOf reading l) (length l) (duration-sized reading l)))
 
 -- the duration of which an answer says the lexemes taken
 pub record TakenRead (w : Parsed Duration) (t : ℕ) (b : Bool) : Type 0 where
@@ -174,21 +175,22 @@ module _ {A R : Type 0} (k : Passing A R) where
   onward nothing at a none = none
   onward overflow at a none = k .over
 
+module _ {A R : Type 0} (k : Passing A R) (reading : Reading) where
   -- the answer behind a part that ends at e
   abbrev pub joined : List ℕ → ℕ → A → R
-  joined l e a = cond (isAt l e lexeme.And) (onward (durationOf (drop (e + 1) l)) (e + 1) a (k .ends a e)) (k .ends a e)
+  joined l e a = cond (isAt l e lexeme.And) (onward k (durationOf reading (drop (e + 1) l)) (e + 1) a (k .ends a e)) (k .ends a e)
 
-  part-passed : (l : List ℕ) (at : ℕ) (a : A) (none : R) {p : Part} {t : ℕ} → concreteOf (drop at l) ≡ is p t →
-      onward (durationOf (drop at l)) at a none ≡ joined l (at + t) (k .add a p)
+  part-passed : (l : List ℕ) (at : ℕ) (a : A) (none : R) {p : Part} {t : ℕ} → concreteOf reading (drop at l) ≡ is p t →
+      onward k (durationOf reading (drop at l)) at a none ≡ joined l (at + t) (k .add a p)
   unfolding durationTurn
   part-passed l at a none {p} {t} e =
       let same : at + (t + 1) ≡ at + t + 1 = omega arith in
-      rw (duration-is (drop at l), e, at-drop l at t lexeme.And, drop-drop (t + 1) at l, same)
-      (go (isAt l (at + t) lexeme.And) (durationOf (drop (at + t + 1) l)))
+      rw (duration-is reading (drop at l), e, at-drop l at t lexeme.And, drop-drop (t + 1) at l, same)
+      (go (isAt l (at + t) lexeme.And) (durationOf reading (drop (at + t + 1) l)))
     where
       go : (b : Bool) (w : Parsed Duration) →
-          onward (pick b (ifLet w (λ dur2 u. is (concat p dur2) (t + 1 + u)) (is (part p) t)) (is (part p) t)) at a none
-          ≡ cond b (onward w (at + t + 1) (k .add a p) (k .ends (k .add a p) (at + t))) (k .ends (k .add a p) (at + t))
+          onward k (pick b (ifLet w (λ dur2 u. is (concat p dur2) (t + 1 + u)) (is (part p) t)) (is (part p) t)) at a none
+          ≡ cond b (onward k w (at + t + 1) (k .add a p) (k .ends (k .add a p) (at + t))) (k .ends (k .add a p) (at + t))
       go true (is d u) = let same : at + (t + 1 + u) ≡ at + t + 1 + u = omega arith in rw (k .more p d a, same)
       go true nothing = rw (k .one p a)
       go true overflow = refl
@@ -196,7 +198,7 @@ module _ {A R : Type 0} (k : Passing A R) where
 
   -- the answer r, where a part is looked for at the place at
   pub record Looking (r : R) (l : List ℕ) (at : ℕ) (a : A) (none : R) : Type 0 where
-    pub same : r ≡ onward (durationOf (drop at l)) at a none
+    pub same : r ≡ onward k (durationOf reading (drop at l)) at a none
     pub within : at ≤ length l
 
   -- the answer r, behind a part that ends at e
@@ -210,14 +212,14 @@ module _ {A R : Type 0} (k : Passing A R) where
   Said r l at a none PartOverflow = r ≡ k .over
 
   pub part-learnt : {r none : R} {l m : List ℕ} {at : ℕ} {a : A} {w z : PartFound} → Looking r l at a none →
-      m ≡ drop at l → parsedPart w ≡ concreteOf m → w ≡ z → Said r l at a none z
+      m ≡ drop at l → parsedPart w ≡ concreteOf reading m → w ≡ z → Said r l at a none z
   unfolding durationTurn
   part-learnt {r} {none} {l} {m} {at} {a} {w} {z} g here answer e = go z (rw (← here, ← answer, e))
     where
-      go : (z : PartFound) → concreteOf (drop at l) ≡ parsedPart z → Said r l at a none z
+      go : (z : PartFound) → concreteOf reading (drop at l) ≡ parsedPart z → Said r l at a none z
       go (IsPart p t) f = record { same = g .same ∙ part-passed l at a none f }
-      go NoPart f = g .same ∙ rw (duration-is (drop at l), f)
-      go PartOverflow f = g .same ∙ rw (duration-is (drop at l), f)
+      go NoPart f = g .same ∙ rw (duration-is reading (drop at l), f)
+      go PartOverflow f = g .same ∙ rw (duration-is reading (drop at l), f)
 
   -- an "and" behind it, or none
   module _ {r : R} {l : List ℕ} {e : ℕ} {a : A} {b : Bool} (g : Joined r l e a) (test : b ≡ isAt l e lexeme.And) where
@@ -259,16 +261,16 @@ rowKept ps =
     }
 
 -- from the front on
-pub taken-looking : (l : List ℕ) → Looking subDailyKept (takenAnswer (durationOf l)) l 0 false Nothing
-taken-looking l = record { same = go (durationOf l); within = omega arith }
+pub taken-looking : (reading : Reading) (l : List ℕ) → Looking subDailyKept reading (takenAnswer (durationOf reading l)) l 0 false Nothing
+taken-looking reading l = record { same = go (durationOf reading l); within = omega arith }
   where
     go : (w : Parsed Duration) → takenAnswer w ≡ onward subDailyKept w 0 false Nothing
     go (is d t) = let e : 0 + t ≡ t = omega arith in rw e
     go nothing = refl
     go overflow = refl
 
-pub row-looking : (ps : Parts) (l : List ℕ) → Looking (rowKept ps) (rowed ps (durationOf l)) l 0 ps (record { parts = ps; end = 0 })
-row-looking ps l = record { same = go (durationOf l); within = omega arith }
+pub row-looking : (reading : Reading) (ps : Parts) (l : List ℕ) → Looking (rowKept ps) reading (rowed ps (durationOf reading l)) l 0 ps (record { parts = ps; end = 0 })
+row-looking reading ps l = record { same = go (durationOf reading l); within = omega arith }
   where
     go : (w : Parsed Duration) → rowed ps w ≡ onward (rowKept ps) w 0 ps (record { parts = ps; end = 0 })
     go (is d t) = let e : 0 + t ≡ t = omega arith in rw e

@@ -2,13 +2,14 @@
 use mathlib.Core.Path.{_≡_, refl}
 use mathlib.Core.Bool.{Bool, true}
 use mathlib.Core.List.{List, [], _∷_}
-use Prim.Native.Nat.{ℕ, zero, suc, _+_, _≤_, _<_}
+use Prim.Native.Nat.{ℕ, zero, suc, _+_, _≤_, _<_, max}
 use native.Mathlib.Omega.{arith}
 use lib.Dec.{eqb, leb}
 use lib.ListN.{length, drop, length-drop}
 use borrow.Author.Tests.{eqb-true}
 use Rattle.lexer.specs.Lexemes as lexeme
 use Rattle.lexer.specs.declared.reading.Reading.{Reading}
+use Rattle.lexer.specs.declared.reading.Reading.the-variants.{First, Second}
 use Rattle.numbers.specs.Slices.{get, isAt, within, oneIf}
 use Rattle.numbers.specs.Numbers.{beginsNumber, numOf}
 use Rattle.numbers.proofs.LexemeAt.{one-most, within-bounds, at-most, there}
@@ -16,12 +17,12 @@ use Rattle.numbers.proofs.NumberBounds.{first, num-read}
 use Rattle.numbers.proofs.Begins.{no-num}
 use Rattle.dates.specs.Parsed.{nothing, parsedNumber, Took}
 use Rattle.dates.specs.Units.{isArticle, unitOf, monthOf, weekdayOf, relativeSpecifierOf}
-use Rattle.dates.specs.Dates.{namedDayOf, dayMonthYearOf, yearOf, monthDayOf, isDelim, behindSecondOf, delimitedOf, dateOf}
+use Rattle.dates.specs.Dates.{namedDayOf, dayMonthYearOf, yearOf, commaIn, monthDayOf, isDelim, behindSecondOf, delimitedOf, dateOf}
 use Rattle.dates.specs.Times.{minuteOf, halfOf, clockOf, timeOf}
 use Rattle.dates.proofs.Parsed.{number-took, nothing-took, pick-took, one-took, or-took, then-took, if-let-took, year-keeps}
 
-pub num-took : (l : List ℕ) → Took (parsedNumber (numOf l)) 1 (length l)
-num-took l = number-took (numOf l) (num-read l)
+pub num-took : (reading : Reading) (l : List ℕ) → Took (parsedNumber (numOf reading l)) 1 (length l)
+num-took reading l = number-took (numOf reading l) (num-read reading l)
 
 -- a test for a lexeme that held
 seen : (l : List ℕ) (x : ℕ) → 0 < x → eqb (get l 0) x ≡ true → 0 < length l
@@ -78,12 +79,12 @@ specifier-took l =
 reach : (l : List ℕ) (t u : ℕ) → t ≤ length l → u ≤ length (drop t l) → t + u ≤ length l
 reach l t u p q = let left = length-drop t l in omega arith
 
-pub minute-took : (l : List ℕ) → Took (minuteOf l) 0 (length l)
+pub minute-took : (reading : Reading) (l : List ℕ) → Took (minuteOf reading l) 0 (length l)
 unfolding minuteOf
-minute-took l =
+minute-took reading l =
     pick-took (isAt l 0 lexeme.Colon) _ _
     (λ e. let room = there (at-most l 0 lexeme.Colon) e in
-    if-let-took _ _ _ (num-took (drop 1 l))
+    if-let-took _ _ _ (num-took reading (drop 1 l))
     (λ min t a b. record { bounds = let h = reach l 1 t (omega arith) b in omega arith })
     (record { bounds = omega arith }))
     (λ e. record { bounds = omega arith })
@@ -95,25 +96,25 @@ half-took hour minute t l p q =
     pick-took (isAt l t lexeme.PM) _ _ (λ e. record { bounds = let room = there (at-most l t lexeme.PM) e in omega arith }) (λ e.
     record { bounds = omega arith }))
 
-clock-took : (l : List ℕ) → Took (clockOf l) 1 (length l)
+clock-took : (reading : Reading) (l : List ℕ) → Took (clockOf reading l) 1 (length l)
 unfolding clockOf
-clock-took l =
-    then-took _ _ (num-took l) (λ hour t a b.
-    then-took _ _ (minute-took (drop t l)) (λ minute u e f.
+clock-took reading l =
+    then-took _ _ (num-took reading l) (λ hour t a b.
+    then-took _ _ (minute-took reading (drop t l)) (λ minute u e f.
     half-took hour minute (t + u) l (omega arith) (reach l t u b f)))
 
-pub time-took : (l : List ℕ) → Took (timeOf l) 1 (length l)
+pub time-took : (reading : Reading) (l : List ℕ) → Took (timeOf reading l) 1 (length l)
 unfolding timeOf
-time-took l =
+time-took reading l =
     one-took (isAt l 0 lexeme.Midnight) _ _ (there (at-most l 0 lexeme.Midnight))
     (one-took (isAt l 0 lexeme.Noon) _ _ (there (at-most l 0 lexeme.Noon))
-    (clock-took l))
+    (clock-took reading l))
 
 -- where no lexeme is left, no time is read
-pub time-none : (l : List ℕ) → length l ≡ 0 → timeOf l ≡ nothing
+pub time-none : (reading : Reading) (l : List ℕ) → length l ≡ 0 → timeOf reading l ≡ nothing
 unfolding get isAt within beginsNumber clockOf timeOf
-time-none [] h = rw (no-num [] refl)
-time-none (x ∷ xs) h = absurd (omega arith)
+time-none reading [] h = rw (no-num reading [] refl)
+time-none reading (x ∷ xs) h = absurd (omega arith)
 
 named-day-took : (l : List ℕ) → Took (namedDayOf l) 1 (length l)
 unfolding namedDayOf
@@ -123,25 +124,32 @@ named-day-took l =
     (one-took (isAt l 0 lexeme.Yesterday) _ _ (there (at-most l 0 lexeme.Yesterday))
     nothing-took))
 
-day-month-year-took : (l : List ℕ) → Took (dayMonthYearOf l) 1 (length l)
+day-month-year-took : (reading : Reading) (l : List ℕ) → Took (dayMonthYearOf reading l) 1 (length l)
 unfolding dayMonthYearOf
-day-month-year-took l =
-    then-took _ _ (num-took l) (λ day t a b.
+day-month-year-took reading l =
+    then-took _ _ (num-took reading l) (λ day t a b.
     then-took _ _ (month-took (drop t l)) (λ month u d e.
     let room = reach l t u b e in
-    then-took _ _ (num-took (drop (t + u) l)) (λ year v f g.
+    then-took _ _ (num-took reading (drop (t + u) l)) (λ year v f g.
     record { bounds = let h = reach l (t + u) v room g in omega arith })))
 
-year-took : (reading : Reading) (l : List ℕ) → Took (yearOf reading (numOf l)) 1 (length l)
-year-took reading l = year-keeps (λ p. Took p 1 (length l)) nothing-took reading (numOf l) (num-took l)
+year-took : (reading : Reading) (l : List ℕ) → Took (yearOf reading (numOf reading l)) 1 (length l)
+year-took reading l = year-keeps (λ p. Took p 1 (length l)) nothing-took reading (numOf reading l) (num-took reading l)
+
+-- a comma that is taken is there
+comma-most : (reading : Reading) (l : List ℕ) (t : ℕ) → t + commaIn reading l t ≤ max t (length l)
+comma-most First l t = omega arith
+comma-most Second l t = at-most l t lexeme.Comma
 
 month-day-took : (reading : Reading) (month : ℕ) (l : List ℕ) → 1 ≤ length l → Took (monthDayOf reading month l) 1 (length l)
 unfolding monthDayOf
 month-day-took reading month l p =
-    then-took _ _ (num-took (drop 1 l)) (λ num t a b.
+    then-took _ _ (num-took reading (drop 1 l)) (λ num t a b.
     let room = reach l 1 t p b in
-    if-let-took _ _ _ (year-took reading (drop (1 + t) l))
-    (λ year u d e. record { bounds = let h = reach l (1 + t) u room e in omega arith })
+    let s = 1 + t + commaIn reading l (1 + t) in
+    let comma = comma-most reading l (1 + t) in
+    if-let-took _ _ _ (year-took reading (drop s l))
+    (λ year u d e. record { bounds = let h = reach l s u (omega arith) e in omega arith })
     (record { bounds = omega arith }))
 
 delim-within : (l : List ℕ) (t : ℕ) → isDelim (get l t) ≡ true → t < length l
@@ -154,31 +162,31 @@ delim-within (x ∷ xs) (suc t) e = let h = delim-within xs t e in omega arith
 pub delim-there : (l : List ℕ) (t : ℕ) {x : ℕ} {r : Bool} → x ≡ get l t → r ≡ isDelim x → r ≡ true → t < length l
 delim-there l t d e h = delim-within l t (rw (← d, ← e) h)
 
-behind-second-took : (delim num1 num2 t : ℕ) (l : List ℕ)
-    → 1 ≤ t → t ≤ length l → Took (behindSecondOf delim num1 num2 t l) 1 (length l)
+behind-second-took : (reading : Reading) (delim num1 num2 t : ℕ) (l : List ℕ)
+    → 1 ≤ t → t ≤ length l → Took (behindSecondOf reading delim num1 num2 t l) 1 (length l)
 unfolding behindSecondOf
-behind-second-took delim num1 num2 t l p q =
+behind-second-took reading delim num1 num2 t l p q =
     pick-took (leb (length l) t) _ _ (λ e. nothing-took) (λ e.
     pick-took (isAt l t delim) _ _
     (λ e. let room = there (at-most l t delim) e in
-    then-took _ _ (num-took (drop (t + 1) l)) (λ num3 u a b.
+    then-took _ _ (num-took reading (drop (t + 1) l)) (λ num3 u a b.
     record { bounds = let h = reach l (t + 1) u (omega arith) b in omega arith }))
     (λ e. record { bounds = omega arith }))
 
-delimited-took : (l : List ℕ) → Took (delimitedOf l) 1 (length l)
+delimited-took : (reading : Reading) (l : List ℕ) → Took (delimitedOf reading l) 1 (length l)
 unfolding delimitedOf
-delimited-took l =
-    then-took _ _ (num-took l) (λ num1 t a b.
+delimited-took reading l =
+    then-took _ _ (num-took reading l) (λ num1 t a b.
     pick-took (isDelim (get l t)) _ _
     (λ e. let room = delim-within l t e in
-    then-took _ _ (num-took (drop (t + 1) l)) (λ num2 u d f.
-    behind-second-took _ _ _ (t + 1 + u) l (omega arith) (reach l (t + 1) u (omega arith) f)))
+    then-took _ _ (num-took reading (drop (t + 1) l)) (λ num2 u d f.
+    behind-second-took reading _ _ _ (t + 1 + u) l (omega arith) (reach l (t + 1) u (omega arith) f)))
     (λ e. nothing-took))
 
 pub date-took : (reading : Reading) (l : List ℕ) → Took (dateOf reading l) 1 (length l)
 unfolding dateOf
 date-took reading l =
     or-took _ _ (named-day-took l)
-    (or-took _ _ (day-month-year-took l)
+    (or-took _ _ (day-month-year-took reading l)
     (if-let-took _ _ _ (month-took l) (λ month t a b. month-day-took reading month l (omega arith))
-    (delimited-took l)))
+    (delimited-took reading l)))

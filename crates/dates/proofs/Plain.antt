@@ -23,8 +23,8 @@ use Rattle.dates.proofs.LexemesTaken.{num-took}
 use Rattle.dates.proofs.Durations.{then-same}
 
 -- a number, of which the digits are not read
-number-plain : (l : List ℕ) → parsedNumber (numOf (plainOf l)) ≡ parsedNumber (numOf l)
-number-plain l = num-unread parsedNumber (λ a. refl) l
+number-plain : (l : List ℕ) → parsedNumber (numOf First (plainOf l)) ≡ parsedNumber (numOf First l)
+number-plain l = num-unread parsedNumber (λ a. refl) First l
 
 -- an article
 article-plain : (l : List ℕ) → isArticle (plainOf l) ≡ isArticle l
@@ -57,7 +57,7 @@ unfolding relativeSpecifierOf
 specifier-plain l = simp (get-plain, eqb-plain)
 
 -- a number and a unit
-specific-plain : (l : List ℕ) → specificOf (plainOf l) ≡ specificOf l
+specific-plain : (l : List ℕ) → specificOf First (plainOf l) ≡ specificOf First l
 unfolding specificOf
 specific-plain l = simp (number-plain, drop-plain, unit-plain)
 
@@ -67,23 +67,23 @@ unfolding articleOf
 article-unit-plain l = simp (article-plain, drop-plain, unit-plain)
 
 -- a part of a duration
-concrete-plain : (l : List ℕ) → concreteOf (plainOf l) ≡ concreteOf l
+concrete-plain : (l : List ℕ) → concreteOf First (plainOf l) ≡ concreteOf First l
 unfolding concreteOf
 concrete-plain l = simp (specific-plain, article-unit-plain)
 
 -- a part of a duration and what D reads behind it
 duration-turn-plain : (D : List ℕ → Parsed Duration) → ((m : List ℕ) → D (plainOf m) ≡ D m)
-    → (l : List ℕ) → durationTurn D (plainOf l) ≡ durationTurn D l
+    → (l : List ℕ) → durationTurn First D (plainOf l) ≡ durationTurn First D l
 unfolding durationTurn
 duration-turn-plain D same l = simp (concrete-plain, at-plain, drop-plain, same)
 
 -- a duration
-pub duration-plain : (l : List ℕ) → durationOf (plainOf l) ≡ durationOf l
+pub duration-plain : (l : List ℕ) → durationOf First (plainOf l) ≡ durationOf First l
 unfolding durationOf
-duration-plain l = again-plain nothing durationTurn _≡_ refl duration-turn-plain l
+duration-plain l = again-plain nothing (durationTurn First) _≡_ refl duration-turn-plain l
 
 -- a minute
-minute-plain : (l : List ℕ) → minuteOf (plainOf l) ≡ minuteOf l
+minute-plain : (l : List ℕ) → minuteOf First (plainOf l) ≡ minuteOf First l
 unfolding minuteOf
 minute-plain l = simp (at-plain, drop-plain, number-plain)
 
@@ -93,12 +93,12 @@ unfolding halfOf
 half-plain hour minute t l = simp at-plain
 
 -- a time in numbers
-clock-plain : (l : List ℕ) → clockOf (plainOf l) ≡ clockOf l
+clock-plain : (l : List ℕ) → clockOf First (plainOf l) ≡ clockOf First l
 unfolding clockOf
 clock-plain l = simp (number-plain, drop-plain, minute-plain, half-plain)
 
 -- a time
-pub time-plain : (l : List ℕ) → timeOf (plainOf l) ≡ timeOf l
+pub time-plain : (l : List ℕ) → timeOf First (plainOf l) ≡ timeOf First l
 unfolding timeOf
 time-plain l = simp (at-plain, clock-plain)
 
@@ -108,13 +108,13 @@ unfolding namedDayOf
 named-plain l = simp at-plain
 
 -- day, month and year
-day-month-year-plain : (l : List ℕ) → dayMonthYearOf (plainOf l) ≡ dayMonthYearOf l
+day-month-year-plain : (l : List ℕ) → dayMonthYearOf First (plainOf l) ≡ dayMonthYearOf First l
 unfolding dayMonthYearOf
 day-month-year-plain l = simp (number-plain, drop-plain, month-plain)
 
 -- a year behind month and day
-year-plain : (l : List ℕ) → yearOf First (numOf (plainOf l)) ≡ yearOf First (numOf l)
-year-plain l = num-unread (yearOf First) (λ a. refl) l
+year-plain : (l : List ℕ) → yearOf First (numOf First (plainOf l)) ≡ yearOf First (numOf First l)
+year-plain l = num-unread (yearOf First) (λ a. refl) First l
 
 -- month and day, with or without a year
 month-day-plain : (month : ℕ) (l : List ℕ) → monthDayOf First month (plainOf l) ≡ monthDayOf First month l
@@ -123,7 +123,7 @@ month-day-plain month l = simp (drop-plain, number-plain, year-plain)
 
 -- what follows the second number, behind a delimiter that is a word
 behind-plain : (delim : ℕ) → ltb delim NUM ≡ true → (num1 num2 t : ℕ) (l : List ℕ)
-    → behindSecondOf delim num1 num2 t (plainOf l) ≡ behindSecondOf delim num1 num2 t l
+    → behindSecondOf First delim num1 num2 t (plainOf l) ≡ behindSecondOf First delim num1 num2 t l
 unfolding behindSecondOf
 behind-plain delim h num1 num2 t l = simp (length-map, at-plain l t delim h, drop-plain, number-plain)
 
@@ -135,7 +135,7 @@ not-delim y a = simp (not-word y Slash refl a, not-word y Dash refl a, not-word 
 -- what follows the first number, which ends at t, with x for the delimiter
 abbrev behindFirst : ℕ → ℕ → List ℕ → ℕ → Parsed Date
 behindFirst num1 t l x =
-    pick (isDelim x) (andThen (parsedNumber (numOf (drop (t + 1) l))) (λ num2 u. behindSecondOf x num1 num2 (t + 1 + u) l)) nothing
+    pick (isDelim x) (andThen (parsedNumber (numOf First (drop (t + 1) l))) (λ num2 u. behindSecondOf First x num1 num2 (t + 1 + u) l)) nothing
 
 -- the same of plain lexemes
 first-plain : (num1 t : ℕ) (l : List ℕ) (x : ℕ) → behindFirst num1 t (plainOf l) (plain x) ≡ behindFirst num1 t l x
@@ -145,11 +145,11 @@ first-plain num1 t l x =
     (λ h. rw (not-delim x h, not-delim (NUM + valueOf x) (omega arith)))
 
 -- a date in numbers
-delimited-plain : (l : List ℕ) → delimitedOf (plainOf l) ≡ delimitedOf l
+delimited-plain : (l : List ℕ) → delimitedOf First (plainOf l) ≡ delimitedOf First l
 unfolding delimitedOf
 delimited-plain l =
     simp (number-plain, get-plain)
-    (then-same (parsedNumber (numOf l)) _ _ (num-took l) (λ num1 t a b. first-plain num1 t l (get l t)))
+    (then-same (parsedNumber (numOf First l)) _ _ (num-took First l) (λ num1 t a b. first-plain num1 t l (get l t)))
 
 -- a date
 pub date-plain : (l : List ℕ) → dateOf First (plainOf l) ≡ dateOf First l

@@ -18,7 +18,7 @@ use Rattle.numbers.proofs.NumberBounds.{num-read}
 use Rattle.numbers.proofs.LexemeAt.{within-bounds}
 use Rattle.dates.specs.Parsed.{Parsed, is, nothing, pick, parsedNumber}
 use Rattle.dates.specs.Units.{isArticle, unitOf, monthOf, weekdayOf}
-use Rattle.dates.specs.Dates.{namedDayOf, dayMonthYearOf, yearOf, monthDayOf, isDelim, pickDate, threeNumbersOf, twoNumbersOf}
+use Rattle.dates.specs.Dates.{namedDayOf, dayMonthYearOf, yearOf, commaIn, monthDayOf, isDelim, pickDate, threeNumbersOf, twoNumbersOf}
 use Rattle.dates.specs.Dates.{behindSecondOf, delimitedOf, dateOf}
 use Rattle.dates.specs.Times.{minuteOf, halfOf, clockOf, timeOf}
 use Rattle.dates.specs.Durations.{Duration, part, concat, specificOf, articleOf, concreteOf, durationTurn, durationOf}
@@ -72,8 +72,8 @@ small-number number.Nothing k n h = nothing-gives
 small-number number.Overflow k n h = record { bounds = tt }
 
 -- a number
-num-small : (l : List ℕ) → Gives Small (parsedNumber (numOf l))
-num-small l = small-number (numOf l) 1 (length l) (num-read l)
+num-small : (reading : Reading) (l : List ℕ) → Gives Small (parsedNumber (numOf reading l))
+num-small reading l = small-number (numOf reading l) 1 (length l) (num-read reading l)
 
 -- a lexeme between two small ones
 small-within : (lo x hi v : ℕ) → Small hi → (x ≤ hi → Small v) → Gives Small (pick (within lo x hi) (is v 1) nothing)
@@ -95,42 +95,42 @@ named-day-small l =
     (pick-gives (isAt l 0 lexeme.Tomorrow) (is-gives tt)
     (pick-gives (isAt l 0 lexeme.Yesterday) (is-gives tt) nothing-gives))
 
-day-month-year-small : (l : List ℕ) → Gives SmallDate (dayMonthYearOf l)
+day-month-year-small : (reading : Reading) (l : List ℕ) → Gives SmallDate (dayMonthYearOf reading l)
 unfolding dayMonthYearOf
-day-month-year-small l =
-    then-gives _ (num-small l) (λ day t a.
+day-month-year-small reading l =
+    then-gives _ (num-small reading l) (λ day t a.
     then-gives _ (month-small (drop t l)) (λ month u b.
-    then-gives _ (num-small (drop (t + u) l)) (λ year v c. is-gives (a, b, c))))
+    then-gives _ (num-small reading (drop (t + u) l)) (λ year v c. is-gives (a, b, c))))
 
-year-small : (reading : Reading) (l : List ℕ) → Gives Small (yearOf reading (numOf l))
-year-small reading l = year-keeps (λ p. Gives Small p) nothing-gives reading (numOf l) (num-small l)
+year-small : (reading : Reading) (l : List ℕ) → Gives Small (yearOf reading (numOf reading l))
+year-small reading l = year-keeps (λ p. Gives Small p) nothing-gives reading (numOf reading l) (num-small reading l)
 
 month-day-small : (reading : Reading) (month : ℕ) (l : List ℕ) → Small month → Gives SmallDate (monthDayOf reading month l)
 unfolding monthDayOf
 month-day-small reading month l a =
-    then-gives _ (num-small (drop 1 l)) (λ num t b.
-    if-let-gives _ (year-small reading (drop (1 + t) l)) (λ year u c. is-gives (a, b, c)) (is-gives (a, b)))
+    then-gives _ (num-small reading (drop 1 l)) (λ num t b.
+    if-let-gives _ (year-small reading (drop (1 + t + commaIn reading l (1 + t)) l)) (λ year u c. is-gives (a, b, c)) (is-gives (a, b)))
 
 -- `if`, of dates
 pick-small : (b : Bool) (d e : Date) → SmallDate d → SmallDate e → SmallDate (pickDate b d e)
 pick-small true d e g h = g
 pick-small false d e g h = h
 
-behind-second-small : (delim num1 num2 t : ℕ) (l : List ℕ) → Small num1 → Small num2 → Gives SmallDate (behindSecondOf delim num1 num2 t l)
+behind-second-small : (reading : Reading) (delim num1 num2 t : ℕ) (l : List ℕ) → Small num1 → Small num2 → Gives SmallDate (behindSecondOf reading delim num1 num2 t l)
 unfolding behindSecondOf threeNumbersOf twoNumbersOf
-behind-second-small delim num1 num2 t l a b =
+behind-second-small reading delim num1 num2 t l a b =
     pick-gives (leb (length l) t) nothing-gives
     (pick-gives (isAt l t delim)
-    (then-gives _ (num-small (drop (t + 1) l)) (λ num3 u c.
+    (then-gives _ (num-small reading (drop (t + 1) l)) (λ num3 u c.
     is-gives (pick-small (ltb 1000 num1) _ _ (a, b, c) (pick-small (eqb delim lexeme.Dot) _ _ (b, a, c) (a, b, c)))))
     (is-gives (pick-small (eqb delim lexeme.Dot) _ _ (b, a) (a, b))))
 
-delimited-small : (l : List ℕ) → Gives SmallDate (delimitedOf l)
+delimited-small : (reading : Reading) (l : List ℕ) → Gives SmallDate (delimitedOf reading l)
 unfolding delimitedOf
-delimited-small l =
-    then-gives _ (num-small l) (λ num1 t a.
+delimited-small reading l =
+    then-gives _ (num-small reading l) (λ num1 t a.
     pick-gives (isDelim (get l t))
-    (then-gives _ (num-small (drop (t + 1) l)) (λ num2 u b. behind-second-small (get l t) num1 num2 (t + 1 + u) l a b))
+    (then-gives _ (num-small reading (drop (t + 1) l)) (λ num2 u b. behind-second-small reading (get l t) num1 num2 (t + 1 + u) l a b))
     nothing-gives)
 
 -- a date
@@ -138,14 +138,14 @@ pub date-small : (reading : Reading) (l : List ℕ) → Gives SmallDate (dateOf 
 unfolding dateOf
 date-small reading l =
     or-gives _ (named-day-small l)
-    (or-gives _ (day-month-year-small l)
-    (if-let-gives _ (month-small l) (λ month t a. month-day-small reading month l a) (delimited-small l)))
+    (or-gives _ (day-month-year-small reading l)
+    (if-let-gives _ (month-small l) (λ month t a. month-day-small reading month l a) (delimited-small reading l)))
 
-minute-small : (l : List ℕ) → Gives Small (minuteOf l)
+minute-small : (reading : Reading) (l : List ℕ) → Gives Small (minuteOf reading l)
 unfolding minuteOf
-minute-small l =
+minute-small reading l =
     pick-gives (isAt l 0 lexeme.Colon)
-    (if-let-gives _ (num-small (drop 1 l)) (λ min t a. is-gives a) (is-gives (omega arith)))
+    (if-let-gives _ (num-small reading (drop 1 l)) (λ min t a. is-gives a) (is-gives (omega arith)))
     (is-gives (omega arith))
 
 half-small : (hour minute t : ℕ) (l : List ℕ) → Small hour → Small minute → Gives SmallTime (halfOf hour minute t l)
@@ -154,30 +154,30 @@ half-small hour minute t l a b =
     pick-gives (isAt l t lexeme.AM) (is-gives (a, b)) (pick-gives (isAt l t lexeme.PM) (is-gives (a, b)) (is-gives (a, b)))
 
 -- a time of day
-pub time-small : (l : List ℕ) → Gives SmallTime (timeOf l)
+pub time-small : (reading : Reading) (l : List ℕ) → Gives SmallTime (timeOf reading l)
 unfolding timeOf clockOf
-time-small l =
+time-small reading l =
     pick-gives (isAt l 0 lexeme.Midnight) (is-gives (omega arith))
     (pick-gives (isAt l 0 lexeme.Noon) (is-gives (omega arith))
-    (then-gives _ (num-small l) (λ hour t a.
-    then-gives _ (minute-small (drop t l)) (λ minute u b. half-small hour minute (t + u) l a b))))
+    (then-gives _ (num-small reading l) (λ hour t a.
+    then-gives _ (minute-small reading (drop t l)) (λ minute u b. half-small hour minute (t + u) l a b))))
 
-part-small : (l : List ℕ) → Gives SmallPart (concreteOf l)
+part-small : (reading : Reading) (l : List ℕ) → Gives SmallPart (concreteOf reading l)
 unfolding concreteOf specificOf articleOf
-part-small l =
-    or-gives _ (then-gives _ (num-small l) (λ num t a. then-each (unitOf (drop t l)) _ (λ u k e. is-gives a)))
+part-small reading l =
+    or-gives _ (then-gives _ (num-small reading l) (λ num t a. then-each (unitOf (drop t l)) _ (λ u k e. is-gives a)))
     (pick-gives (isArticle l) (then-each (unitOf (drop 1 l)) _ (λ u k e. is-gives tt)) nothing-gives)
 
-step-small : (D : List ℕ → Parsed Duration) → ((m : List ℕ) → Gives SmallDuration (D m)) → (l : List ℕ)
-    → Gives SmallDuration (durationTurn D l)
+step-small : (reading : Reading) (D : List ℕ → Parsed Duration) → ((m : List ℕ) → Gives SmallDuration (D m)) → (l : List ℕ)
+    → Gives SmallDuration (durationTurn reading D l)
 unfolding durationTurn
-step-small D small l =
-    then-gives _ (part-small l) (λ d t a.
+step-small reading D small l =
+    then-gives _ (part-small reading l) (λ d t a.
     pick-gives (isAt l t lexeme.And)
     (if-let-gives _ (small (drop (t + 1) l)) (λ dur2 u b. is-gives (a, b)) (is-gives a))
     (is-gives a))
 
 -- a duration
-pub duration-small : (l : List ℕ) → Gives SmallDuration (durationOf l)
+pub duration-small : (reading : Reading) (l : List ℕ) → Gives SmallDuration (durationOf reading l)
 unfolding durationOf
-duration-small l = again-keeps nothing durationTurn (λ m w. Gives SmallDuration w) (λ m. nothing-gives) step-small l
+duration-small reading l = again-keeps nothing (durationTurn reading) (λ m w. Gives SmallDuration w) (λ m. nothing-gives) (step-small reading) l

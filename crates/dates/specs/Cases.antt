@@ -171,7 +171,7 @@ words =
 
 -- what the readers make of the lexemes of a row, in the first reading, and of a word
 abbrev readCase : Case → Case
-readCase c = row (c .lexemes) (dateOf First (c .lexemes)) (timeOf (c .lexemes))
+readCase c = row (c .lexemes) (dateOf First (c .lexemes)) (timeOf First (c .lexemes))
 
 abbrev readWord : Word → Word
 readWord w =

@@ -10,7 +10,7 @@ use Rattle.lexer.specs.declared.reading.Reading.the-variants.{First, Second}
 use Rattle.numbers.specs.declared.Number.{Number}
 use Rattle.numbers.specs.declared.NumberFound.{NumberFound}
 use Rattle.numbers.specs.declared.NumberFound.the-variants.{Is as IsNumber, Nothing as NoNumber, Overflow as LargeNumber}
-use Rattle.numbers.specs.Slices.{get, isAt}
+use Rattle.numbers.specs.Slices.{get, isAt, oneIf}
 use Rattle.numbers.specs.Numbers.{numOf}
 use Rattle.dates.specs.Parsed.{Parsed, is, nothing, overflow, pick, orElse, ifLet, andThen, parsedNumber}
 use Rattle.dates.specs.Units.{monthOf}
@@ -28,11 +28,11 @@ namedDayOf l =
     nothing))
 
 -- <num> <month> <num>
-unfoldable pub dayMonthYearOf : List ℕ → Parsed Date
-dayMonthYearOf l =
-    andThen (parsedNumber (numOf l)) (λ day t.
+unfoldable pub dayMonthYearOf : Reading → List ℕ → Parsed Date
+dayMonthYearOf reading l =
+    andThen (parsedNumber (numOf reading l)) (λ day t.
     andThen (monthOf (drop t l)) (λ month u.
-    andThen (parsedNumber (numOf (drop (t + u) l))) (λ year v.
+    andThen (parsedNumber (numOf reading (drop (t + u) l))) (λ year v.
     is (DayMonthYear day month year) (t + u + v))))
 
 -- whether a number behind month and day is their year: in the second reading only a run of four digits is
@@ -46,12 +46,18 @@ yearOf reading (IsNumber n) = pick (isYearIn reading n) (is (n .value) (n .taken
 yearOf reading NoNumber = nothing
 yearOf reading LargeNumber = overflow
 
--- <month> <num> [<num>]: behind a month with no number the whole of `Date::parse` leaves at once
+-- 1 for a comma at t, behind which the second reading looks for a year, and else 0
+abbrev pub commaIn : Reading → List ℕ → ℕ → ℕ
+commaIn First l t = 0
+commaIn Second l t = oneIf (isAt l t lexeme.Comma)
+
+-- <month> <num> [[,] <num>]: behind a month with no number the whole of `Date::parse` leaves at once; the comma is taken with the year alone
 unfoldable pub monthDayOf : Reading → ℕ → List ℕ → Parsed Date
 monthDayOf reading month l =
-    andThen (parsedNumber (numOf (drop 1 l))) (λ num t.
-    ifLet (yearOf reading (numOf (drop (1 + t) l)))
-    (λ year u. is (MonthDayYear month num year) (1 + t + u))
+    andThen (parsedNumber (numOf reading (drop 1 l))) (λ num t.
+    let s = 1 + t + commaIn reading l (1 + t) in
+    ifLet (yearOf reading (numOf reading (drop s l)))
+    (λ year u. is (MonthDayYear month num year) (s + u))
     (is (MonthDay month num) (1 + t)))
 
 -- `delim == &Lexeme::Slash || delim == &Lexeme::Dash || delim == &Lexeme::Dot`
@@ -76,28 +82,28 @@ twoNumbersOf delim num1 num2 = pickDate (eqb delim lexeme.Dot) (MonthNumDay num2
 
 -- behind the second number, which ends at t: `l.get(tokens)?` leaves where nothing follows ("5/2"),
 -- the same delimiter wants a third number, and behind anything else two numbers are a date
-unfoldable pub behindSecondOf : ℕ → ℕ → ℕ → ℕ → List ℕ → Parsed Date
-behindSecondOf delim num1 num2 t l =
+unfoldable pub behindSecondOf : Reading → ℕ → ℕ → ℕ → ℕ → List ℕ → Parsed Date
+behindSecondOf reading delim num1 num2 t l =
     pick (leb (length l) t) nothing
     (pick (isAt l t delim)
-    (andThen (parsedNumber (numOf (drop (t + 1) l))) (λ num3 u. is (threeNumbersOf delim num1 num2 num3) (t + 1 + u)))
+    (andThen (parsedNumber (numOf reading (drop (t + 1) l))) (λ num3 u. is (threeNumbersOf delim num1 num2 num3) (t + 1 + u)))
     (is (twoNumbersOf delim num1 num2) t))
 
 -- <num> <delim> <num> [<delim> <num>]
-unfoldable pub delimitedOf : List ℕ → Parsed Date
-delimitedOf l =
-    andThen (parsedNumber (numOf l)) (λ num1 t.
+unfoldable pub delimitedOf : Reading → List ℕ → Parsed Date
+delimitedOf reading l =
+    andThen (parsedNumber (numOf reading l)) (λ num1 t.
     pick (isDelim (get l t))
-    (andThen (parsedNumber (numOf (drop (t + 1) l))) (λ num2 u. behindSecondOf (get l t) num1 num2 (t + 1 + u) l))
+    (andThen (parsedNumber (numOf reading (drop (t + 1) l))) (λ num2 u. behindSecondOf reading (get l t) num1 num2 (t + 1 + u) l))
     nothing)
 
 -- `Date::parse`
 unfoldable pub dateOf : Reading → List ℕ → Parsed Date
 dateOf reading l =
     orElse (namedDayOf l)
-    (orElse (dayMonthYearOf l)
+    (orElse (dayMonthYearOf reading l)
     (ifLet (monthOf l) (λ month t. monthDayOf reading month l)
-    (delimitedOf l)))
+    (delimitedOf reading l)))
 
 -- the code's answer
 abbrev pub parsedDate : DateFound → Parsed Date

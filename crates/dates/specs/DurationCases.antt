@@ -2,6 +2,7 @@
 use mathlib.Core.Path.{_≡_, refl}
 use mathlib.Core.List.{List, [], _∷_, map}
 use Rattle.lexer.specs.Lexemes as lexeme
+use Rattle.lexer.specs.declared.reading.Reading.the-variants.{First}
 use Rattle.numbers.specs.Slices.{get, isAt, within}
 use Rattle.numbers.specs.Answers.{fitsOf}
 use Rattle.numbers.specs.Numbers.{isEnding, wordOf, literalOf, onesOf, teensOf, tensOf, tensOnesOf, numDoubleOf, sumOf, tailOf, hundredsOf}
@@ -52,7 +53,7 @@ cases =
     ∷ []
 
 -- each row is what `durationOf` gives
-pub read-as-listed : map (λ c. durationOf (c .lexemes)) cases ≡ map (λ c. c .reading) cases
+pub read-as-listed : map (λ c. durationOf First (c .lexemes)) cases ≡ map (λ c. c .reading) cases
 unfolding cases get isAt within isEnding wordOf literalOf onesOf teensOf tensOf tensOnesOf numDoubleOf sumOf tailOf hundredsOf
     numTripleOf numTripleUnitOf fitsOf unitsOf numStep turns again numOf
     isArticle unitOf specificOf articleOf concreteOf durationTurn durationOf

@@ -4,6 +4,7 @@ use mathlib.Core.Bool.{Bool, true, false, _||_}
 use mathlib.Core.List.{List}
 use lib.ListN.{drop, set}
 use Rattle.lexer.specs.Lexemes as lexeme
+use Rattle.lexer.specs.declared.reading.Reading.{Reading}
 use Rattle.numbers.specs.Again.{again}
 use Rattle.numbers.specs.Slices.{isAt}
 use Rattle.numbers.specs.Numbers.{numOf}
@@ -45,28 +46,28 @@ isSubDaily (part p) = isSubDailyPart p
 isSubDaily (concat p d) = isSubDailyPart p || isSubDaily d
 
 -- <num> <unit>
-unfoldable pub specificOf : List ℕ → Parsed Part
-specificOf l = andThen (parsedNumber (numOf l)) (λ num t. andThen (unitOf (drop t l)) (λ u k. is (Specific u num) (t + k)))
+unfoldable pub specificOf : Reading → List ℕ → Parsed Part
+specificOf reading l = andThen (parsedNumber (numOf reading l)) (λ num t. andThen (unitOf (drop t l)) (λ u k. is (Specific u num) (t + k)))
 
 -- <article> <unit>
 unfoldable pub articleOf : List ℕ → Parsed Part
 articleOf l = pick (isArticle l) (andThen (unitOf (drop 1 l)) (λ u k. is (Article u) (1 + k))) nothing
 
 -- `Duration::parse_concrete`
-unfoldable pub concreteOf : List ℕ → Parsed Part
-concreteOf l = orElse (specificOf l) (articleOf l)
+unfoldable pub concreteOf : Reading → List ℕ → Parsed Part
+concreteOf reading l = orElse (specificOf reading l) (articleOf l)
 
 -- `Duration::parse`, with D for the duration behind an "and"; an "and" with none behind it is not taken
-unfoldable pub durationTurn : (List ℕ → Parsed Duration) → List ℕ → Parsed Duration
-durationTurn D l =
-    andThen (concreteOf l) (λ d t.
+unfoldable pub durationTurn : Reading → (List ℕ → Parsed Duration) → List ℕ → Parsed Duration
+durationTurn reading D l =
+    andThen (concreteOf reading l) (λ d t.
     pick (isAt l t lexeme.And)
     (ifLet (D (drop (t + 1) l)) (λ dur2 u. is (concat d dur2) (t + 1 + u)) (is (part d) t))
     (is (part d) t))
 
--- `Duration::parse`, which calls itself behind an "and" (`duration-is`: durationOf l ≡ durationTurn durationOf l)
-unfoldable pub durationOf : List ℕ → Parsed Duration
-durationOf l = again nothing durationTurn l
+-- `Duration::parse`, which calls itself behind an "and" (`duration-is`: durationOf reading l ≡ durationTurn reading (durationOf reading) l)
+unfoldable pub durationOf : Reading → List ℕ → Parsed Duration
+durationOf reading l = again nothing (durationTurn reading) l
 
 -- the code's answer for one part
 abbrev pub parsedPart : PartFound → Parsed Part

@@ -3,6 +3,7 @@ use Prim.Native.Nat.{ℕ, _+_}
 use mathlib.Core.List.{List}
 use lib.ListN.{drop}
 use Rattle.lexer.specs.Lexemes as lexeme
+use Rattle.lexer.specs.declared.reading.Reading.{Reading}
 use Rattle.numbers.specs.Slices.{isAt}
 use Rattle.numbers.specs.Numbers.{numOf}
 use Rattle.dates.specs.Parsed.{Parsed, is, nothing, overflow, pick, ifLet, andThen, parsedNumber}
@@ -14,10 +15,10 @@ use Rattle.dates.specs.declared.time.TimeFound.{TimeFound}
 use Rattle.dates.specs.declared.time.TimeFound.the-variants.{Is, Nothing, Overflow}
 
 -- [: [<num>]]: the minute, 0 where it is not said; a colon is taken also with no number behind it
-unfoldable pub minuteOf : List ℕ → Parsed ℕ
-minuteOf l =
+unfoldable pub minuteOf : Reading → List ℕ → Parsed ℕ
+minuteOf reading l =
     pick (isAt l 0 lexeme.Colon)
-    (ifLet (parsedNumber (numOf (drop 1 l))) (λ min t. is min (1 + t)) (is 0 1))
+    (ifLet (parsedNumber (numOf reading (drop 1 l))) (λ min t. is min (1 + t)) (is 0 1))
     (is 0 0)
 
 -- [am | pm] behind hour and minute, which end at t
@@ -28,17 +29,17 @@ halfOf hour minute t l =
     (is (HourMin hour minute) t))
 
 -- <num> [: [<num>]] [am | pm]
-unfoldable pub clockOf : List ℕ → Parsed Time
-clockOf l =
-    andThen (parsedNumber (numOf l)) (λ hour t.
-    andThen (minuteOf (drop t l)) (λ minute u. halfOf hour minute (t + u) l))
+unfoldable pub clockOf : Reading → List ℕ → Parsed Time
+clockOf reading l =
+    andThen (parsedNumber (numOf reading l)) (λ hour t.
+    andThen (minuteOf reading (drop t l)) (λ minute u. halfOf hour minute (t + u) l))
 
 -- `Time::parse`
-unfoldable pub timeOf : List ℕ → Parsed Time
-timeOf l =
+unfoldable pub timeOf : Reading → List ℕ → Parsed Time
+timeOf reading l =
     pick (isAt l 0 lexeme.Midnight) (is (HourMin 0 0) 1)
     (pick (isAt l 0 lexeme.Noon) (is (HourMin 12 0) 1)
-    (clockOf l))
+    (clockOf reading l))
 
 -- the code's answer for the minute
 abbrev pub parsedMinute : MinuteFound → Parsed ℕ

@@ -1,4 +1,4 @@
--- Worked cases of the year behind month and day: any number in the first reading, a run of four digits in the second.
+-- Worked cases of the year behind month and day: any number in the first reading, a run of four digits in the second, also behind a comma.
 use mathlib.Core.Path.{_≡_, refl}
 use mathlib.Core.List.{List, [], _∷_, map}
 use Prim.Native.Nat.{ℕ}
@@ -8,7 +8,7 @@ use Rattle.numbers.specs.Slices.{get, isAt, within}
 use Rattle.numbers.specs.Again.{turns, again}
 use Rattle.numbers.specs.Answers.{fitsOf}
 use Rattle.numbers.specs.Numbers.{isEnding, wordOf, literalOf, onesOf, teensOf, tensOf, tensOnesOf, numDoubleOf, sumOf, tailOf, hundredsOf, numTripleOf, numTripleUnitOf, unitsOf, numStep, numOf}
-use Rattle.dates.specs.Parsed.{Parsed, is, overflow}
+use Rattle.dates.specs.Parsed.{Parsed, is, nothing, overflow}
 use Rattle.dates.specs.Rows.{Written}
 use Rattle.dates.specs.Units.{monthOf}
 use Rattle.dates.specs.Dates.{namedDayOf, dayMonthYearOf, monthDayOf, isDelim, threeNumbersOf, twoNumbersOf, behindSecondOf, delimitedOf, dateOf}
@@ -42,6 +42,13 @@ cases =
     -- four digits that are not the whole number; a number that passes the limit
     ∷ row (march3 (Written 4 1 ∷ lexeme.Hundred ∷ [])) (is (MonthDayYear 3 3 100) 4) (is (MonthDay 3 3) 2)
     ∷ row (march3 (lexeme.Five ∷ lexeme.Billion ∷ [])) overflow overflow
+    -- "march 3, 2027", "march 3, 5", "march 3, five billion", "march 24th, 2027": a comma belongs to the year alone
+    ∷ row (march3 (lexeme.Comma ∷ Written 4 2027 ∷ [])) (is (MonthDay 3 3) 2) (is (MonthDayYear 3 3 2027) 4)
+    ∷ row (march3 (lexeme.Comma ∷ Written 1 5 ∷ [])) (is (MonthDay 3 3) 2) (is (MonthDay 3 3) 2)
+    ∷ row (march3 (lexeme.Comma ∷ lexeme.Five ∷ lexeme.Billion ∷ [])) (is (MonthDay 3 3) 2) overflow
+    ∷ row (lexeme.March ∷ Written 2 24 ∷ lexeme.TH ∷ lexeme.Comma ∷ Written 4 2027 ∷ []) (is (MonthDay 3 24) 2) (is (MonthDayYear 3 24 2027) 5)
+    -- no comma stands before the year of "3 march, 2027"
+    ∷ row (Written 1 3 ∷ lexeme.March ∷ lexeme.Comma ∷ Written 4 2027 ∷ []) nothing nothing
     -- the day is any number, and so is a year elsewhere
     ∷ row (lexeme.March ∷ Written 4 3 ∷ []) (is (MonthDay 3 3) 2) (is (MonthDay 3 3) 2)
     ∷ row (Written 1 3 ∷ lexeme.March ∷ Written 1 5 ∷ []) (is (DayMonthYear 3 3 5) 3) (is (DayMonthYear 3 3 5) 3)

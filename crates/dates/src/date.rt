@@ -1,6 +1,7 @@
 // The readers of dates.
 use super::units::MonthFound;
 use super::units::read_month;
+use lexer::lexeme::COMMA;
 use lexer::lexeme::DASH;
 use lexer::lexeme::DOT;
 use lexer::lexeme::SLASH;
@@ -14,13 +15,14 @@ use numbers::num;
 use numbers::slices::get;
 use numbers::slices::is_at;
 use numbers::slices::rest;
+use numbers::slices::take_if;
 ghost use mathlib.Core.Path.{_≡_};
-ghost use Prim.Native.Nat.{_≤_};
+ghost use Prim.Native.Nat.{_+_, _≤_, max};
 ghost use lib.ListN.{length};
 ghost use Rattle.numbers.specs.Answers.{Read};
 ghost use Rattle.numbers.specs.Numbers.{numOf};
 ghost use Rattle.dates.specs.Parsed.{Took, stopped, parsedNumber};
-ghost use Rattle.dates.specs.Dates.{namedDayOf, dayMonthYearOf, isYearIn, monthDayOf, isDelim, threeNumbersOf, twoNumbersOf, behindSecondOf, delimitedOf, dateOf, parsedDate};
+ghost use Rattle.dates.specs.Dates.{namedDayOf, dayMonthYearOf, isYearIn, commaIn, monthDayOf, isDelim, threeNumbersOf, twoNumbersOf, behindSecondOf, delimitedOf, dateOf, parsedDate};
 
 // `enum Date`; a month is a number from 1 on.
 pub enum Date {
@@ -70,9 +72,9 @@ fn read_named_day(l: &[u64]) -> DateFound
 }
 
 // <num> <month> <num>, the number at the front being read.
-fn read_day_month_year(l: &[u64], a: NumberFound) -> DateFound
-    requires { ⌜ (a ≡ numOf (now l)) × Read a 1 (length (now l)) ⌝ }
-    ensures { λ r. ⌜ parsedDate r ≡ dayMonthYearOf (now (l .entry)) ⌝ }
+fn read_day_month_year(reading: Reading, l: &[u64], a: NumberFound) -> DateFound
+    requires { ⌜ (a ≡ numOf reading (now l)) × Read a 1 (length (now l)) ⌝ }
+    ensures { λ r. ⌜ parsedDate r ≡ dayMonthYearOf reading (now (l .entry)) ⌝ }
 {
     let NumberFound::Is(day) = a else {
         return date_stopped(a);
@@ -81,7 +83,7 @@ fn read_day_month_year(l: &[u64], a: NumberFound) -> DateFound
         return DateFound::Nothing;
     };
     let t = day.taken + 1;
-    let b = num(rest(l, t));
+    let b = num(reading, rest(l, t));
     let NumberFound::Is(year) = b else {
         return date_stopped(b);
     };
@@ -101,22 +103,34 @@ fn is_year_in(reading: Reading, n: Number) -> bool
     }
 }
 
-// <month> <num> [<num>], the month being read: with no number behind it there is no date.
+// 1 for a comma at t, behind which the second reading looks for a year, and else 0.
+fn take_comma(reading: Reading, l: &[u64], t: usize) -> usize
+    ensures { λ r. ⌜ r ≡ commaIn reading (now (l .entry)) t ⌝ }
+    ensures { λ r. ⌜ (r ≤ 1) × (t + r ≤ max t (length (now (l .entry)))) ⌝ }
+{
+    match reading {
+        Reading::First => 0,
+        Reading::Second => take_if(l, t, COMMA),
+    }
+}
+
+// <month> <num> [[,] <num>], the month being read: with no number behind it there is no date. A comma belongs to the year alone.
 fn read_month_day(reading: Reading, l: &[u64], month: u32) -> DateFound
     requires { ⌜ 1 ≤ length (now l) ⌝ }
     ensures { λ r. ⌜ parsedDate r ≡ monthDayOf reading month (now (l .entry)) ⌝ }
 {
-    let a = num(rest(l, 1));
+    let a = num(reading, rest(l, 1));
     let NumberFound::Is(day) = a else {
         return date_stopped(a);
     };
     let t = 1 + day.taken;
-    match num(rest(l, t)) {
+    let s = t + take_comma(reading, l, t);
+    match num(reading, rest(l, s)) {
         NumberFound::Is(year) => {
             if is_year_in(reading, year) {
                 return DateFound::Is(
                     Date::MonthDayYear(month, day.value, year.value),
-                    t + year.taken,
+                    s + year.taken,
                 );
             }
             DateFound::Is(Date::MonthDay(month, day.value), t)
@@ -163,14 +177,21 @@ fn two_numbers(delim: u64, num1: u32, num2: u32) -> Date
 }
 
 // Behind the second number, which ends at t.
-fn behind_second(l: &[u64], delim: u64, num1: u32, num2: u32, t: usize) -> DateFound
-    ensures { λ r. ⌜ parsedDate r ≡ behindSecondOf delim num1 num2 t (now (l .entry)) ⌝ }
+fn behind_second(
+    reading: Reading,
+    l: &[u64],
+    delim: u64,
+    num1: u32,
+    num2: u32,
+    t: usize,
+) -> DateFound
+    ensures { λ r. ⌜ parsedDate r ≡ behindSecondOf reading delim num1 num2 t (now (l .entry)) ⌝ }
 {
     if l.len() <= t {
         return DateFound::Nothing;
     }
     if is_at(l, t, delim) {
-        let a = num(rest(l, t + 1));
+        let a = num(reading, rest(l, t + 1));
         let NumberFound::Is(num3) = a else {
             return date_stopped(a);
         };
@@ -183,9 +204,9 @@ fn behind_second(l: &[u64], delim: u64, num1: u32, num2: u32, t: usize) -> DateF
 }
 
 // <num> <delim> <num> [<delim> <num>], the number at the front being read.
-fn read_delimited(l: &[u64], a: NumberFound) -> DateFound
-    requires { ⌜ (a ≡ numOf (now l)) × Read a 1 (length (now l)) ⌝ }
-    ensures { λ r. ⌜ parsedDate r ≡ delimitedOf (now (l .entry)) ⌝ }
+fn read_delimited(reading: Reading, l: &[u64], a: NumberFound) -> DateFound
+    requires { ⌜ (a ≡ numOf reading (now l)) × Read a 1 (length (now l)) ⌝ }
+    ensures { λ r. ⌜ parsedDate r ≡ delimitedOf reading (now (l .entry)) ⌝ }
 {
     let NumberFound::Is(num1) = a else {
         return date_stopped(a);
@@ -193,11 +214,11 @@ fn read_delimited(l: &[u64], a: NumberFound) -> DateFound
     let delim = get(l, num1.taken);
     if is_delim(delim) {
         let t = num1.taken + 1;
-        let b = num(rest(l, t));
+        let b = num(reading, rest(l, t));
         let NumberFound::Is(num2) = b else {
             return date_stopped(b);
         };
-        return behind_second(l, delim, num1.value, num2.value, t + num2.taken);
+        return behind_second(reading, l, delim, num1.value, num2.value, t + num2.taken);
     }
     DateFound::Nothing
 }
@@ -211,13 +232,13 @@ pub fn read_date(reading: Reading, l: &[u64]) -> DateFound
     let DateFound::Nothing = a else {
         return a;
     };
-    let first = num(l);
-    let b = read_day_month_year(l, first);
+    let first = num(reading, l);
+    let b = read_day_month_year(reading, l, first);
     let DateFound::Nothing = b else {
         return b;
     };
     let MonthFound::Is(month) = read_month(l) else {
-        return read_delimited(l, first);
+        return read_delimited(reading, l, first);
     };
     read_month_day(reading, l, month)
 }

@@ -4,6 +4,7 @@ use super::units::UnitFound;
 use super::units::is_article;
 use super::units::read_unit;
 use lexer::lexeme::AND;
+use lexer::reading::Reading;
 use numbers::NumberFound;
 use numbers::num;
 use numbers::slices::is_at;
@@ -84,11 +85,11 @@ fn part_stopped(a: NumberFound) -> PartFound
 }
 
 // <num> <unit>
-fn read_specific(l: &[u64]) -> PartFound
-    ensures { λ r. ⌜ parsedPart r ≡ specificOf (now (l .entry)) ⌝ }
+fn read_specific(reading: Reading, l: &[u64]) -> PartFound
+    ensures { λ r. ⌜ parsedPart r ≡ specificOf reading (now (l .entry)) ⌝ }
     ensures { λ r. ⌜ Took (parsedPart r) 2 (length (now (l .entry))) ⌝ }
 {
-    let a = num(l);
+    let a = num(reading, l);
     let NumberFound::Is(n) = a else {
         return part_stopped(a);
     };
@@ -113,11 +114,11 @@ fn read_article(l: &[u64]) -> PartFound
 }
 
 // Duration::parse_concrete
-fn read_concrete(l: &[u64]) -> PartFound
-    ensures { λ r. ⌜ parsedPart r ≡ concreteOf (now (l .entry)) ⌝ }
+fn read_concrete(reading: Reading, l: &[u64]) -> PartFound
+    ensures { λ r. ⌜ parsedPart r ≡ concreteOf reading (now (l .entry)) ⌝ }
     ensures { λ r. ⌜ Took (parsedPart r) 2 (length (now (l .entry))) ⌝ }
 {
-    let a = read_specific(l);
+    let a = read_specific(reading, l);
     let PartFound::Nothing = a else {
         return a;
     };
@@ -154,18 +155,18 @@ fn taken_stopped(c: PartFound) -> Taken
 }
 
 // Duration::parse, without its parts: an "and" with no part behind it is not taken.
-pub fn read_duration(l: &[u64]) -> Taken
-    ensures { λ r. ⌜ r ≡ takenAnswer (durationOf (now (l .entry))) ⌝ }
+pub fn read_duration(reading: Reading, l: &[u64]) -> Taken
+    ensures { λ r. ⌜ r ≡ takenAnswer (durationOf reading (now (l .entry))) ⌝ }
     ensures { λ r. ⌜ TakenCounted r (length (now (l .entry))) ⌝ }
 {
-    let c = read_concrete(l);
+    let c = read_concrete(reading, l);
     let PartFound::Is(part, t) = c else {
         return taken_stopped(c);
     };
     let mut end = t;
     let mut sub_daily = is_sub_daily(part);
     while is_at(l, end, AND) {
-        match read_concrete(rest(l, end + 1)) {
+        match read_concrete(reading, rest(l, end + 1)) {
             PartFound::Is(next, u) => {
                 end = end + 1 + u;
                 sub_daily = either(sub_daily, is_sub_daily(next));
@@ -188,15 +189,15 @@ pub fn read_duration(l: &[u64]) -> Taken
 }
 
 // The parts of the duration at the front of l behind those of a row, where 64 lexemes leave room for them. With no duration there, the row.
-pub fn with_parts(l: &[u64], parts: Parts) -> Rowed
+pub fn with_parts(reading: Reading, l: &[u64], parts: Parts) -> Rowed
     requires { ⌜ 3 * parts .n + length (now l) ≤ 64 ⌝ }
-    ensures { λ r. ⌜ r ≡ rowed parts (durationOf (now (l .entry))) ⌝ }
+    ensures { λ r. ⌜ r ≡ rowed parts (durationOf reading (now (l .entry))) ⌝ }
 {
     let mut row = parts;
     let mut end: usize = 0;
     let mut at: usize = 0;
     loop {
-        match read_concrete(rest(l, at)) {
+        match read_concrete(reading, rest(l, at)) {
             PartFound::Is(part, t) => {
                 row = push(row, part);
                 end = at + t;

@@ -4,6 +4,7 @@ use lexer::lexeme::COLON;
 use lexer::lexeme::MIDNIGHT;
 use lexer::lexeme::NOON;
 use lexer::lexeme::PM;
+use lexer::reading::Reading;
 use numbers::NumberFound;
 use numbers::num;
 use numbers::slices::is_at;
@@ -45,12 +46,12 @@ fn time_stopped(a: NumberFound) -> TimeFound
 }
 
 // [: [<num>]]: the minute, 0 where it is not said; a colon is taken also with no number behind it.
-fn read_minute(l: &[u64]) -> MinuteFound
-    ensures { λ r. ⌜ parsedMinute r ≡ minuteOf (now (l .entry)) ⌝ }
+fn read_minute(reading: Reading, l: &[u64]) -> MinuteFound
+    ensures { λ r. ⌜ parsedMinute r ≡ minuteOf reading (now (l .entry)) ⌝ }
     ensures { λ r. ⌜ Took (parsedMinute r) 0 (length (now (l .entry))) ⌝ }
 {
     if is_at(l, 0, COLON) {
-        match num(rest(l, 1)) {
+        match num(reading, rest(l, 1)) {
             NumberFound::Is(minute) => {
                 return MinuteFound::Is(minute.value, 1 + minute.taken);
             }
@@ -79,22 +80,22 @@ fn read_half(l: &[u64], hour: u32, minute: u32, t: usize) -> TimeFound
 }
 
 // <num> [: [<num>]] [am | pm]
-fn read_clock(l: &[u64]) -> TimeFound
-    ensures { λ r. ⌜ parsedTime r ≡ clockOf (now (l .entry)) ⌝ }
+fn read_clock(reading: Reading, l: &[u64]) -> TimeFound
+    ensures { λ r. ⌜ parsedTime r ≡ clockOf reading (now (l .entry)) ⌝ }
 {
-    let a = num(l);
+    let a = num(reading, l);
     let NumberFound::Is(hour) = a else {
         return time_stopped(a);
     };
-    let MinuteFound::Is(minute, u) = read_minute(rest(l, hour.taken)) else {
+    let MinuteFound::Is(minute, u) = read_minute(reading, rest(l, hour.taken)) else {
         return TimeFound::Overflow;
     };
     read_half(l, hour.value, minute, hour.taken + u)
 }
 
 // Time::parse; nothing is tried where no lexeme is left.
-pub fn read_time(l: &[u64]) -> TimeFound
-    ensures { λ r. ⌜ parsedTime r ≡ timeOf (now (l .entry)) ⌝ }
+pub fn read_time(reading: Reading, l: &[u64]) -> TimeFound
+    ensures { λ r. ⌜ parsedTime r ≡ timeOf reading (now (l .entry)) ⌝ }
     ensures { λ r. ⌜ Took (parsedTime r) 1 (length (now (l .entry))) ⌝ }
 {
     if l.len() == 0 {
@@ -106,5 +107,5 @@ pub fn read_time(l: &[u64]) -> TimeFound
     if is_at(l, 0, NOON) {
         return TimeFound::Is(Time::HourMin(12, 0), 1);
     }
-    read_clock(l)
+    read_clock(reading, l)
 }

@@ -18,18 +18,18 @@ use Rattle.expressions.specs.ExprAnswers.{exprPlace, answerAt, exprAnswe
 use Rattle.expressions.specs.declared.expr.ExprTaken.{ExprTaken}
 use Rattle.expressions.proofs.OwnDuration.{ExprRead, expr-few}
 
-counted : (l : List ℕ) (p : ℕ) (w : Parsed DateExpr) → Each (ExprRead l p) w → ExprCounted (answerAt p w) (length l)
-counted l p (is x t) h = let b = h .bounds in record { bounds = (b .least, b .most, b .within) }
-counted l p nothing h = record { bounds = tt }
-counted l p overflow h = record { bounds = tt }
+counted : (reading : Reading) (l : List ℕ) (p : ℕ) (w : Parsed DateExpr) → Each (ExprRead reading l p) w → ExprCounted (answerAt p w) (length l)
+counted reading l p (is x t) h = let b = h .bounds in record { bounds = (b .least, b .most, b .within) }
+counted reading l p nothing h = record { bounds = tt }
+counted reading l p overflow h = record { bounds = tt }
 
 -- what `read_expr` promises
 pub expr-promised : {r : ExprTaken} (reading : Reading) (l : List ℕ) → r ≡ exprAnswer reading l (dateExprOf reading l)
     → (r ≡ exprAnswer reading l (dateExprOf reading l)) × ExprCounted r (length l)
-expr-promised reading l e = (e, rw e (counted l (exprPlace reading l) (dateExprOf reading l) (expr-few reading l)))
+expr-promised reading l e = (e, rw e (counted reading l (exprPlace reading l) (dateExprOf reading l) (expr-few reading l)))
 
 -- behind the last lexeme stands no tail
-pub tail-none : (l : List ℕ) (t : ℕ) → length l ≤ t → tailOf (drop t l) ≡ nothing
+pub tail-none : (reading : Reading) (l : List ℕ) (t : ℕ) → length l ≤ t → tailOf reading (drop t l) ≡ nothing
 unfolding get isAt within beginsNumber isArticle relativeSpecifierOf specificOf articleOf concreteOf turns again durationTurn durationOf
     inTailOf durationTailOf tailOf
-tail-none l t h = rw (drop-of-length-le l h, no-num [] refl)
+tail-none reading l t h = rw (drop-of-length-le l h, no-num reading [] refl)

@@ -11,17 +11,17 @@ use Rattle.expressions.specs.DateExprs.{inTailOf, durationTailOf, tailOf
 use Rattle.expressions.specs.DateExprs.{relativeExprOf, weekdayExprOf, undatedOf, dateExprOf}
 
 -- "in" and a duration behind a date or a weekday
-in-tail-plain : (l : List ℕ) → inTailOf (plainOf l) ≡ inTailOf l
+in-tail-plain : (l : List ℕ) → inTailOf First (plainOf l) ≡ inTailOf First l
 unfolding inTailOf
 in-tail-plain l = simp (at-plain, drop-plain, duration-plain)
 
 -- a duration and "ago" there
-duration-tail-plain : (l : List ℕ) → durationTailOf (plainOf l) ≡ durationTailOf l
+duration-tail-plain : (l : List ℕ) → durationTailOf First (plainOf l) ≡ durationTailOf First l
 unfolding durationTailOf
 duration-tail-plain l = simp (duration-plain, at-plain, in-tail-plain)
 
 -- all that may stand there
-tail-plain : (l : List ℕ) → tailOf (plainOf l) ≡ tailOf l
+tail-plain : (l : List ℕ) → tailOf First (plainOf l) ≡ tailOf First l
 unfolding tailOf
 tail-plain l = simp (specifier-plain, drop-plain, unit-plain, duration-tail-plain)
 

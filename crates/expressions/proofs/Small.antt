@@ -43,15 +43,15 @@ SmallTail (ago d) = SmallDuration d
 SmallTail (inside d) = SmallDuration d
 SmallTail stray = Unit
 
-tail-small : (l : List ℕ) → Gives SmallTail (tailOf l)
+tail-small : (reading : Reading) (l : List ℕ) → Gives SmallTail (tailOf reading l)
 unfolding tailOf durationTailOf inTailOf
-tail-small l =
+tail-small reading l =
     if-let-each (relativeSpecifierOf l) _ _
     (λ s t e. if-let-each (unitOf (drop t l)) _ _ (λ u k f. is-gives tt) (is-gives tt))
-    (if-let-gives _ (duration-small l)
+    (if-let-gives _ (duration-small reading l)
     (λ d t a. pick-gives (isAt l t lexeme.Ago && not (isSubDaily d)) (is-gives a) (is-gives tt))
     (pick-gives (isAt l 0 lexeme.In)
-    (if-let-gives _ (duration-small (drop 1 l)) (λ d t a. pick-gives (isSubDaily d) (is-gives tt) (is-gives a)) (is-gives tt))
+    (if-let-gives _ (duration-small reading (drop 1 l)) (λ d t a. pick-gives (isSubDaily d) (is-gives tt) (is-gives a)) (is-gives tt))
     nothing-gives))
 
 date-tail : (d : Date) (t : ℕ) (x : Tail) (u : ℕ) → SmallDate d → SmallTail x → Gives SmallExpr (withDate d t x u)
@@ -83,7 +83,7 @@ weekday-expr-small : (reading : Reading) (l : List ℕ) → Gives SmallExpr (wee
 unfolding weekdayExprOf relativeExprOf
 weekday-expr-small reading l =
     if-let-gives _ (weekday-small l)
-    (λ w t a. if-let-gives _ (tail-small (drop t l)) (λ x u b. weekday-tail reading w t x u a b) (is-gives a))
+    (λ w t a. if-let-gives _ (tail-small reading (drop t l)) (λ x u b. weekday-tail reading w t x u a b) (is-gives a))
     (then-each (relativeSpecifierOf l) _ (λ s t e.
     if-let-gives _ (weekday-small (drop t l)) (λ w u b. is-gives b)
     (then-each (unitOf (drop t l)) _ (λ k u f. is-gives tt))))
@@ -93,5 +93,5 @@ pub expr-small : (reading : Reading) (l : List ℕ) → Gives SmallExpr (dateExp
 unfolding dateExprOf undatedOf
 expr-small reading l =
     if-let-gives _ (date-small reading l)
-    (λ d t a. if-let-gives _ (tail-small (drop t l)) (λ x u b. date-tail d t x u a b) (is-gives a))
-    (if-let-gives _ (duration-small l) (λ dur t a. with-duration-small reading dur t l a) (weekday-expr-small reading l))
+    (λ d t a. if-let-gives _ (tail-small reading (drop t l)) (λ x u b. date-tail d t x u a b) (is-gives a))
+    (if-let-gives _ (duration-small reading l) (λ dur t a. with-duration-small reading dur t l a) (weekday-expr-small reading l))

@@ -26,25 +26,25 @@ pub data Tail : Type 0 where
   stray : Tail
 
 -- in <duration>, unless that is sub-daily
-unfoldable pub inTailOf : List ℕ → Parsed Tail
-inTailOf l =
+unfoldable pub inTailOf : Reading → List ℕ → Parsed Tail
+inTailOf reading l =
     pick (isAt l 0 lexeme.In)
-    (ifLet (durationOf (drop 1 l)) (λ duration t. pick (isSubDaily duration) (is stray 1) (is (inside duration) (1 + t))) (is stray 1))
+    (ifLet (durationOf reading (drop 1 l)) (λ duration t. pick (isSubDaily duration) (is stray 1) (is (inside duration) (1 + t))) (is stray 1))
     nothing
 
 -- <duration> ago, unless that is sub-daily
-unfoldable pub durationTailOf : List ℕ → Parsed Tail
-durationTailOf l =
-    ifLet (durationOf l)
+unfoldable pub durationTailOf : Reading → List ℕ → Parsed Tail
+durationTailOf reading l =
+    ifLet (durationOf reading l)
     (λ duration t. pick (isAt l t lexeme.Ago && not (isSubDaily duration)) (is (ago duration) (t + 1)) (is stray t))
-    (inTailOf l)
+    (inTailOf reading l)
 
 -- <relative_specifier> <unit> | <duration> ago | in <duration>: the text has it twice, behind a date and behind a weekday
-unfoldable pub tailOf : List ℕ → Parsed Tail
-tailOf l =
+unfoldable pub tailOf : Reading → List ℕ → Parsed Tail
+tailOf reading l =
     ifLet (relativeSpecifierOf l)
     (λ spec t. ifLet (unitOf (drop t l)) (λ unit u. is (relative spec unit) (t + u)) (is stray t))
-    (durationTailOf l)
+    (durationTailOf reading l)
 
 -- a date of t lexemes and its tail of u: behind a date the count is rolled back where no tail is whole (`date_tokens`)
 abbrev pub withDate : Date → ℕ → Tail → ℕ → Parsed DateExpr
@@ -84,13 +84,13 @@ relativeExprOf l =
 -- from the weekday on
 unfoldable pub weekdayExprOf : Reading → List ℕ → Parsed DateExpr
 weekdayExprOf reading l =
-    ifLet (weekdayOf l) (λ w t. ifLet (tailOf (drop t l)) (withWeekday reading w t) (is (weekday w) t))
+    ifLet (weekdayOf l) (λ w t. ifLet (tailOf reading (drop t l)) (withWeekday reading w t) (is (weekday w) t))
     (relativeExprOf l)
 
 -- from the duration on
 unfoldable pub undatedOf : Reading → List ℕ → Parsed DateExpr
-undatedOf reading l = ifLet (durationOf l) (λ duration t. withDurationOf reading duration t l) (weekdayExprOf reading l)
+undatedOf reading l = ifLet (durationOf reading l) (λ duration t. withDurationOf reading duration t l) (weekdayExprOf reading l)
 
 -- `DateExpr::parse`
 unfoldable pub dateExprOf : Reading → List ℕ → Parsed DateExpr
-dateExprOf reading l = ifLet (dateOf reading l) (λ d t. ifLet (tailOf (drop t l)) (withDate d t) (is (date d) t)) (undatedOf reading l)
+dateExprOf reading l = ifLet (dateOf reading l) (λ d t. ifLet (tailOf reading (drop t l)) (withDate d t) (is (date d) t)) (undatedOf reading l)

@@ -31,20 +31,20 @@ placeLet nothing at z = z
 placeLet overflow at z = 0
 
 -- the duration of a tail that stands at t
-abbrev pub tailAt : List ℕ → ℕ → ℕ
-tailAt l t = t + tailPlace (tailOf (drop t l))
+abbrev pub tailAt : Reading → List ℕ → ℕ → ℕ
+tailAt reading l t = t + tailPlace (tailOf reading (drop t l))
 
 -- where a duration begins, in the order of `dateExprOf`: from the weekday on
-abbrev pub weekdayPlace : List ℕ → ℕ
-weekdayPlace l = placeLet (weekdayOf l) (tailAt l) 0
+abbrev pub weekdayPlace : Reading → List ℕ → ℕ
+weekdayPlace reading l = placeLet (weekdayOf l) (tailAt reading l) 0
 
 -- from the duration on
-abbrev pub undatedPlace : List ℕ → ℕ
-undatedPlace l = placeLet (durationOf l) (λ t. 0) (weekdayPlace l)
+abbrev pub undatedPlace : Reading → List ℕ → ℕ
+undatedPlace reading l = placeLet (durationOf reading l) (λ t. 0) (weekdayPlace reading l)
 
 -- of a whole date expression
 abbrev pub exprPlace : Reading → List ℕ → ℕ
-exprPlace reading l = placeLet (dateOf reading l) (tailAt l) (undatedPlace l)
+exprPlace reading l = placeLet (dateOf reading l) (tailAt reading l) (undatedPlace reading l)
 
 -- p for a date expression with a duration, 0 for one without
 abbrev pub placeAt : ℕ → DateExpr → ℕ
@@ -65,13 +65,13 @@ abbrev pub exprAnswer : Reading → List ℕ → Parsed DateExpr → ExprTaken
 exprAnswer reading l w = answerAt (exprPlace reading l) w
 
 -- a head with the tail that was read behind it
-abbrev pub withHead : Head → ℕ → Tail → ℕ → Parsed DateExpr
-withHead (Date d) t x u = withDate d t x u
-withHead (Weekday reading w) t x u = withWeekday reading w t x u
+abbrev pub withHead : Reading → Head → ℕ → Tail → ℕ → Parsed DateExpr
+withHead reading (Date d) t x u = withDate d t x u
+withHead reading (Weekday w) t x u = withWeekday reading w t x u
 
 -- the code's answer for a head of t lexemes and what was read behind it; alone it is as with a tail of no lexemes that is given up
-abbrev pub tailedAnswer : Head → ℕ → Parsed Tail → ExprTaken
-tailedAnswer h t p = answerAt (t + tailPlace p) (ifLet p (withHead h t) (withHead h t stray 0))
+abbrev pub tailedAnswer : Reading → Head → ℕ → Parsed Tail → ExprTaken
+tailedAnswer reading h t p = answerAt (t + tailPlace p) (ifLet p (withHead reading h t) (withHead reading h t stray 0))
 
 -- the bounds of `ExprCounted`
 abbrev pub ExprBounds : ExprTaken → ℕ → Type 0

@@ -8,7 +8,7 @@ use Rattle.numbers.specs.Slices.{get, isAt, within}
 use Rattle.numbers.specs.Answers.{fitsOf}
 use Rattle.numbers.specs.Numbers as number
 use Rattle.dates.specs.Parsed.{is, nothing, overflow}
-use Rattle.dates.specs.Rows.{Row, row, Num}
+use Rattle.dates.specs.Rows.{Row, row, Written, Num}
 use Rattle.dates.specs.Units.{isArticle, unitOf, monthOf, weekdayOf, relativeSpecifierOf}
 use Rattle.numbers.specs.Again.{turns, again}
 use Rattle.dates.specs.Durations.{Duration, part, specificOf, articleOf, concreteOf, durationTurn, durationOf}
@@ -81,13 +81,17 @@ cases =
     ∷ row (lexeme.Friday ∷ lexeme.Five ∷ lexeme.Billion ∷ lexeme.Hour ∷ []) overflow
     ∷ []
 
--- the table of the second reading: "in" behind a weekday goes forward, and what else there is reads as in the first
+-- the table of the second reading: "in" behind a weekday goes forward, a tail stands also behind a year with a comma before it, and what
+-- else there is reads as in the first
 unfoldable pub secondCases : List (Row DateExpr)
 secondCases =
     row (lexeme.Friday ∷ lexeme.In ∷ lexeme.Two ∷ lexeme.Week ∷ []) (is (weekdayExpressionAfter 4 (of 2 Week)) 4)
     ∷ row (lexeme.Friday ∷ lexeme.Two ∷ lexeme.Week ∷ lexeme.Ago ∷ []) (is (weekdayExpressionBefore 4 (of 2 Week)) 4)
     ∷ row (lexeme.Friday ∷ lexeme.In ∷ lexeme.Two ∷ lexeme.Hour ∷ []) (is (weekday 4) 2)
     ∷ row (lexeme.March ∷ Num 4 ∷ lexeme.In ∷ Num 3 ∷ lexeme.Year ∷ []) (is (dateExpressionAfter (MonthDay 3 4) (of 3 Year)) 5)
+    ∷ row
+    (lexeme.March ∷ Num 4 ∷ lexeme.Comma ∷ Written 4 2027 ∷ lexeme.In ∷ Num 3 ∷ lexeme.Year ∷ [])
+    (is (dateExpressionAfter (MonthDayYear 3 4 2027) (of 3 Year)) 7)
     ∷ []
 
 -- each row is what `dateExprOf` gives

@@ -3,6 +3,7 @@ use Prim.Native.Nat.{ℕ}
 use mathlib.Core.Bool.{Bool, true, false}
 use mathlib.Core.Path.{_≡_}
 use mathlib.Core.List.{List, [], _∷_}
+use Rattle.lexer.specs.declared.reading.Reading.{Reading}
 use Rattle.dates.specs.Parsed.{is}
 use Rattle.dates.specs.Durations.{Duration, part, durationOf, into, size}
 use Rattle.dates.specs.declared.duration.Part.the-variants.{Article}
@@ -81,11 +82,11 @@ abbrev pub sizeExpr : DateExpr → ℕ
 sizeExpr x = ofOwn 0 size (ownOf x)
 
 -- a duration stands at the front of lexemes
-pub record Stands (dur : Duration) (l : List ℕ) : Type 0 where
+pub record Stands (r : Reading) (dur : Duration) (l : List ℕ) : Type 0 where
   pub taken : ℕ
-  pub reading : durationOf l ≡ is dur taken
+  pub reading : durationOf r l ≡ is dur taken
 
 -- the duration that a date expression may have stands at the front of lexemes
-abbrev pub OwnStands : List Duration → List ℕ → Type 0
-OwnStands [] l = Unit
-OwnStands (dur ∷ none) l = Stands dur l
+abbrev pub OwnStands : Reading → List Duration → List ℕ → Type 0
+OwnStands reading [] l = Unit
+OwnStands reading (dur ∷ none) l = Stands reading dur l

@@ -48,10 +48,10 @@ pub enum Expr {
     Empty,
 }
 
-// What a tail stands behind; the reading says what "in" gives behind a weekday.
+// What a tail stands behind.
 enum Head {
     Date(Date),
-    Weekday(Reading, u32),
+    Weekday(u32),
 }
 
 // A date expression, the lexemes taken, and the place of the first lexeme of its duration, 0 where it has none; `Overflow` is refusal 6.
@@ -78,41 +78,41 @@ pub fn has_duration(e: Expr) -> bool
 
 // A head of t lexemes, and a tail that is given up, which ends at s: behind a date the count is rolled back.
 fn stray(h: Head, t: usize, s: usize) -> ExprTaken
-    ensures { λ r. ⌜ ((u : ℕ) → s ≡ t + u → r ≡ tailedAnswer h t (is stray u)) ⌝ }
+    ensures { λ r. ⌜ ((reading : Reading) (u : ℕ) → s ≡ t + u → r ≡ tailedAnswer reading h t (is stray u)) ⌝ }
 {
     match h {
         Head::Date(d) => ExprTaken::Is(Expr::Date(d), t, 0),
-        Head::Weekday(_, w) => ExprTaken::Is(Expr::Weekday(w), s, 0),
+        Head::Weekday(w) => ExprTaken::Is(Expr::Weekday(w), s, 0),
     }
 }
 
 // A head and a relative tail, which ends at s.
 fn relative(h: Head, spec: RelativeSpecifier, unit: Unit, s: usize) -> ExprTaken
-    ensures { λ r. ⌜ ((t u : ℕ) → s ≡ t + u → r ≡ tailedAnswer h t (is (relative spec unit) u)) ⌝ }
+    ensures { λ r. ⌜ ((reading : Reading) (t u : ℕ) → s ≡ t + u → r ≡ tailedAnswer reading h t (is (relative spec unit) u)) ⌝ }
 {
     match h {
         Head::Date(d) => ExprTaken::Is(Expr::DateRelative(d, spec, unit), s, 0),
-        Head::Weekday(_, w) => ExprTaken::Is(Expr::WeekdayRelative(w, spec, unit), s, 0),
+        Head::Weekday(w) => ExprTaken::Is(Expr::WeekdayRelative(w, spec, unit), s, 0),
     }
 }
 
 // A head and a tail with "ago", whose duration begins at t, and which ends at s.
 fn ago(h: Head, t: usize, s: usize) -> ExprTaken
-    ensures { λ r. ⌜ ((dur : Duration) (u : ℕ) → s ≡ t + u → r ≡ tailedAnswer h t (is (ago dur) u)) ⌝ }
+    ensures { λ r. ⌜ ((reading : Reading) (dur : Duration) (u : ℕ) → s ≡ t + u → r ≡ tailedAnswer reading h t (is (ago dur) u)) ⌝ }
 {
     match h {
         Head::Date(d) => ExprTaken::Is(Expr::DateExpressionBefore(d), s, t),
-        Head::Weekday(_, w) => ExprTaken::Is(Expr::WeekdayExpressionBefore(w), s, t),
+        Head::Weekday(w) => ExprTaken::Is(Expr::WeekdayExpressionBefore(w), s, t),
     }
 }
 
 // A head and a tail with "in", whose duration begins at p, and which ends at s: behind a weekday it goes back in the first reading.
-fn inside(h: Head, p: usize, s: usize) -> ExprTaken
-    ensures { λ r. ⌜ ((dur : Duration) (t u : ℕ) → p ≡ t + 1 → s ≡ t + u → r ≡ tailedAnswer h t (is (inside dur) u)) ⌝ }
+fn inside(reading: Reading, h: Head, p: usize, s: usize) -> ExprTaken
+    ensures { λ r. ⌜ ((dur : Duration) (t u : ℕ) → p ≡ t + 1 → s ≡ t + u → r ≡ tailedAnswer reading h t (is (inside dur) u)) ⌝ }
 {
     match h {
         Head::Date(d) => ExprTaken::Is(Expr::DateExpressionAfter(d), s, p),
-        Head::Weekday(reading, w) => match reading {
+        Head::Weekday(w) => match reading {
             Reading::First => ExprTaken::Is(Expr::WeekdayExpressionBefore(w), s, p),
             Reading::Second => ExprTaken::Is(Expr::WeekdayExpressionAfter(w), s, p),
         },
@@ -120,14 +120,14 @@ fn inside(h: Head, p: usize, s: usize) -> ExprTaken
 }
 
 // in <duration>, unless that is sub-daily, behind a head of t lexemes
-fn read_in_tail(l: &[u64], h: Head, t: usize) -> ExprTaken
+fn read_in_tail(reading: Reading, l: &[u64], h: Head, t: usize) -> ExprTaken
     requires { ⌜ t ≤ length (now l) ⌝ }
-    ensures { λ r. ⌜ r ≡ tailedAnswer h t (inTailOf (drop t (now (l .entry)))) ⌝ }
+    ensures { λ r. ⌜ r ≡ tailedAnswer reading h t (inTailOf reading (drop t (now (l .entry)))) ⌝ }
 {
     let tail = rest(l, t);
     if is_at(tail, 0, IN) {
         let p = t + 1;
-        match read_duration(rest(tail, 1)) {
+        match read_duration(reading, rest(tail, 1)) {
             Taken::Is {
                 taken: u,
                 sub_daily,
@@ -135,7 +135,7 @@ fn read_in_tail(l: &[u64], h: Head, t: usize) -> ExprTaken
                 if sub_daily {
                     return stray(h, t, p);
                 }
-                return inside(h, p, p + u);
+                return inside(reading, h, p, p + u);
             }
             Taken::Nothing => {
                 return stray(h, t, p);
@@ -149,12 +149,12 @@ fn read_in_tail(l: &[u64], h: Head, t: usize) -> ExprTaken
 }
 
 // <duration> ago, unless that is sub-daily; else in <duration>
-fn read_duration_tail(l: &[u64], h: Head, t: usize) -> ExprTaken
+fn read_duration_tail(reading: Reading, l: &[u64], h: Head, t: usize) -> ExprTaken
     requires { ⌜ t ≤ length (now l) ⌝ }
-    ensures { λ r. ⌜ r ≡ tailedAnswer h t (durationTailOf (drop t (now (l .entry)))) ⌝ }
+    ensures { λ r. ⌜ r ≡ tailedAnswer reading h t (durationTailOf reading (drop t (now (l .entry)))) ⌝ }
 {
     let tail = rest(l, t);
-    match read_duration(tail) {
+    match read_duration(reading, tail) {
         Taken::Is {
             taken: u,
             sub_daily,
@@ -167,22 +167,22 @@ fn read_duration_tail(l: &[u64], h: Head, t: usize) -> ExprTaken
             }
             stray(h, t, t + u)
         }
-        Taken::Nothing => read_in_tail(l, h, t),
+        Taken::Nothing => read_in_tail(reading, l, h, t),
         Taken::Overflow => ExprTaken::Overflow,
     }
 }
 
 // <relative_specifier> <unit> | <duration> ago | in <duration>, behind a head of t lexemes; not looked for where no lexeme is left
-fn read_tail(l: &[u64], h: Head, t: usize) -> ExprTaken
+fn read_tail(reading: Reading, l: &[u64], h: Head, t: usize) -> ExprTaken
     requires { ⌜ t ≤ length (now l) ⌝ }
-    ensures { λ r. ⌜ r ≡ tailedAnswer h t (tailOf (drop t (now (l .entry)))) ⌝ }
+    ensures { λ r. ⌜ r ≡ tailedAnswer reading h t (tailOf reading (drop t (now (l .entry)))) ⌝ }
 {
     if l.len() <= t {
         return stray(h, t, t);
     }
     let tail = rest(l, t);
     let SpecifierFound::Is(spec) = read_specifier(tail) else {
-        return read_duration_tail(l, h, t);
+        return read_duration_tail(reading, l, h, t);
     };
     let UnitFound::Is(unit) = read_unit(rest(tail, 1)) else {
         return stray(h, t, t + 1);
@@ -251,19 +251,19 @@ fn read_relative(l: &[u64]) -> ExprTaken
 
 // A weekday and its tail, or a relative specifier.
 fn read_weekday_expr(reading: Reading, l: &[u64]) -> ExprTaken
-    ensures { λ r. ⌜ r ≡ answerAt (weekdayPlace (now (l .entry))) (weekdayExprOf reading (now (l .entry))) ⌝ }
+    ensures { λ r. ⌜ r ≡ answerAt (weekdayPlace reading (now (l .entry))) (weekdayExprOf reading (now (l .entry))) ⌝ }
 {
     let WeekdayFound::Is(w) = read_weekday(l) else {
         return read_relative(l);
     };
-    read_tail(l, Head::Weekday(reading, w), 1)
+    read_tail(reading, l, Head::Weekday(w), 1)
 }
 
 // A duration and what stands behind it, or what begins with a weekday or a relative specifier.
 fn read_undated(reading: Reading, l: &[u64]) -> ExprTaken
-    ensures { λ r. ⌜ r ≡ answerAt (undatedPlace (now (l .entry))) (undatedOf reading (now (l .entry))) ⌝ }
+    ensures { λ r. ⌜ r ≡ answerAt (undatedPlace reading (now (l .entry))) (undatedOf reading (now (l .entry))) ⌝ }
 {
-    match read_duration(l) {
+    match read_duration(reading, l) {
         Taken::Is {
             taken: t,
             sub_daily,
@@ -279,7 +279,7 @@ pub fn read_expr(reading: Reading, l: &[u64]) -> ExprTaken
     ensures { λ r. ⌜ ExprCounted r (length (now (l .entry))) ⌝ }
 {
     match read_date(reading, l) {
-        DateFound::Is(d, t) => read_tail(l, Head::Date(d), t),
+        DateFound::Is(d, t) => read_tail(reading, l, Head::Date(d), t),
         DateFound::Nothing => read_undated(reading, l),
         DateFound::Overflow => ExprTaken::Overflow,
     }

@@ -12,7 +12,7 @@ use Rattle.refusals.specs.Answers.{Answer, given, refusalAt, refuse, andThen}
 use Rattle.refusals.proofs.Holds.{Holds, of-given, of-refusal, Bounded, given-holds}
 use Rattle.calendar.specs.Moments.{IsMoment}
 use Rattle.calendar.specs.declared.moments.Moment.{Moment}
-use Rattle.lexer.specs.Keywords.{keywords}
+use Rattle.lexer.specs.Keywords.{wordsIn}
 use Rattle.lexer.specs.declared.reading.Reading.{Reading}
 use Rattle.lexer.specs.declared.reading.Reading.the-variants.{First, Second}
 use Rattle.answer.specs.Answer.{answerOf}
@@ -46,21 +46,21 @@ up-to-15 h (of-refusal {r} b) = of-refusal {r = r} (omega arith)
 -- every answer is a moment of the calendar, or a refusal with a part within the phrase
 pub settled-in : (k : ℕ) (s : List ℕ) (n : Moment) → Holds IsMoment (Bounded 1 15 (min (length s) 256)) (answerIn k s n)
 settled-in k s n =
-    by-number (λ w. Holds IsMoment (Bounded 1 15 (min (length s) 256)) (andThen w (λ reading. answerOf reading keywords s n))) k
+    by-number (λ w. Holds IsMoment (Bounded 1 15 (min (length s) 256)) (andThen w (λ reading. answerOf reading (wordsIn reading) s n))) k
     (λ reading. up-to-15 (omega arith) (settled reading s n))
     (of-refusal {r = refusalAt NoReading 0 0} (omega arith))
 
 -- so is what a phrase is made ready as
 pub made-in : (k : ℕ) (s : List ℕ) → Holds MadeReady (Bounded 1 15 (min (length s) 256)) (readyIn k s)
 made-in k s =
-    by-number (λ w. Holds MadeReady (Bounded 1 15 (min (length s) 256)) (andThen w (λ reading. readyOf reading keywords s))) k
+    by-number (λ w. Holds MadeReady (Bounded 1 15 (min (length s) 256)) (andThen w (λ reading. readyOf reading (wordsIn reading) s))) k
     (λ reading. up-to-15 (omega arith) (made-ready reading s))
     (of-refusal {r = refusalAt NoReading 0 0} (omega arith))
 
 -- made ready and run at any now, it gives the answer of the phrase at that now
 pub ready-in-answers : (k : ℕ) (s : List ℕ) (n : Moment) → runReady (readyIn k s) n ≡ answerIn k s n
 ready-in-answers k s n =
-    by-number (λ w. runReady (andThen w (λ r. readyOf r keywords s)) n ≡ andThen w (λ r. answerOf r keywords s n)) k
+    by-number (λ w. runReady (andThen w (λ r. readyOf r (wordsIn r) s)) n ≡ andThen w (λ r. answerOf r (wordsIn r) s n)) k
     (λ reading. ready-answers reading s n)
     refl
 

@@ -6,7 +6,7 @@ use mathlib.Core.List.{List}
 use lib.ListN.{length}
 use Rattle.refusals.specs.Answers.{given, refused}
 use Rattle.refusals.proofs.Holds.{Bounded, number-zero, number-other, refusal-holds}
-use Rattle.lexer.specs.Keywords.{keywords}
+use Rattle.lexer.specs.Keywords.{wordsIn}
 use Rattle.lexer.specs.declared.reading.Reading.{Reading}
 use Rattle.steps.specs.Plans.{planOf, stepsIn}
 use Rattle.steps.specs.declared.plan.Step.{Step}
@@ -18,17 +18,17 @@ use Rattle.ready.proofs.ReadyPhrases.{made-ready}
 -- the steps that a struct holds
 pub record ListMade (reading : Reading) (s : List ℕ) (r : Ready) : Type 0 where
   pub list : List Step
-  pub is : readyOf reading keywords s ≡ given list
+  pub is : readyOf reading (wordsIn reading) s ≡ given list
   pub plan : stepsIn (r .plan) ≡ list
   pub count : r .plan .n ≡ length list
   pub few : length list ≤ 24
 
 -- a refusal that a struct holds
 pub record NoneMade (reading : Reading) (s : List ℕ) (r : Ready) : Type 0 where
-  pub is : readyOf reading keywords s ≡ refused (r .refusal)
+  pub is : readyOf reading (wordsIn reading) s ≡ refused (r .refusal)
   pub part : Bounded 1 7 (min (length s) 256) (r .refusal)
 
-module _ (reading : Reading) (s : List ℕ) {r : Ready} (answer : r ≡ readyAnswer (readyOf reading keywords s)) where
+module _ (reading : Reading) (s : List ℕ) {r : Ready} (answer : r ≡ readyAnswer (readyOf reading (wordsIn reading) s)) where
   -- number 0
   pub list-made : r .refusal .number ≡ 0 → ListMade reading s r
   unfolding planOf
@@ -48,5 +48,5 @@ module _ (reading : Reading) (s : List ℕ) {r : Ready} (answer : r ≡ readyAns
   -- any other
   pub none-made : (r .refusal .number ≡ 0 → ⊥) → NoneMade reading s r
   none-made other =
-      let is = number-other (readyOf reading keywords s) (λ z. other (rw answer z)) ∙ ap (λ (q : Ready). refused (q .refusal)) (sym answer) in
+      let is = number-other (readyOf reading (wordsIn reading) s) (λ z. other (rw answer z)) ∙ ap (λ (q : Ready). refused (q .refusal)) (sym answer) in
       record { is = is; part = refusal-holds (made-ready reading s) is }

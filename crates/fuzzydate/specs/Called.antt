@@ -10,7 +10,7 @@ use Rattle.refusals.specs.Answers.{Answer, given, refused, refuse, andThen}
 use Rattle.refusals.specs.declared.Refusal.{Refusal}
 use Rattle.calendar.specs.Moments.{momentOf}
 use Rattle.calendar.specs.declared.moments.Moment.{Moment}
-use Rattle.lexer.specs.Keywords.{keywords}
+use Rattle.lexer.specs.Keywords.{wordsIn}
 use Rattle.lexer.specs.declared.reading.Reading.{Reading}
 use Rattle.lexer.specs.declared.reading.Reading.the-variants.{First, Second}
 use Rattle.answer.specs.Answer.{answerOf}
@@ -31,11 +31,11 @@ chosenFrom Neither = refuse NoReading 0 0
 
 -- a phrase at a now in the reading of a number
 abbrev pub answerIn : ℕ → List ℕ → Moment → Answer Moment
-answerIn k s n = andThen (readingOf k) (λ reading. answerOf reading keywords s n)
+answerIn k s n = andThen (readingOf k) (λ reading. answerOf reading (wordsIn reading) s n)
 
 -- a phrase made ready in the reading of a number
 abbrev pub readyIn : ℕ → List ℕ → ReadyPhrase
-readyIn k s = andThen (readingOf k) (λ reading. readyOf reading keywords s)
+readyIn k s = andThen (readingOf k) (λ reading. readyOf reading (wordsIn reading) s)
 
 -- a refusal's number, its place from bit 16 on, and the length of its part from bit 32 on
 abbrev pub code : Refusal → ℕ

@@ -12,7 +12,7 @@ use Rattle.refusals.specs.Table as refusal
 use Rattle.refusals.specs.Answers.{refusalAt}
 use Rattle.lexer.specs.Lexemes.{Comma, Colon, Slash, Dash, Dot, NUM, digitsOf}
 use Rattle.lexer.specs.Words.{Word, ordered, isSame, meaning}
-use Rattle.lexer.specs.Keywords.{keywords}
+use Rattle.lexer.specs.Keywords.{keywords, wordsIn}
 use Rattle.lexer.specs.Classes.{Gap, Letter, Digit, Mark, classOf, markOf}
 use Rattle.lexer.specs.Lex.{run, runEnd, saidDigits, ofWord, wordFrom, wordAt, numberFrom, numberAt, tokenOf, tokenAt}
 use Rattle.lexer.specs.Lex.{Item, item, ifLexeme, frontFrom, front}
@@ -20,6 +20,8 @@ use Rattle.lexer.specs.declared.find.Found.{Found}
 use Rattle.lexer.specs.declared.find.Found.the-variants.{Lexeme, Unknown}
 use Rattle.lexer.specs.declared.lex.Token.{Token}
 use Rattle.lexer.specs.declared.lex.Token.the-variants.{Finish, Taken, Refused}
+use Rattle.lexer.specs.declared.reading.Reading.{Reading}
+use Rattle.lexer.specs.declared.reading.Reading.the-variants.{First, Second}
 use Rattle.lexer.proofs.Runs.{run-stop, run-within}
 
 -- no word of a list gives a literal
@@ -27,9 +29,11 @@ abbrev noLiterals : List Word → Bool
 noLiterals [] = true
 noLiterals (x ∷ xs) = ltb (x .lexeme) NUM && noLiterals xs
 
-keywords-are-words : noLiterals keywords ≡ true
-unfolding keywords
-keywords-are-words = refl
+-- no word of either reading does
+words-are-words : (reading : Reading) → noLiterals (wordsIn reading) ≡ true
+unfolding keywords wordsIn
+words-are-words First = refl
+words-are-words Second = refl
 
 -- what a word means is no literal
 abbrev NoLiteral : Found → Type 0
@@ -123,10 +127,10 @@ module _ (ws : List Word) (plain : noLiterals ws ≡ true) (s : List ℕ) (most 
   said-from (suc room) at = said-token room (tokenAt ws s at) (says-at at) (said-from room)
 
 -- "the digits said are the length of the run in the phrase"
-pub digits-said : (s : List ℕ) → Said s (front keywords s)
+pub digits-said : (reading : Reading) (s : List ℕ) → Said s (front (wordsIn reading) s)
 unfolding front
-digits-said s = go (leb (length s) 256) refl
+digits-said reading s = go (leb (length s) 256) refl
   where
-    go : (b : Bool) → leb (length s) 256 ≡ b → Said s (cond b (frontFrom keywords 64 s 0) [])
-    go true e = said-from keywords keywords-are-words s (leb-true (length s) 256 e) 64 0
+    go : (b : Bool) → leb (length s) 256 ≡ b → Said s (cond b (frontFrom (wordsIn reading) 64 s 0) [])
+    go true e = said-from (wordsIn reading) (words-are-words reading) s (leb-true (length s) 256 e) 64 0
     go false e = tt

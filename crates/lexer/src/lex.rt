@@ -7,8 +7,10 @@ use super::class::mark;
 use super::find::Found;
 use super::find::find;
 use super::lexeme::NUM;
+use super::reading::Reading;
 use super::run::run_end;
-use super::table::rows;
+use super::table::first_rows;
+use super::table::second_rows;
 use super::word::key_at;
 use super::word::letter;
 use digits::digit::is_digit;
@@ -23,10 +25,10 @@ ghost use mathlib.Core.Path.{_≡_};
 ghost use Prim.Native.Nat.{_+_, _*_, _-_, _≤_, min};
 ghost use lib.ListN.{length};
 ghost use lib.Seq.{sets};
-ghost use Rattle.lexer.specs.Keywords.{keywords};
+ghost use Rattle.lexer.specs.Keywords.{wordsIn};
 ghost use Rattle.lexer.specs.Table.{sorted, cells};
 ghost use Rattle.lexer.specs.Lex.{isDigitAt, saidDigits, wordAt, numberAt, tokenAt};
-ghost use Rattle.lexer.specs.Lex.{lexed, front, codesOf, startsOf, endedOf, Placed};
+ghost use Rattle.lexer.specs.Lex.{lexFrom, lexed, frontFrom, front, codesOf, startsOf, endedOf, Placed};
 ghost use Rattle.refusals.specs.Answers.{refuse};
 
 // The first number that no u32 holds.
@@ -65,12 +67,12 @@ fn with_digit(v: u64, b: u8) -> u64
 }
 
 // The word that begins at a.
-fn word_at(words: &[u8; 2128], s: &[u8], a: usize) -> Token
-    requires { ⌜ now words ≡ cells (sorted keywords) ⌝ }
-    ensures { λ r. ⌜ r ≡ wordAt keywords (now (s .entry)) a ⌝ }
+fn word_at(reading: Reading, words: &[u8], s: &[u8], a: usize) -> Token
+    requires { ⌜ now words ≡ cells (sorted (wordsIn reading)) ⌝ }
+    ensures { λ r. ⌜ r ≡ wordAt (wordsIn reading) (now (s .entry)) a ⌝ }
 {
     let k = key_at(s, a);
-    let f = find(words, k.head, k.tail);
+    let f = find(reading, words, k.head, k.tail);
     let Found::Lexeme(code) = f else {
         return Token::Refused(Refusal {
             number: UNKNOWN,
@@ -117,16 +119,16 @@ fn number_at(s: &[u8], a: usize) -> Token
 }
 
 // The first lexeme at or after a place, by the rows that are lent; past the last byte there is none.
-fn token_in(words: &[u8; 2128], s: &[u8], at: usize) -> Token
-    requires { ⌜ now words ≡ cells (sorted keywords) ⌝ }
-    ensures { λ r. ⌜ r ≡ tokenAt keywords (now (s .entry)) at ⌝ }
+fn token_in(reading: Reading, words: &[u8], s: &[u8], at: usize) -> Token
+    requires { ⌜ now words ≡ cells (sorted (wordsIn reading)) ⌝ }
+    ensures { λ r. ⌜ r ≡ tokenAt (wordsIn reading) (now (s .entry)) at ⌝ }
 {
     let a = run_end(s, at, GAP);
     if s.len() <= a {
         return Token::Finish;
     }
     if letter(s[a]) != 0 {
-        return word_at(words, s, a);
+        return word_at(reading, words, s, a);
     }
     let k = class(s[a]);
     if k == DIGIT {
@@ -146,12 +148,20 @@ fn token_in(words: &[u8; 2128], s: &[u8], at: usize) -> Token
     })
 }
 
-// The first lexeme at or after a place; past the last byte there is none.
-pub fn token_at(s: &[u8], at: usize) -> Token
-    ensures { λ r. ⌜ r ≡ tokenAt keywords (now (s .entry)) at ⌝ }
+// The first lexeme at or after a place in one of the readings; past the last byte there is none.
+pub fn token_at(reading: Reading, s: &[u8], at: usize) -> Token
+    ensures { λ r. ⌜ r ≡ tokenAt (wordsIn reading) (now (s .entry)) at ⌝ }
 {
-    let words = rows();
-    token_in(&words, s, at)
+    match reading {
+        Reading::First => {
+            let first = first_rows();
+            token_in(reading, &first, s, at)
+        }
+        Reading::Second => {
+            let second = second_rows();
+            token_in(reading, &second, s, at)
+        }
+    }
 }
 
 // How a refused phrase ends.
@@ -164,22 +174,23 @@ pub fn refuse(number: u8, place: usize, end: usize) -> Ended
     }
 }
 
-// A phrase's lexemes, left to right, up to the end or the first refusal: a word or number is judged before it is counted.
-// Their codes and the places of their first bytes go into the lent arrays, and what stands behind them there stays.
-pub fn lex(s: &[u8], codes: &mut [u64; 64], starts: &mut [u8; 64]) -> Ended
-    ensures { λ r. ⌜ r ≡ endedOf (lexed keywords (now (s .entry))) ⌝ }
-    ensures codes { λ r. ⌜ now (codes .exit) ≡ sets (now (codes .entry)) 0 (codesOf (front keywords (now (s .entry)))) ⌝ }
-    ensures starts { λ r. ⌜ now (starts .exit) ≡ sets (now (starts .entry)) 0 (startsOf (front keywords (now (s .entry)))) ⌝ }
-    ensures bounds { λ r. ⌜ Placed (length (now (s .entry))) r ⌝ }
+// The lexemes of a phrase that is not too long, by the rows that are lent: a word or number is judged before it is counted.
+fn lex_in(
+    reading: Reading,
+    words: &[u8],
+    s: &[u8],
+    codes: &mut [u64; 64],
+    starts: &mut [u8; 64],
+) -> Ended
+    requires { ⌜ (now words ≡ cells (sorted (wordsIn reading))) × (length (now s) ≤ 256) ⌝ }
+    ensures { λ r. ⌜ r ≡ endedOf (lexFrom (wordsIn reading) 64 (now (s .entry)) 0) ⌝ }
+    ensures codes { λ r. ⌜ now (codes .exit) ≡ sets (now (codes .entry)) 0 (codesOf (frontFrom (wordsIn reading) 64 (now (s .entry)) 0)) ⌝ }
+    ensures starts { λ r. ⌜ now (starts .exit) ≡ sets (now (starts .entry)) 0 (startsOf (frontFrom (wordsIn reading) 64 (now (s .entry)) 0)) ⌝ }
 {
-    if 256 < s.len() {
-        return refuse(TOO_LONG, 0, 0);
-    }
-    let words = rows();
     let mut n: usize = 0;
     let mut at: usize = 0;
     loop {
-        let t = token_in(&words, s, at);
+        let t = token_in(reading, words, s, at);
         match t {
             Token::Finish => {
                 return Ended {
@@ -197,6 +208,29 @@ pub fn lex(s: &[u8], codes: &mut [u64; 64], starts: &mut [u8; 64]) -> Ended
                 n += 1;
                 at = end;
             }
+        }
+    }
+}
+
+// A phrase's lexemes in one of the readings, left to right, up to the end or the first refusal.
+// Their codes and the places of their first bytes go into the lent arrays, and what stands behind them there stays.
+pub fn lex(reading: Reading, s: &[u8], codes: &mut [u64; 64], starts: &mut [u8; 64]) -> Ended
+    ensures { λ r. ⌜ r ≡ endedOf (lexed (wordsIn reading) (now (s .entry))) ⌝ }
+    ensures codes { λ r. ⌜ now (codes .exit) ≡ sets (now (codes .entry)) 0 (codesOf (front (wordsIn reading) (now (s .entry)))) ⌝ }
+    ensures starts { λ r. ⌜ now (starts .exit) ≡ sets (now (starts .entry)) 0 (startsOf (front (wordsIn reading) (now (s .entry)))) ⌝ }
+    ensures bounds { λ r. ⌜ Placed (length (now (s .entry))) r ⌝ }
+{
+    if 256 < s.len() {
+        return refuse(TOO_LONG, 0, 0);
+    }
+    match reading {
+        Reading::First => {
+            let first = first_rows();
+            lex_in(reading, &first, s, codes, starts)
+        }
+        Reading::Second => {
+            let second = second_rows();
+            lex_in(reading, &second, s, codes, starts)
         }
     }
 }

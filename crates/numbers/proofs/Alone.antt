@@ -10,12 +10,14 @@ use lib.ListN.{drop}
 use lib.Seq.{getD-drop}
 use borrow.Author.Tests.{leb-false, le-leb, ne-eqb}
 use Rattle.lexer.specs.Lexemes.{Twenty, Ninety, Hundred, Billion, ST, ND, RD, TH, NUM, valueOf, digitsOf}
+use Rattle.lexer.specs.declared.reading.Reading.{Reading}
+use Rattle.lexer.specs.declared.reading.Reading.the-variants.{First, Second}
 use Rattle.numbers.specs.declared.Number.{Number}
 use Rattle.numbers.specs.declared.NumberFound.{NumberFound}
 use Rattle.numbers.specs.declared.NumberFound.the-variants.{Is, Nothing, Overflow}
 use Rattle.numbers.specs.Slices.{get, within}
 use Rattle.numbers.specs.Answers.{MAX, number, written, pick, orElse, andThen}
-use Rattle.numbers.specs.Numbers.{isEnding, wordOf, literalOf, onesOf, teensOf, tensOf, tensOnesOf, numDoubleOf, hundredsOf, numTripleOf, unitsOf, numStep, numOf}
+use Rattle.numbers.specs.Numbers.{isEnding, wordOf, literalOf, literalTokens, onesOf, teensOf, tensOf, tensOnesOf, numDoubleOf, hundredsOf, numTripleOf, unitsOf, numStep, numOf}
 use Rattle.numbers.proofs.LexemeAt.{within-bounds, literal-bounds}
 use Rattle.numbers.proofs.NumStep.{num-is}
 use Rattle.numbers.proofs.Begins.{outside, never, not-at, no-unit}
@@ -63,8 +65,13 @@ beyond : (b : Bool) → b ≡ true → (lo x hi : ℕ) (n : Number) → pick (b 
 unfolding within
 beyond b held lo x hi n e a = leb-false x hi (rw (held, le-leb lo x a) at (failed (b && within lo x hi) n e))
 
+-- with no ending behind it a literal is one lexeme in either reading
+one-token : (reading : Reading) (l : List ℕ) → isEnding (get l 1) ≡ false → literalTokens reading l 1 ≡ 1
+one-token First l e = refl
+one-token Second l e = rw e
+
 -- the first lexeme is a literal or a word, which alone is the number n, and none that begins more
-module _ (l : List ℕ) (n : Number) (one : n .taken ≡ 1)
+module _ (reading : Reading) (l : List ℕ) (n : Number) (one : n .taken ≡ 1)
     (as-word : get l 0 < NUM → Is n ≡ number (get l 0) 1) (as-literal : NUM ≤ get l 0 → Is n ≡ written (valueOf (get l 0)) (digitsOf (get l 0)) 1)
     (first : Twenty ≤ get l 0 → get l 0 ≤ Billion → ⊥) (apart : Hundred ≤ get l 1 → get l 1 ≤ TH → ⊥) where
   word-yields : (lo hi : ℕ) → hi ≤ Ninety → Yields (wordOf l lo hi 1) (Is n)
@@ -89,62 +96,68 @@ module _ (l : List ℕ) (n : Number) (one : n .taken ≡ 1)
     ne-eqb (get l 1) TH (λ e. apart (omega arith) (omega arith)),
   )
 
+  one-literal : literalTokens reading l 1 ≡ 1
+  one-literal = one-token reading l no-ending
+
   ones-are : onesOf l ≡ orElse (wordOf l 1 9 1) (literalOf l 0 9 1)
   unfolding onesOf
   ones-are = rw no-ending
 
-  teens-are : teensOf l ≡ orElse (wordOf l 10 19 1) (literalOf l 10 19 1)
+  teens-are : teensOf reading l ≡ orElse (wordOf l 10 19 1) (literalOf l 10 19 1)
   unfolding teensOf
-  teens-are = rw (not-at l 1 TH (λ e. apart (omega arith) (omega arith)))
+  teens-are = rw (not-at l 1 TH (λ e. apart (omega arith) (omega arith)), one-literal)
 
-  double-is : numDoubleOf l ≡ orElse (teensOf l) (orElse (onesOf l) (literalOf l 20 99 1))
+  double-is : numDoubleOf reading l ≡ orElse (teensOf reading l) (orElse (onesOf l) (literalOf l 20 99 1))
   unfolding numDoubleOf tensOnesOf tensOf wordOf
   double-is =
-      rw (never (within 20 (get l 0) 90) _ (λ e.
-      let b = within-bounds 20 (get l 0) 90 refl e in
-      first (omega arith) (omega arith)))
+      rw (
+        never (within 20 (get l 0) 90) _ (λ e.
+            let b = within-bounds 20 (get l 0) 90 refl e in
+            first (omega arith) (omega arith)),
+        one-literal,
+      )
 
   ones-yield : Yields (onesOf l) (Is n)
   ones-yield = rw ones-are (either-yields (word-yields 1 9 (omega arith)) (literal-yields 0 9))
 
-  no-hundreds : hundredsOf l (onesOf l) ≡ Nothing
+  no-hundreds : hundredsOf reading l (onesOf l) ≡ Nothing
   unfolding hundredsOf
   no-hundreds = nothing-behind (onesOf l) n _ ones-yield (rw (one, not-at l 1 Hundred (λ e. apart (omega arith) (omega arith))))
 
-  triple-is : numTripleOf l ≡ orElse (numDoubleOf l) (literalOf l 100 999 1)
+  triple-is : numTripleOf reading l ≡ orElse (numDoubleOf reading l) (literalOf l 100 999 1)
   unfolding numTripleOf hundredsOf
   triple-is = rw (no-hundreds, not-at l 0 Hundred (λ e. first (omega arith) (omega arith)), no-ending)
 
-  triple-yields : Yields (numTripleOf l) (Is n)
+  triple-yields : Yields (numTripleOf reading l) (Is n)
   triple-yields =
       let teens = either-yields (word-yields 10 19 (omega arith)) (literal-yields 10 19) in
       rw (triple-is, double-is, teens-are)
       (either-yields (either-yields teens (either-yields ones-yield (literal-yields 20 99))) (literal-yields 100 999))
 
-  no-units : unitsOf numOf l (numTripleOf l) ≡ Nothing
+  no-units : unitsOf (numOf reading) l (numTripleOf reading l) ≡ Nothing
   unfolding unitsOf get
   no-units =
-      nothing-behind (numTripleOf l) n _ triple-yields (rw (
+      nothing-behind (numTripleOf reading l) n _ triple-yields (rw (
         one,
         no-unit (drop 1 l) (λ a b.
             let g = getD-drop 1 l 0 0 in
             apart (omega arith) (omega arith)),
       ))
 
-  num-plain : numOf l ≡ orElse (numTripleOf l) (literalOf l 1000 MAX 1)
+  num-plain : numOf reading l ≡ orElse (numTripleOf reading l) (literalOf l 1000 MAX 1)
   unfolding numStep unitsOf
-  num-plain = rw (num-is l, no-units, no-unit l (λ a b. first (omega arith) (omega arith)))
+  num-plain = rw (num-is reading l, no-units, no-unit l (λ a b. first (omega arith) (omega arith)), one-literal)
 
   -- each range of literals, and of words up to nineteen, is met by an alternative
-  module _ (none : numOf l ≡ Nothing) where
-    num : (numTripleOf l ≡ Nothing) × (literalOf l 1000 MAX 1 ≡ Nothing)
-    num = both-nothing (numTripleOf l) (literalOf l 1000 MAX 1) (rw num-plain at none)
+  module _ (none : numOf reading l ≡ Nothing) where
+    num : (numTripleOf reading l ≡ Nothing) × (literalOf l 1000 MAX 1 ≡ Nothing)
+    num = both-nothing (numTripleOf reading l) (literalOf l 1000 MAX 1) (rw num-plain at none)
 
-    triple : (numDoubleOf l ≡ Nothing) × (literalOf l 100 999 1 ≡ Nothing)
-    triple = both-nothing (numDoubleOf l) (literalOf l 100 999 1) (rw triple-is at (num .0))
+    triple : (numDoubleOf reading l ≡ Nothing) × (literalOf l 100 999 1 ≡ Nothing)
+    triple = both-nothing (numDoubleOf reading l) (literalOf l 100 999 1) (rw triple-is at (num .0))
 
-    double : (teensOf l ≡ Nothing) × (orElse (onesOf l) (literalOf l 20 99 1) ≡ Nothing)
-    double = both-nothing (teensOf l) (orElse (onesOf l) (literalOf l 20 99 1)) (rw double-is at (triple .0))
+    double : (teensOf reading l ≡ Nothing) × (orElse (onesOf l) (literalOf l 20 99 1) ≡ Nothing)
+    double = both-nothing (teensOf reading l) (orElse (onesOf l) (literalOf l 20 99 1)) (rw double-is at (triple .0))
 
     teens : (wordOf l 10 19 1 ≡ Nothing) × (literalOf l 10 19 1 ≡ Nothing)
     teens = both-nothing (wordOf l 10 19 1) (literalOf l 10 19 1) (rw teens-are at (double .0))
@@ -171,23 +184,23 @@ module _ (l : List ℕ) (n : Number) (one : n .taken ≡ 1)
         (range 0 v 9 _ (ones .1) (omega arith)))))
 
   -- then it is the number
-  num-alone : ((1 ≤ get l 0) × (get l 0 ≤ 19)) ⊎ (NUM ≤ get l 0) → numOf l ≡ Is n
+  num-alone : ((1 ≤ get l 0) × (get l 0 ≤ 19)) ⊎ (NUM ≤ get l 0) → numOf reading l ≡ Is n
   num-alone h =
-      yielded (numOf l) (Is n) (rw num-plain (either-yields triple-yields (literal-yields 1000 MAX))) (λ none.
+      yielded (numOf reading l) (Is n) (rw num-plain (either-yields triple-yields (literal-yields 1000 MAX))) (λ none.
       ⊎-elim (λ w. let b = beyond-words none (w .0) in omega arith) (λ w. let b = beyond-literals none w in omega arith) h)
 
 -- a number word up to nineteen, or a literal, is the whole number where nothing that could belong to it stands behind it
-pub alone : (l : List ℕ) → within Hundred (get l 1) TH ≡ false
-    → orElse (orElse (wordOf l 1 19 1) (literalOf l 0 MAX 1)) (numOf l) ≡ numOf l
+pub alone : (reading : Reading) (l : List ℕ) → within Hundred (get l 1) TH ≡ false
+    → orElse (orElse (wordOf l 1 19 1) (literalOf l 0 MAX 1)) (numOf reading l) ≡ numOf reading l
 unfolding wordOf literalOf
-alone l none =
+alone reading l none =
     let x = get l 0 in
     let apart = outside Hundred (get l 1) TH none in
     either-yields
-    (test-yields (within 1 x 19) _ (numOf l) (λ e.
+    (test-yields (within 1 x 19) _ (numOf reading l) (λ e.
     let b = within-bounds 1 x 19 refl e in
-    num-alone l _ refl (λ h. refl) (λ h. absurd (omega arith)) (λ h k. omega arith) apart (inl b)))
-    (test-yields (leb NUM x && within 0 (valueOf x) MAX) _ (numOf l) (λ e.
+    num-alone reading l _ refl (λ h. refl) (λ h. absurd (omega arith)) (λ h k. omega arith) apart (inl b)))
+    (test-yields (leb NUM x && within 0 (valueOf x) MAX) _ (numOf reading l) (λ e.
     let b = literal-bounds 0 x MAX e in
-    num-alone l _ refl (λ h. absurd (omega arith)) (λ h. refl) (λ h k. omega arith) apart (inr (b .0))))
+    num-alone reading l _ refl (λ h. absurd (omega arith)) (λ h. refl) (λ h k. omega arith) apart (inr (b .0))))
     .same

@@ -8,6 +8,7 @@ use lib.Dec.{leb, ltb}
 use lib.ListN.{length}
 use borrow.Author.Tests.{le-leb, ne-eqb}
 use Rattle.lexer.specs.Lexemes.{One, Ninety, Hundred, Thousand, Million, Billion, NUM}
+use Rattle.lexer.specs.declared.reading.Reading.{Reading}
 use Rattle.numbers.specs.declared.NumberFound.{NumberFound}
 use Rattle.numbers.specs.declared.NumberFound.the-variants.{Nothing}
 use Rattle.numbers.specs.Slices.{get, isAt, within}
@@ -46,7 +47,7 @@ no-unit l out = rw (
   not-at l 0 Billion (λ e. out (omega arith) (omega arith)),
 )
 
-module _ (l : List ℕ) (none : beginsNumber (get l 0) ≡ false) where
+module _ (reading : Reading) (l : List ℕ) (none : beginsNumber (get l 0) ≡ false) where
   tests : (within One (get l 0) Ninety ≡ false) × (within Hundred (get l 0) Billion ≡ false) × (leb NUM (get l 0) ≡ false)
   unfolding beginsNumber
   tests = failed _ _ _ none
@@ -69,15 +70,15 @@ module _ (l : List ℕ) (none : beginsNumber (get l 0) ≡ false) where
   unfolding onesOf
   no-ones = rw (no-word 1 9 _ (omega arith) (omega arith), no-literal 0 9 _)
 
-  no-double : numDoubleOf l ≡ Nothing
+  no-double : numDoubleOf reading l ≡ Nothing
   unfolding numDoubleOf tensOnesOf tensOf teensOf
-  no-double = rw (no-word 20 90 _ (omega arith) (omega arith), no-word 10 19 _ (omega arith) (omega arith), no-literal 10 19 _, no-ones, no-literal 20 99 1)
+  no-double = rw (no-word 20 90 _ (omega arith) (omega arith), no-word 10 19 _ (omega arith) (omega arith), no-literal 10 19 _, no-ones, no-literal 20 99 _)
 
-  no-triple : numTripleOf l ≡ Nothing
+  no-triple : numTripleOf reading l ≡ Nothing
   unfolding numTripleOf hundredsOf
   no-triple = rw (no-ones, not-at l 0 Hundred (λ e. no-unit-word (omega arith) (omega arith)), no-double, no-literal 100 999 _)
 
   -- what no number begins with has none
-  pub no-num : numOf l ≡ Nothing
+  pub no-num : numOf reading l ≡ Nothing
   unfolding numStep unitsOf
-  no-num = rw (num-is l, no-triple, no-unit l no-unit-word, no-literal 1000 MAX 1)
+  no-num = rw (num-is reading l, no-triple, no-unit l no-unit-word, no-literal 1000 MAX _)

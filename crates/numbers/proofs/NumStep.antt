@@ -5,6 +5,7 @@ use Prim.Native.Nat.{ℕ, _+_, _*_, _≤_, _<_}
 use native.Mathlib.Omega.{arith}
 use lib.ListN.{length, drop, length-drop}
 use Rattle.lexer.specs.Lexemes.{And}
+use Rattle.lexer.specs.declared.reading.Reading.{Reading}
 use Rattle.numbers.specs.declared.NumberFound.{NumberFound}
 use Rattle.numbers.specs.declared.NumberFound.the-variants.{Nothing}
 use Rattle.numbers.specs.Slices.{isAt, oneIf}
@@ -30,12 +31,12 @@ module _ (N M : List ℕ → NumberFound) (l : List ℕ) (agree : (m : List ℕ)
       let left = length-drop (n .taken) l in
       tail-agree (n .value * unit .value) (n .taken + unit .taken) (omega arith) (omega arith)))
 
-  step-agree : numStep N l ≡ numStep M l
+  step-agree : (reading : Reading) → numStep reading N l ≡ numStep reading M l
   unfolding numStep
-  step-agree =
-      rw (units-agree (numTripleOf l) (wider (omega arith) (num-triple-taken l)), units-agree (number 1 0) (record { bounds = omega arith }))
+  step-agree reading =
+      rw (units-agree (numTripleOf reading l) (wider (omega arith) (num-triple-taken reading l)), units-agree (number 1 0) (record { bounds = omega arith }))
 
 -- `Num::parse` calls itself
-pub num-is : (l : List ℕ) → numOf l ≡ numStep numOf l
+pub num-is : (reading : Reading) (l : List ℕ) → numOf reading l ≡ numStep reading (numOf reading) l
 unfolding numOf
-num-is l = again-is Nothing numStep step-agree l
+num-is reading l = again-is Nothing (numStep reading) (λ N M m agree. step-agree N M m agree reading) l

@@ -9,11 +9,14 @@ use lib.Dec.{leb, eqb}
 use lib.ListN.{length, drop, length-drop}
 use borrow.Author.Tests.{leb-true, le-leb}
 use Rattle.lexer.specs.Lexemes.{TH, Dash, And, Hundred, Thousand, Million, Billion, NUM, valueOf}
+use Rattle.lexer.specs.declared.reading.Reading.{Reading}
+use Rattle.lexer.specs.declared.reading.Reading.the-variants.{First, Second}
 use Rattle.numbers.specs.declared.NumberFound.{NumberFound}
 use Rattle.numbers.specs.declared.NumberFound.the-variants.{Is, Nothing, Overflow}
 use Rattle.numbers.specs.Slices.{get, isAt, oneIf, within}
 use Rattle.numbers.specs.Answers.{MAX, Bounded, Taken, Read, number, orZero, fitsOf}
-use Rattle.numbers.specs.Numbers.{isEnding, wordOf, literalOf, onesOf, teensOf, tensOf, tensOnesOf, numDoubleOf, sumOf, tailOf, hundredsOf, numTripleOf, numTripleUnitOf, unitsOf, numStep, numOf}
+use Rattle.numbers.specs.Numbers.{isEnding, wordOf, literalOf, literalTokens, onesOf, teensOf, tensOf, tensOnesOf}
+use Rattle.numbers.specs.Numbers.{numDoubleOf, sumOf, tailOf, hundredsOf, numTripleOf, numTripleUnitOf, unitsOf, numStep, numOf}
 use Rattle.numbers.proofs.LexemeAt.{one-most, within-bounds, literal-bounds, at-most, there}
 use Rattle.numbers.proofs.Again.{again-keeps}
 use Rattle.numbers.proofs.NumberAnswers.{nothing, wider, read, pick-bounded, or-bounded, then-bounded}
@@ -34,6 +37,12 @@ unfolding isEnding get
 ending-most [] = omega arith
 ending-most (x ∷ []) = omega arith
 ending-most (x ∷ y ∷ ys) = let h = one-most (isEnding (get (x ∷ y ∷ ys) 1)) in omega arith
+
+-- the lexemes of a literal are there
+tokens-most : (reading : Reading) (l : List ℕ) (tokens : ℕ) → 0 < tokens → tokens ≤ max 1 (length l)
+    → (0 < literalTokens reading l tokens) × (literalTokens reading l tokens ≤ max 1 (length l))
+tokens-most First l tokens some room = (some, room)
+tokens-most Second l tokens some room = (omega arith, ending-most l)
 
 -- a lexeme, which is no 0, is there
 pub first : (l : List ℕ) → 0 < get l 0 → 0 < length l
@@ -72,11 +81,18 @@ ones-taken l =
     let room = ending-most l in
     or-bounded _ _ (word-taken l 1 9 _ (omega arith) room (omega arith)) (literal-taken l 0 9 _ (omega arith) room)
 
-pub teens-taken : (l : List ℕ) → Taken (teensOf l) 1 19 (length l)
+-- a literal with the endings of its reading
+literal-in-taken : (reading : Reading) (l : List ℕ) (lo hi tokens : ℕ) → 0 < tokens → tokens ≤ max 1 (length l)
+    → Taken (literalOf l lo hi (literalTokens reading l tokens)) 1 hi (length l)
+literal-in-taken reading l lo hi tokens some room =
+    let h = tokens-most reading l tokens some room in
+    literal-taken l lo hi _ (h .0) (h .1)
+
+pub teens-taken : (reading : Reading) (l : List ℕ) → Taken (teensOf reading l) 1 19 (length l)
 unfolding teensOf
-teens-taken l =
+teens-taken reading l =
     let room = at-most l 1 TH in
-    or-bounded _ _ (word-taken l 10 19 _ (omega arith) room (omega arith)) (literal-taken l 10 19 _ (omega arith) room)
+    or-bounded _ _ (word-taken l 10 19 _ (omega arith) room (omega arith)) (literal-in-taken reading l 10 19 _ (omega arith) room)
 
 pub tens-taken : (l : List ℕ) → Taken (tensOf l) 1 90 (length l)
 unfolding tensOf
@@ -99,13 +115,13 @@ tens-ones-taken l =
     then-bounded _ _ (zero-taken _ (ones-taken (drop tokens l))) (λ ones e f g.
     record { bounds = let h = length-drop tokens l in omega arith }))
 
-pub num-double-taken : (l : List ℕ) → Taken (numDoubleOf l) 1 99 (length l)
+pub num-double-taken : (reading : Reading) (l : List ℕ) → Taken (numDoubleOf reading l) 1 99 (length l)
 unfolding numDoubleOf
-num-double-taken l =
+num-double-taken reading l =
     or-bounded _ _ (tens-ones-taken l)
-    (or-bounded _ _ (wider (omega arith) (teens-taken l))
+    (or-bounded _ _ (wider (omega arith) (teens-taken reading l))
     (or-bounded _ _ (wider (omega arith) (ones-taken l))
-    (literal-taken l 20 99 1 (omega arith) (omega arith))))
+    (literal-in-taken reading l 20 99 1 (omega arith) (omega arith))))
 
 -- a tested sum that is small enough
 fits-taken : (v t hi n : ℕ) → (v ≤ hi) × (hi ≤ MAX) × (0 < t) × (t ≤ n) → Taken (fitsOf v t) 1 hi n
@@ -146,23 +162,23 @@ tail-bounded N l head t tested bounded p q =
     sum-bounded head (length l) tested (isAt l t And) tokens (length (drop tokens l)) _
     (omega arith) (omega arith) (bounded (drop tokens l))
 
-pub hundreds-taken : (l : List ℕ) (ones : NumberFound) → Taken ones 0 9 (length l) → Taken (hundredsOf l ones) 1 999 (length l)
+pub hundreds-taken : (reading : Reading) (l : List ℕ) (ones : NumberFound) → Taken ones 0 9 (length l) → Taken (hundredsOf reading l ones) 1 999 (length l)
 unfolding hundredsOf
-hundreds-taken l ones h =
+hundreds-taken reading l ones h =
     then-bounded _ _ h (λ ones a b d.
     pick-bounded (isAt l (ones .taken) Hundred) _ _
     (λ e. let room = there (at-most l (ones .taken) Hundred) e in
-    tail-bounded numDoubleOf l (ones .value * 100) (ones .taken + 1)
+    tail-bounded (numDoubleOf reading) l (ones .value * 100) (ones .taken + 1)
     (λ s u f g i. fits-taken s u 999 (length l) (omega arith))
-    num-double-taken (omega arith) (omega arith))
+    (num-double-taken reading) (omega arith) (omega arith))
     (λ e. nothing))
 
-pub num-triple-taken : (l : List ℕ) → Taken (numTripleOf l) 1 999 (length l)
+pub num-triple-taken : (reading : Reading) (l : List ℕ) → Taken (numTripleOf reading l) 1 999 (length l)
 unfolding numTripleOf
-num-triple-taken l =
-    or-bounded _ _ (hundreds-taken l (onesOf l) (wider (omega arith) (ones-taken l)))
-    (or-bounded _ _ (hundreds-taken l (number 1 0) (record { bounds = omega arith }))
-    (or-bounded _ _ (wider (omega arith) (num-double-taken l))
+num-triple-taken reading l =
+    or-bounded _ _ (hundreds-taken reading l (onesOf l) (wider (omega arith) (ones-taken l)))
+    (or-bounded _ _ (hundreds-taken reading l (number 1 0) (record { bounds = omega arith }))
+    (or-bounded _ _ (wider (omega arith) (num-double-taken reading l))
     (literal-taken l 100 999 _ (omega arith) (ending-most l))))
 
 pub num-triple-unit-taken : (l : List ℕ) → Taken (numTripleUnitOf l) 1 1000000000 (length l)
@@ -187,15 +203,15 @@ module _ (N : List ℕ → NumberFound) (reads : (l : List ℕ) → Read (N l) 1
       (λ s i x y z. fits-read s i (length l) (omega arith))
       reads (omega arith) (omega arith)))
 
-  step-read : Read (numStep N l) 1 (length l)
+  step-read : (reading : Reading) → Read (numStep reading N l) 1 (length l)
   unfolding numStep
-  step-read =
-      or-bounded _ _ (units-read (numTripleOf l) (wider (omega arith) (num-triple-taken l)))
+  step-read reading =
+      or-bounded _ _ (units-read (numTripleOf reading l) (wider (omega arith) (num-triple-taken reading l)))
       (or-bounded _ _ (units-read (number 1 0) (record { bounds = omega arith }))
-      (or-bounded _ _ (read (omega arith) (num-triple-taken l))
-      (read (omega arith) (literal-taken l 1000 MAX 1 (omega arith) (omega arith)))))
+      (or-bounded _ _ (read (omega arith) (num-triple-taken reading l))
+      (read (omega arith) (literal-in-taken reading l 1000 MAX 1 (omega arith) (omega arith)))))
 
 -- a number is a u32 of at least one lexeme and at most all
-pub num-read : (l : List ℕ) → Read (numOf l) 1 (length l)
+pub num-read : (reading : Reading) (l : List ℕ) → Read (numOf reading l) 1 (length l)
 unfolding numOf
-num-read l = again-keeps Nothing numStep (λ m w. Read w 1 (length m)) (λ m. nothing) step-read l
+num-read reading l = again-keeps Nothing (numStep reading) (λ m w. Read w 1 (length m)) (λ m. nothing) (λ N reads m. step-read N reads m reading) l

@@ -9,13 +9,16 @@ use lib.Dec.{leb, ltb, eqb}
 use lib.ListN.{length, drop, length-map, List·getD-map}
 use borrow.Author.Tests.{leb-true, leb-false, ltb-true, le-leb, lt-leb, ne-eqb}
 use Rattle.lexer.specs.Lexemes.{Dash, And, NUM, valueOf}
+use Rattle.lexer.specs.declared.reading.Reading.{Reading}
+use Rattle.lexer.specs.declared.reading.Reading.the-variants.{First, Second}
 use Rattle.numbers.specs.declared.Number.{Number}
 use Rattle.numbers.specs.declared.NumberFound.{NumberFound}
 use Rattle.numbers.specs.declared.NumberFound.the-variants.{Is, Nothing, Overflow}
 use Rattle.numbers.specs.Slices.{get, isAt, within, oneIf}
 use Rattle.numbers.specs.Again.{turns, again}
 use Rattle.numbers.specs.Answers.{number, pick, orElse, andThen, orZero}
-use Rattle.numbers.specs.Numbers.{isEnding, wordOf, literalOf, onesOf, teensOf, tensOf, tensOnesOf, numDoubleOf, sumOf, tailOf, hundredsOf, numTripleOf, numTripleUnitOf, unitsOf, numStep, numOf}
+use Rattle.numbers.specs.Numbers.{isEnding, wordOf, literalOf, literalTokens, onesOf, teensOf, tensOf, tensOnesOf}
+use Rattle.numbers.specs.Numbers.{numDoubleOf, sumOf, tailOf, hundredsOf, numTripleOf, numTripleUnitOf, unitsOf, numStep, numOf}
 use Rattle.numbers.specs.Written.{plain, plainOf, unwritten}
 use Rattle.numbers.proofs.NumberAnswers.{then-same}
 use Rattle.numbers.proofs.NumberBounds.{tens-taken}
@@ -129,9 +132,14 @@ ones-plain : Alike onesOf
 unfolding onesOf
 ones-plain l = simp (get-plain, ending-plain, unwritten-or, word-plain, literal-plain)
 
-teens-plain : Alike teensOf
+-- the lexemes of a literal
+tokens-plain : (reading : Reading) (l : List ℕ) (t : ℕ) → literalTokens reading (plainOf l) t ≡ literalTokens reading l t
+tokens-plain First l t = refl
+tokens-plain Second l t = simp (get-plain, ending-plain)
+
+teens-plain : (reading : Reading) → Alike (teensOf reading)
 unfolding teensOf
-teens-plain l = simp (at-plain, unwritten-or, word-plain, literal-plain)
+teens-plain reading l = simp (at-plain, unwritten-or, word-plain, tokens-plain, literal-plain)
 
 tens-plain : (l : List ℕ) → tensOf (plainOf l) ≡ tensOf l
 unfolding tensOf
@@ -145,9 +153,9 @@ tens-ones-plain l =
     let tokens = n .taken + oneIf (isAt l (n .taken) Dash) in
     unread-plain (λ w. andThen (orZero w) (λ m. number (n .value + m .value) (tokens + m .taken))) (λ m. refl) onesOf ones-plain (drop tokens l)))
 
-double-plain : Alike numDoubleOf
+double-plain : (reading : Reading) → Alike (numDoubleOf reading)
 unfolding numDoubleOf
-double-plain l = simp (unwritten-or, tens-ones-plain, teens-plain, ones-plain, literal-plain)
+double-plain reading l = simp (unwritten-or, tens-ones-plain, teens-plain, ones-plain, tokens-plain, literal-plain)
 
 tail-plain : (N : List ℕ → NumberFound) → Alike N → (l : List ℕ) (head t : ℕ) → tailOf N (plainOf l) head t ≡ tailOf N l head t
 unfolding tailOf sumOf
@@ -156,17 +164,17 @@ tail-plain N alike l head t =
     let tokens = t + oneIf required in
     simp (at-plain, drop-plain) (unread-plain (sumOf required head tokens) (λ a. refl) N alike (drop tokens l))
 
-hundreds-plain : (l : List ℕ) (ones : NumberFound) → hundredsOf (plainOf l) ones ≡ hundredsOf l ones
+hundreds-plain : (reading : Reading) (l : List ℕ) (ones : NumberFound) → hundredsOf reading (plainOf l) ones ≡ hundredsOf reading l ones
 unfolding hundredsOf
-hundreds-plain l ones = simp (at-plain, tail-plain numDoubleOf double-plain)
+hundreds-plain reading l ones = simp (at-plain, tail-plain (numDoubleOf reading) (double-plain reading))
 
-hundreds-unread : (l : List ℕ) → hundredsOf l (onesOf (plainOf l)) ≡ hundredsOf l (onesOf l)
+hundreds-unread : (reading : Reading) (l : List ℕ) → hundredsOf reading l (onesOf (plainOf l)) ≡ hundredsOf reading l (onesOf l)
 unfolding hundredsOf
-hundreds-unread l = unread-plain (hundredsOf l) (λ a. refl) onesOf ones-plain l
+hundreds-unread reading l = unread-plain (hundredsOf reading l) (λ a. refl) onesOf ones-plain l
 
-triple-plain : Alike numTripleOf
+triple-plain : (reading : Reading) → Alike (numTripleOf reading)
 unfolding numTripleOf
-triple-plain l = simp (unwritten-or, hundreds-plain, hundreds-unread, double-plain, get-plain, ending-plain, literal-plain)
+triple-plain reading l = simp (unwritten-or, hundreds-plain, hundreds-unread, double-plain, get-plain, ending-plain, literal-plain)
 
 unit-plain : (l : List ℕ) → numTripleUnitOf (plainOf l) ≡ numTripleUnitOf l
 unfolding numTripleUnitOf
@@ -177,20 +185,21 @@ module _ (N : List ℕ → NumberFound) (alike : Alike N) (l : List ℕ) where
   unfolding unitsOf
   units-plain triple = simp (drop-plain, unit-plain, tail-plain N alike)
 
-  units-unread : unitsOf N l (numTripleOf (plainOf l)) ≡ unitsOf N l (numTripleOf l)
+  units-unread : (reading : Reading) → unitsOf N l (numTripleOf reading (plainOf l)) ≡ unitsOf N l (numTripleOf reading l)
   unfolding unitsOf
-  units-unread = unread-plain (unitsOf N l) (λ a. refl) numTripleOf triple-plain l
+  units-unread reading = unread-plain (unitsOf N l) (λ a. refl) (numTripleOf reading) (triple-plain reading) l
 
-  step-plain : unwritten (numStep N (plainOf l)) ≡ unwritten (numStep N l)
+  step-plain : (reading : Reading) → unwritten (numStep reading N (plainOf l)) ≡ unwritten (numStep reading N l)
   unfolding numStep
-  step-plain = simp (unwritten-or, units-plain, units-unread, triple-plain, literal-plain)
+  step-plain reading = simp (unwritten-or, units-plain, units-unread, triple-plain, tokens-plain, literal-plain)
 
 -- a number's value and the lexemes that it takes do not depend on the runs' digits
-pub num-plain : Alike numOf
+pub num-plain : (reading : Reading) → Alike (numOf reading)
 unfolding numOf
-num-plain l = again-plain Nothing numStep (λ v w. unwritten v ≡ unwritten w) refl step-plain l
+num-plain reading l =
+    again-plain Nothing (numStep reading) (λ v w. unwritten v ≡ unwritten w) refl (λ N alike m. step-plain N alike m reading) l
 
 -- nor does what reads only those of it: `num-unread parsedNumber (λ a. refl)`
 pub num-unread : {B : Type 0} (f : NumberFound → B) → ((a : Number) → f (Is a) ≡ f (number (a .value) (a .taken)))
-    → (l : List ℕ) → f (numOf (plainOf l)) ≡ f (numOf l)
-num-unread f unread l = unread-plain f unread numOf num-plain l
+    → (reading : Reading) (l : List ℕ) → f (numOf reading (plainOf l)) ≡ f (numOf reading l)
+num-unread f unread reading l = unread-plain f unread (numOf reading) (num-plain reading) l

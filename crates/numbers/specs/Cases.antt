@@ -2,7 +2,9 @@
 use mathlib.Core.Path.{_≡_, refl}
 use mathlib.Core.List.{List, [], _∷_, map}
 use Prim.Native.Nat.{ℕ, _+_, _*_}
-use Rattle.lexer.specs.Lexemes.{One, Two, Three, Four, Five, Six, Seven, Nine, Twenty, Sixty, Ninety, Dash, And, Zero, Hundred, Thousand, Million, Billion, RD, TH, NUM}
+use Rattle.lexer.specs.Lexemes.{One, Two, Three, Four, Five, Six, Seven, Nine, Twenty, Sixty, Ninety, Dash, And, Zero, Hundred, Thousand, Million, Billion, ST, ND, RD, TH, NUM}
+use Rattle.lexer.specs.declared.reading.Reading.{Reading}
+use Rattle.lexer.specs.declared.reading.Reading.the-variants.{First, Second}
 use Rattle.numbers.specs.declared.NumberFound.{NumberFound}
 use Rattle.numbers.specs.declared.NumberFound.the-variants.{Nothing, Overflow}
 use Rattle.numbers.specs.Slices.{get, isAt, within}
@@ -31,7 +33,7 @@ nearMAX ones =
 abbrev row : List ℕ → NumberFound → Case
 row l r = record { lexemes = l; reading = r }
 
--- the table
+-- the table of the first reading
 unfoldable pub cases : List Case
 cases =
     -- words
@@ -75,8 +77,25 @@ cases =
     ∷ row (One ∷ Thousand ∷ And ∷ Five ∷ Billion ∷ []) Overflow
     ∷ []
 
--- each row is what `numOf` gives
-pub read-as-listed : map (λ c. numOf (c .lexemes)) cases ≡ map (λ c. c .reading) cases
-unfolding cases get isAt within isEnding wordOf literalOf onesOf teensOf tensOf tensOnesOf numDoubleOf sumOf tailOf hundredsOf
+-- the endings of the second reading: any behind a literal, and behind a word those of the first
+unfoldable pub endings : List Case
+endings =
+    row (Num 1 4 ∷ RD ∷ []) (written 4 1 2)
+    ∷ row (Num 2 12 ∷ ST ∷ []) (written 12 2 2)
+    ∷ row (Num 2 12 ∷ TH ∷ []) (written 12 2 2)
+    ∷ row (Num 2 24 ∷ TH ∷ []) (written 24 2 2)
+    ∷ row (Num 3 100 ∷ TH ∷ []) (written 100 3 2)
+    ∷ row (Num 4 1000 ∷ TH ∷ []) (written 1000 4 2)
+    ∷ row (Num 4 2027 ∷ ND ∷ []) (written 2027 4 2)
+    ∷ row (Twenty ∷ RD ∷ []) (number 20 1)
+    ∷ row (Twenty ∷ TH ∷ []) (number 20 2)
+    ∷ []
+
+-- each row of a table is what `numOf` gives in a reading
+abbrev Listed : Reading → List Case → Type 0
+Listed reading rows = map (λ c. numOf reading (c .lexemes)) rows ≡ map (λ c. c .reading) rows
+
+pub read-as-listed : Listed First cases × Listed Second endings
+unfolding cases endings get isAt within isEnding wordOf literalOf onesOf teensOf tensOf tensOnesOf numDoubleOf sumOf tailOf hundredsOf
     numTripleOf numTripleUnitOf fitsOf unitsOf numStep turns again numOf
-read-as-listed = refl
+read-as-listed = (refl, refl)

@@ -1,4 +1,4 @@
--- The number readers of ast.rs, `Ones` to `Num`: the same alternatives in the same order, on a list of lexemes.
+-- The number readers of ast.rs, `Ones` to `Num`: the same alternatives in the same order, on a list of lexemes, under either reading.
 use Prim.Native.Nat.{ℕ, _+_, _*_, _%_}
 use mathlib.Core.Bool.{Bool, _&&_, _||_}
 use mathlib.Core.List.{List}
@@ -7,6 +7,8 @@ use lib.ListN.{drop}
 use Rattle.lexer.specs.Lexemes.{One, Nine, Ten, Nineteen, Twenty, Ninety, Dash, And, Hundred, Thousand, Million, Billion, ST, ND, RD, TH, NUM, valueOf, digitsOf}
 use Rattle.numbers.specs.declared.NumberFound.{NumberFound}
 use Rattle.numbers.specs.declared.NumberFound.the-variants.{Is, Nothing, Overflow}
+use Rattle.lexer.specs.declared.reading.Reading.{Reading}
+use Rattle.lexer.specs.declared.reading.Reading.the-variants.{First, Second}
 use Rattle.numbers.specs.Again.{again}
 use Rattle.numbers.specs.Slices.{get, within, isAt, oneIf}
 use Rattle.numbers.specs.Answers.{MAX, number, written, pick, orElse, andThen, orZero, fitsOf}
@@ -29,6 +31,11 @@ literalOf l lo hi tokens =
     let x = get l 0 in
     pick (leb NUM x && within lo (valueOf x) hi) (written (valueOf x) (digitsOf x) tokens) Nothing
 
+-- the lexemes of a literal that takes so many in the Rust; in the second reading "every digit number may be followed by any suffix"
+abbrev pub literalTokens : Reading → List ℕ → ℕ → ℕ
+literalTokens First l tokens = tokens
+literalTokens Second l tokens = 1 + oneIf (isEnding (get l 1))
+
 -- `Ones::parse`: `One` to `Nine` or a literal below 10, with an ordinal's ending
 unfoldable pub onesOf : List ℕ → NumberFound
 onesOf l =
@@ -36,10 +43,10 @@ onesOf l =
     orElse (wordOf l One Nine tokens) (literalOf l 0 9 tokens)
 
 -- `Teens::parse`: `Ten` to `Nineteen` or a literal from 10 to 19, with a `TH`
-unfoldable pub teensOf : List ℕ → NumberFound
-teensOf l =
+unfoldable pub teensOf : Reading → List ℕ → NumberFound
+teensOf reading l =
     let tokens = 1 + oneIf (isAt l 1 TH) in
-    orElse (wordOf l Ten Nineteen tokens) (literalOf l 10 19 tokens)
+    orElse (wordOf l Ten Nineteen tokens) (literalOf l 10 19 (literalTokens reading l tokens))
 
 -- `Tens::parse`: `Twenty`, `Thirty` .. `Ninety`, with a `TH`; no literal
 unfoldable pub tensOf : List ℕ → NumberFound
@@ -54,9 +61,9 @@ tensOnesOf l =
     let tokens = tens .taken + oneIf (isAt l (tens .taken) Dash) in
     andThen (orZero (onesOf (drop tokens l))) (λ ones. number (tens .value + ones .value) (tokens + ones .taken)))
 
--- `NumDouble::parse`; its own literal, from 20 to 99, has no ending
-unfoldable pub numDoubleOf : List ℕ → NumberFound
-numDoubleOf l = orElse (tensOnesOf l) (orElse (teensOf l) (orElse (onesOf l) (literalOf l 20 99 1)))
+-- `NumDouble::parse`; its own literal, from 20 to 99, has no ending in the Rust
+unfoldable pub numDoubleOf : Reading → List ℕ → NumberFound
+numDoubleOf reading l = orElse (tensOnesOf l) (orElse (teensOf reading l) (orElse (onesOf l) (literalOf l 20 99 (literalTokens reading l 1))))
 
 -- `if !required || num.is_some()`: only then is the sum made and tested, with `num.unwrap_or((0, 0))`; else the alternative is given up
 unfoldable pub sumOf : Bool → ℕ → ℕ → NumberFound → NumberFound
@@ -72,16 +79,16 @@ tailOf N l head t =
     sumOf required head tokens (N (drop tokens l))
 
 -- `<ones> hundred [[and] <num_double>]`
-unfoldable pub hundredsOf : List ℕ → NumberFound → NumberFound
-hundredsOf l ones =
-    andThen ones (λ ones. pick (isAt l (ones .taken) Hundred) (tailOf numDoubleOf l (ones .value * 100) (ones .taken + 1)) Nothing)
+unfoldable pub hundredsOf : Reading → List ℕ → NumberFound → NumberFound
+hundredsOf reading l ones =
+    andThen ones (λ ones. pick (isAt l (ones .taken) Hundred) (tailOf (numDoubleOf reading) l (ones .value * 100) (ones .taken + 1)) Nothing)
 
 -- `NumTriple::parse`; a `hundred` with no ones before it is one hundred
-unfoldable pub numTripleOf : List ℕ → NumberFound
-numTripleOf l =
-    orElse (hundredsOf l (onesOf l))
-    (orElse (hundredsOf l (number 1 0))
-    (orElse (numDoubleOf l)
+unfoldable pub numTripleOf : Reading → List ℕ → NumberFound
+numTripleOf reading l =
+    orElse (hundredsOf reading l (onesOf l))
+    (orElse (hundredsOf reading l (number 1 0))
+    (orElse (numDoubleOf reading l)
     (literalOf l 100 999 (1 + oneIf (isEnding (get l 1))))))
 
 -- `NumTripleUnit::parse`
@@ -101,13 +108,13 @@ unitsOf N l triple =
     tailOf N l (triple .value * unit .value) (triple .taken + unit .taken)))
 
 -- `Num::parse`, with N for the number that begins again; a unit with no triple before it counts once
-unfoldable pub numStep : (List ℕ → NumberFound) → List ℕ → NumberFound
-numStep N l =
-    orElse (unitsOf N l (numTripleOf l))
+unfoldable pub numStep : Reading → (List ℕ → NumberFound) → List ℕ → NumberFound
+numStep reading N l =
+    orElse (unitsOf N l (numTripleOf reading l))
     (orElse (unitsOf N l (number 1 0))
-    (orElse (numTripleOf l)
-    (literalOf l 1000 MAX 1)))
+    (orElse (numTripleOf reading l)
+    (literalOf l 1000 MAX (literalTokens reading l 1))))
 
--- `Num::parse`, which calls itself behind a unit word (`num-is`: numOf l ≡ numStep numOf l)
-unfoldable pub numOf : List ℕ → NumberFound
-numOf l = again Nothing numStep l
+-- `Num::parse`, which calls itself behind a unit word (`num-is`: numOf reading l ≡ numStep reading (numOf reading) l)
+unfoldable pub numOf : Reading → List ℕ → NumberFound
+numOf reading l = again Nothing (numStep reading) l

@@ -4,7 +4,8 @@ ghost use Prim.Native.Nat.{_+_, _≤_, _<_, max};
 ghost use lib.ListN.{length};
 ghost use Rattle.numbers.specs.Slices.{get, oneIf};
 ghost use Rattle.numbers.specs.Answers.{MAX, USIZE, Taken, Read, number, written, orElse, takenOf, fitsOf};
-ghost use Rattle.numbers.specs.Numbers.{isEnding, beginsNumber, wordOf, literalOf, onesOf, teensOf, tensOf, tensOnesOf, numDoubleOf, sumOf, hundredsOf, numTripleOf, numTripleUnitOf, unitsOf, numOf};
+ghost use Rattle.numbers.specs.Numbers.{isEnding, beginsNumber, wordOf, literalOf, literalTokens, onesOf, teensOf, tensOf, tensOnesOf};
+ghost use Rattle.numbers.specs.Numbers.{numDoubleOf, sumOf, hundredsOf, numTripleOf, numTripleUnitOf, unitsOf, numOf};
 use lexer::lexeme::AND;
 use lexer::lexeme::BILLION;
 use lexer::lexeme::DASH;
@@ -16,6 +17,7 @@ use lexer::lexeme::RD;
 use lexer::lexeme::ST;
 use lexer::lexeme::TH;
 use lexer::lexeme::THOUSAND;
+use lexer::reading::Reading;
 use slices::get;
 use slices::is_at;
 use slices::is_within;
@@ -110,6 +112,16 @@ fn literal(l: &[u64], lo: u32, hi: u32, tokens: usize) -> NumberFound
     NumberFound::Nothing
 }
 
+// The lexemes of a literal that takes so many in the first reading: in the second any ending may follow it.
+fn literal_tokens(reading: Reading, l: &[u64], tokens: usize) -> usize
+    ensures { λ r. ⌜ r ≡ literalTokens reading (now (l .entry)) tokens ⌝ }
+{
+    match reading {
+        Reading::First => tokens,
+        Reading::Second => 1 + take_ending(l, 1),
+    }
+}
+
 // A number word from `first` to `last`, or a literal from lo to hi.
 fn word_or_literal(l: &[u64], first: u32, last: u32, lo: u32, hi: u32, tokens: usize) -> NumberFound
     ensures { λ r. ⌜ r ≡ orElse (wordOf (now (l .entry)) first last tokens) (literalOf (now (l .entry)) lo hi tokens) ⌝ }
@@ -130,11 +142,16 @@ fn ones(l: &[u64]) -> NumberFound
 }
 
 // `Teens::parse`
-fn teens(l: &[u64]) -> NumberFound
-    ensures { λ r. ⌜ r ≡ teensOf (now (l .entry)) ⌝ }
+fn teens(reading: Reading, l: &[u64]) -> NumberFound
+    ensures { λ r. ⌜ r ≡ teensOf reading (now (l .entry)) ⌝ }
     ensures { λ r. ⌜ Taken r 1 19 (length (now (l .entry))) ⌝ }
 {
-    word_or_literal(l, 10, 19, 10, 19, 1 + take_if(l, 1, TH))
+    let tokens = 1 + take_if(l, 1, TH);
+    let a = word(l, 10, 19, tokens);
+    let NumberFound::Nothing = a else {
+        return a;
+    };
+    literal(l, 10, 19, literal_tokens(reading, l, tokens))
 }
 
 // `Tens::parse`
@@ -169,15 +186,15 @@ fn tens_ones(l: &[u64]) -> NumberFound
 }
 
 // `NumDouble::parse`
-fn num_double(l: &[u64]) -> NumberFound
-    ensures { λ r. ⌜ r ≡ numDoubleOf (now (l .entry)) ⌝ }
+fn num_double(reading: Reading, l: &[u64]) -> NumberFound
+    ensures { λ r. ⌜ r ≡ numDoubleOf reading (now (l .entry)) ⌝ }
     ensures { λ r. ⌜ Taken r 1 99 (length (now (l .entry))) ⌝ }
 {
     let a = tens_ones(l);
     let NumberFound::Nothing = a else {
         return a;
     };
-    let b = teens(l);
+    let b = teens(reading, l);
     let NumberFound::Nothing = b else {
         return b;
     };
@@ -185,7 +202,7 @@ fn num_double(l: &[u64]) -> NumberFound
     let NumberFound::Nothing = c else {
         return c;
     };
-    literal(l, 20, 99, 1)
+    literal(l, 20, 99, literal_tokens(reading, l, 1))
 }
 
 // A value that passes the largest u32 is an overflow.
@@ -218,9 +235,9 @@ fn sum(required: bool, head: u64, tokens: usize, num: NumberFound) -> NumberFoun
 }
 
 // `<ones> hundred [[and] <num_double>]` for the ones that were read.
-fn hundreds(l: &[u64], ones: NumberFound) -> NumberFound
+fn hundreds(reading: Reading, l: &[u64], ones: NumberFound) -> NumberFound
     requires { ⌜ Taken ones 0 9 (length (now l)) ⌝ }
-    ensures { λ r. ⌜ r ≡ hundredsOf (now (l .entry)) ones ⌝ }
+    ensures { λ r. ⌜ r ≡ hundredsOf reading (now (l .entry)) ones ⌝ }
     ensures { λ r. ⌜ Taken r 1 999 (length (now (l .entry))) ⌝ }
 {
     let NumberFound::Is(n) = ones else {
@@ -231,7 +248,7 @@ fn hundreds(l: &[u64], ones: NumberFound) -> NumberFound
         let s = n.taken + 1;
         let required = is_at(l, s, AND);
         let tokens = s + one_if(required);
-        return sum(required, head, tokens, num_double(rest(l, tokens)));
+        return sum(required, head, tokens, num_double(reading, rest(l, tokens)));
     }
     NumberFound::Nothing
 }
@@ -244,19 +261,19 @@ fn literal_hundreds(l: &[u64]) -> NumberFound
 }
 
 // `NumTriple::parse`
-fn num_triple(l: &[u64]) -> NumberFound
-    ensures { λ r. ⌜ r ≡ numTripleOf (now (l .entry)) ⌝ }
+fn num_triple(reading: Reading, l: &[u64]) -> NumberFound
+    ensures { λ r. ⌜ r ≡ numTripleOf reading (now (l .entry)) ⌝ }
     ensures { λ r. ⌜ Taken r 1 999 (length (now (l .entry))) ⌝ }
 {
-    let a = hundreds(l, ones(l));
+    let a = hundreds(reading, l, ones(l));
     let NumberFound::Nothing = a else {
         return a;
     };
-    let b = hundreds(l, found(1, 0));
+    let b = hundreds(reading, l, found(1, 0));
     let NumberFound::Nothing = b else {
         return b;
     };
-    let c = num_double(l);
+    let c = num_double(reading, l);
     let NumberFound::Nothing = c else {
         return c;
     };
@@ -281,9 +298,9 @@ fn num_triple_unit(l: &[u64]) -> NumberFound
 }
 
 // `<num_triple> <num_triple_unit> [[and] <num>]` for the triple that was read: the tail behind it, in which a number begins again.
-fn units(l: &[u64], triple: NumberFound) -> NumberFound
+fn units(reading: Reading, l: &[u64], triple: NumberFound) -> NumberFound
     requires { ⌜ Taken triple 0 999 (length (now l)) ⌝ }
-    ensures { λ r. ⌜ r ≡ unitsOf numOf (now (l .entry)) triple ⌝ }
+    ensures { λ r. ⌜ r ≡ unitsOf (numOf reading) (now (l .entry)) triple ⌝ }
     ensures { λ r. ⌜ Read r 1 (length (now (l .entry))) ⌝ }
 {
     let NumberFound::Is(n) = triple else {
@@ -296,7 +313,7 @@ fn units(l: &[u64], triple: NumberFound) -> NumberFound
     let s = n.taken + unit.taken;
     let required = is_at(l, s, AND);
     let tokens = s + one_if(required);
-    sum(required, head, tokens, whole(rest(l, tokens)))
+    sum(required, head, tokens, whole(reading, rest(l, tokens)))
 }
 
 // Does a number begin with the first lexeme? Tested in the order of the codes.
@@ -314,47 +331,47 @@ fn begins_number(l: &[u64]) -> bool
 }
 
 // `Num::parse`, each alternative; the triple is read once for both that begin with it.
-fn whole(l: &[u64]) -> NumberFound
-    ensures { λ r. ⌜ r ≡ numOf (now (l .entry)) ⌝ }
+fn whole(reading: Reading, l: &[u64]) -> NumberFound
+    ensures { λ r. ⌜ r ≡ numOf reading (now (l .entry)) ⌝ }
     ensures { λ r. ⌜ Read r 1 (length (now (l .entry))) ⌝ }
 {
-    let triple = num_triple(l);
-    let scaled = units(l, triple);
+    let triple = num_triple(reading, l);
+    let scaled = units(reading, l, triple);
     let NumberFound::Nothing = scaled else {
         return scaled;
     };
-    let unit = units(l, found(1, 0));
+    let unit = units(reading, l, found(1, 0));
     let NumberFound::Nothing = unit else {
         return unit;
     };
     let NumberFound::Nothing = triple else {
         return triple;
     };
-    literal(l, 1000, MAX, 1)
+    literal(l, 1000, MAX, literal_tokens(reading, l, 1))
 }
 
 // A literal, or a word up to nineteen, is the number where behind it stands no lexeme from `HUNDRED` to `TH`, which could belong to it.
-fn begun(l: &[u64]) -> NumberFound
-    ensures { λ r. ⌜ r ≡ numOf (now (l .entry)) ⌝ }
+fn begun(reading: Reading, l: &[u64]) -> NumberFound
+    ensures { λ r. ⌜ r ≡ numOf reading (now (l .entry)) ⌝ }
     ensures { λ r. ⌜ Read r 1 (length (now (l .entry))) ⌝ }
 {
     if is_within(HUNDRED, get(l, 1), TH) {
-        return whole(l);
+        return whole(reading, l);
     }
     let alone = word_or_literal(l, 1, 19, 0, MAX, 1);
     let NumberFound::Nothing = alone else {
         return alone;
     };
-    whole(l)
+    whole(reading, l)
 }
 
 // `Num::parse`; no alternative is tried where no number begins.
-pub fn num(l: &[u64]) -> NumberFound
-    ensures { λ r. ⌜ r ≡ numOf (now (l .entry)) ⌝ }
+pub fn num(reading: Reading, l: &[u64]) -> NumberFound
+    ensures { λ r. ⌜ r ≡ numOf reading (now (l .entry)) ⌝ }
     ensures { λ r. ⌜ Read r 1 (length (now (l .entry))) ⌝ }
 {
     if begins_number(l) {
-        return begun(l);
+        return begun(reading, l);
     }
     NumberFound::Nothing
 }

@@ -46,14 +46,14 @@ pub record Gathering (reading : Reading) (l : List ℕ) (k : Count) (o : Outline
   pub room : 3 * ps .n + length l ≤ 64 + at
   pub few : i ≤ ps .n
 
--- the same under every reading that has this outline: the loop itself has no reading
-abbrev pub Gathers : List ℕ → ℕ → Outline → Parts → List Link → ℕ → ℕ → Type 0
-Gathers l n o ps ks i at = (reading : Reading) → let w = kept n (dateTimeOf reading l) in
-    o ≡ outlineAnswer reading l w → Gathering reading l (countOf w) o (chainOf (treeIn w)) ps ks i at
+-- the same of what is kept of a reading of l
+abbrev pub Gathers : Reading → List ℕ → ℕ → Outline → Parts → List Link → ℕ → ℕ → Type 0
+Gathers reading l n o ps ks i at = let w = kept n (dateTimeOf reading l) in Gathering reading l (countOf w) o (chainOf (treeIn w)) ps ks i at
 
 -- nothing yet
-pub begin : (l : List ℕ) (n : ℕ) {o : Outline} → length l ≤ 64 → Gathers l n o (blank .parts) (blank .links) 0 0
-begin l n h reading answer =
+pub begin : (reading : Reading) (l : List ℕ) (n : ℕ) {o : Outline} → length l ≤ 64 → o ≡ outlineAnswer reading l (kept n (dateTimeOf reading l))
+    → Gathers reading l n o (blank .parts) (blank .links) 0 0
+begin reading l n h answer =
     record {
       left = treeIn (kept n (dateTimeOf reading l));
       stands = go (dateTimeOf reading l) (date-time-holds reading l);
@@ -88,7 +88,7 @@ link-left reading (durationBefore dur x) k i l h = record { back = true; duratio
 link-left reading now k i l h = absurd (omega arith)
 
 around-stood : (reading : Reading) (back : Bool) (dur : Duration) (x : DateTime) (l : List ℕ) → TreeStands reading l (around back dur x) →
-    LinkStands l back dur (linkTaken l) × (linkTaken l ≤ length l) × TreeStands reading (drop (linkTaken l) l) x
+    LinkStands reading l back dur (linkTaken reading l) × (linkTaken reading l ≤ length l) × TreeStands reading (drop (linkTaken reading l) l) x
 around-stood reading true dur x l h = h
 around-stood reading false dur x l h = h
 
@@ -100,18 +100,18 @@ around-chain false dur x r = refl
 module _ {reading : Reading} {l : List ℕ} {k : Count} {o : Outline} {goal : Chain} {ps : Parts} {ks : List Link} {i at : ℕ}
     (g : Gathering reading l k o goal ps ks i at) where
   -- one link more, with the row x that its duration gave, and its direction
-  pub one-link : i < o .m → {x : Rowed} {back : Bool} {m : List ℕ} → m ≡ drop at l → x ≡ rowed ps (durationOf m) → back ≡ isBack m (x .end) →
+  pub one-link : i < o .m → {x : Rowed} {back : Bool} {m : List ℕ} → m ≡ drop at l → x ≡ rowed ps (durationOf reading m) → back ≡ isBack m (x .end) →
       Gathering reading l k o goal (x .parts) (set ks i (record { back = back; from = ps .n; to = x .parts .n })) (i + 1) (at + x .end + 1)
   one-link more here row direction =
       let x = link-left reading (g .left) k i (drop at l) (rw (g .outlined) more) in
       let s = around-stood reading (x .back) (x .duration) (x .inner) (drop at l) (rw (x .same) at (g .stands)) in
-      let b = duration-bounds (drop at l) (s .0 .reading) in
+      let b = duration-bounds reading (drop at l) (s .0 .reading) in
       let n = into-n (x .duration) ps in
       let p = some (x .duration) in
       let lexemes = length-drop at l in
       let one = s .0 .one in
-      let same : at + linkTaken (drop at l) ≡ at + s .0 .taken + 1 = omega arith in
-      let there = rw same at (drop-drop (linkTaken (drop at l)) at l) in
+      let same : at + linkTaken reading (drop at l) ≡ at + s .0 .taken + 1 = omega arith in
+      let there = rw same at (drop-drop (linkTaken reading (drop at l)) at l) in
       rw (direction, row, here, s .0 .reading, s .0 .direction) (record {
         left = x .inner;
         stands = rw there at (s .2);
@@ -123,36 +123,37 @@ module _ {reading : Reading} {l : List ℕ} {k : Count} {o : Outline} {goal : Ch
       })
 
 -- the parts of a date expression's duration are those at its place
-own-into : (x : DateExpr) (l : List ℕ) (ps : Parts) → OwnStands (ownOf x) l → cond (hasDuration (shape x)) (rowed ps (durationOf l) .parts) ps ≡ intoExpr x ps
-own-into (date d) l ps h = refl
-own-into (dateRelative d s u) l ps h = refl
-own-into (dateExpressionAfter d dur) l ps h = rw (h .reading)
-own-into (dateExpressionBefore d dur) l ps h = rw (h .reading)
-own-into (unitRelative s u) l ps h = refl
-own-into (relativeWeekday s w) l ps h = refl
-own-into (weekdayRelative w s u) l ps h = refl
-own-into (weekdayExpressionBefore w dur) l ps h = rw (h .reading)
-own-into (weekdayExpressionAfter w dur) l ps h = rw (h .reading)
-own-into (before dur d) l ps h = rw (h .reading)
-own-into (after dur d) l ps h = rw (h .reading)
-own-into (weekday w) l ps h = refl
-own-into empty l ps h = refl
+own-into : (reading : Reading) (x : DateExpr) (l : List ℕ) (ps : Parts) → OwnStands reading (ownOf x) l →
+    cond (hasDuration (shape x)) (rowed ps (durationOf reading l) .parts) ps ≡ intoExpr x ps
+own-into reading (date d) l ps h = refl
+own-into reading (dateRelative d s u) l ps h = refl
+own-into reading (dateExpressionAfter d dur) l ps h = rw (h .reading)
+own-into reading (dateExpressionBefore d dur) l ps h = rw (h .reading)
+own-into reading (unitRelative s u) l ps h = refl
+own-into reading (relativeWeekday s w) l ps h = refl
+own-into reading (weekdayRelative w s u) l ps h = refl
+own-into reading (weekdayExpressionBefore w dur) l ps h = rw (h .reading)
+own-into reading (weekdayExpressionAfter w dur) l ps h = rw (h .reading)
+own-into reading (before dur d) l ps h = rw (h .reading)
+own-into reading (after dur d) l ps h = rw (h .reading)
+own-into reading (weekday w) l ps h = refl
+own-into reading empty l ps h = refl
 
 -- the links of an outline are those in front and those of the tree
 links-most : (reading : Reading) (x : DateTime) (k : Count) (i : ℕ) (l : List ℕ) → i ≤ outline reading k i l x .m
 links-most reading (dateTime e t) k i l = omega arith
 links-most reading (timeDate t e) k i l = omega arith
-links-most reading (durationAfter dur x) k i l = let h = links-most reading x k (i + 1) (drop (linkTaken l) l) in omega arith
-links-most reading (durationBefore dur x) k i l = let h = links-most reading x k (i + 1) (drop (linkTaken l) l) in omega arith
+links-most reading (durationAfter dur x) k i l = let h = links-most reading x k (i + 1) (drop (linkTaken reading l) l) in omega arith
+links-most reading (durationBefore dur x) k i l = let h = links-most reading x k (i + 1) (drop (linkTaken reading l) l) in omega arith
 links-most reading now k i l = omega arith
 
 -- with no link left, the base and its own duration's parts are all
-pub record Based (l : List ℕ) (k : Count) (o : Outline) (goal : Chain) (ps : Parts) (ks : List Link) (i at : ℕ) : Type 0 where
+pub record Based (r : Reading) (l : List ℕ) (k : Count) (o : Outline) (goal : Chain) (ps : Parts) (ks : List Link) (i at : ℕ) : Type 0 where
   pub reading :
       record {
         base = o .base;
         time = o .time;
-        parts = withOwn (o .base) (drop (at + o .own) l) ps;
+        parts = withOwn r (o .base) (drop (at + o .own) l) ps;
         own = ps .n;
         m = o .m;
         links = ks;
@@ -161,28 +162,28 @@ pub record Based (l : List ℕ) (k : Count) (o : Outline) (goal : Chain) (ps : P
   pub within : at + o .own ≤ length l
   pub links : o .m ≡ i
 
-module _ {l : List ℕ} {k : Count} {o : Outline} {goal : Chain} {ps : Parts} {ks : List Link} {i at : ℕ} where
-  pub base-left : {reading : Reading} → Gathering reading l k o goal ps ks i at → o .m ≤ i → Based l k o goal ps ks i at
-  base-left {reading} g done = rw (← (g .outlined)) (go (g .left) (g .stands) (g .flattened) (rw (← (g .outlined)) at done))
+module _ {reading : Reading} {l : List ℕ} {k : Count} {o : Outline} {goal : Chain} {ps : Parts} {ks : List Link} {i at : ℕ} where
+  pub base-left : Gathering reading l k o goal ps ks i at → o .m ≤ i → Based reading l k o goal ps ks i at
+  base-left g done = rw (← (g .outlined)) (go (g .left) (g .stands) (g .flattened) (rw (← (g .outlined)) at done))
     where
-      own : (e : DateExpr) (p : ℕ) → OwnStands (ownOf e) (drop p (drop at l)) →
-          cond (hasDuration (shape e)) (rowed ps (durationOf (drop (at + p) l)) .parts) ps ≡ intoExpr e ps
-      own e p h = own-into e (drop (at + p) l) ps (rw (drop-drop p at l) at h)
+      own : (e : DateExpr) (p : ℕ) → OwnStands reading (ownOf e) (drop p (drop at l)) →
+          cond (hasDuration (shape e)) (rowed ps (durationOf reading (drop (at + p) l)) .parts) ps ≡ intoExpr e ps
+      own e p h = own-into reading e (drop (at + p) l) ps (rw (drop-drop p at l) at h)
 
       go : (x : DateTime) → TreeStands reading (drop at l) x → chainFrom (held ps ks i) x ≡ goal → outline reading k i (drop at l) x .m ≤ i →
-          Based l k (outline reading k i (drop at l) x) goal ps ks i at
+          Based reading l k (outline reading k i (drop at l) x) goal ps ks i at
       go (dateTime e t) s f d =
           let left = length-drop at l in
           record { reading = rw (own e _ (s .stands)) f; count = refl; within = omega arith; links = refl }
       go (timeDate t e) s f d =
           let left = length-drop at l in
           record { reading = rw (own e _ (s .stands)) f; count = refl; within = omega arith; links = refl }
-      go (durationAfter dur x) s f d = let h = links-most reading x k (i + 1) (drop (linkTaken (drop at l)) (drop at l)) in absurd (omega arith)
-      go (durationBefore dur x) s f d = let h = links-most reading x k (i + 1) (drop (linkTaken (drop at l)) (drop at l)) in absurd (omega arith)
+      go (durationAfter dur x) s f d = let h = links-most reading x k (i + 1) (drop (linkTaken reading (drop at l)) (drop at l)) in absurd (omega arith)
+      go (durationBefore dur x) s f d = let h = links-most reading x k (i + 1) (drop (linkTaken reading (drop at l)) (drop at l)) in absurd (omega arith)
       go now s f d = record { reading = f; count = refl; within = omega arith; links = refl }
 
   -- and so the whole is gathered
-  pub all-gathered : Based l k o goal ps ks i at → {all : Parts} {m : List ℕ} → m ≡ drop (at + o .own) l → all ≡ withOwn (o .base) m ps →
+  pub all-gathered : Based reading l k o goal ps ks i at → {all : Parts} {m : List ℕ} → m ≡ drop (at + o .own) l → all ≡ withOwn reading (o .base) m ps →
       _≡_ {A = Gathered}
       (record {
         chain = record { base = o .base; time = o .time; parts = all; own = ps .n; m = o .m; links = ks };

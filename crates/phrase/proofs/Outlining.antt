@@ -93,7 +93,7 @@ whole-outline reading (durationBefore dur x) h l k j m n = absurd h
 whole-outline reading now h l k j m n = refl
 
 pub around-outline : (reading : Reading) (back : Bool) (dur : Duration) (x : DateTime) (k : Count) (m : ℕ) (l : List ℕ) →
-    outline reading k m l (around back dur x) ≡ outline reading k (m + 1) (drop (linkTaken l) l) x
+    outline reading k m l (around back dur x) ≡ outline reading k (m + 1) (drop (linkTaken reading l) l) x
 around-outline reading true dur x k m l = refl
 around-outline reading false dur x k m l = refl
 
@@ -113,7 +113,7 @@ module _ {reading : Reading} {l : List ℕ} {at m : ℕ} (g : Turning reading l 
   abbrev left : List ℕ
   left = drop at l
 
-  behind : (back : Bool) (dur : Duration) (t : ℕ) → linkTaken left ≡ t → (w : Parsed DateTime) →
+  behind : (back : Bool) (dur : Duration) (t : ℕ) → linkTaken reading left ≡ t → (w : Parsed DateTime) →
       linked reading m at left (andThen w (λ x u. is (around back dur x) (t + u))) ≡ linked reading (m + 1) (at + t) (drop t left) w
   behind back dur t e (is x u) =
       let same : at + (t + u) ≡ at + t + u = omega arith in
@@ -148,8 +148,8 @@ module _ {reading : Reading} {l : List ℕ} {at m : ℕ} (g : Turning reading l 
 outline-count : (reading : Reading) (x : DateTime) (k : Count) (m : ℕ) (l : List ℕ) → outline reading k m l x .taken ≡ k
 outline-count reading (dateTime e t) k m l = refl
 outline-count reading (timeDate t e) k m l = refl
-outline-count reading (durationAfter dur x) k m l = outline-count reading x k (m + 1) (drop (linkTaken l) l)
-outline-count reading (durationBefore dur x) k m l = outline-count reading x k (m + 1) (drop (linkTaken l) l)
+outline-count reading (durationAfter dur x) k m l = outline-count reading x k (m + 1) (drop (linkTaken reading l) l)
+outline-count reading (durationBefore dur x) k m l = outline-count reading x k (m + 1) (drop (linkTaken reading l) l)
 outline-count reading now k m l = refl
 
 pub counted : (reading : Reading) (l : List ℕ) (w : Parsed DateTime) {o : Outline} → o ≡ outlineAnswer reading l w → o .taken ≡ countOf w
@@ -199,7 +199,7 @@ timedAnswer time s (IsExpr x u p) = Whole (Timed x) time (s + p) (s + u)
 timedAnswer time s NoExpr = Whole (Timed NoDate) time s s
 timedAnswer time s ExprOverflow = TurnOverflow
 
-timed-is : (reading : Reading) (l m : List ℕ) {time : Time} {t : ℕ} → timeOf l ≡ is time t → m ≡ drop (commaOr l t lexeme.On) l →
+timed-is : (reading : Reading) (l m : List ℕ) {time : Time} {t : ℕ} → timeOf reading l ≡ is time t → m ≡ drop (commaOr l t lexeme.On) l →
     turnAnswer reading l (timedTurnOf reading l) ≡ timedAnswer time (commaOr l t lexeme.On) (exprAnswer reading m (dateExprOf reading m))
 unfolding timedTurnOf
 timed-is reading l m {time} {t} e same = rw (same, e) (go (dateExprOf reading (drop (commaOr l t lexeme.On) l)))
@@ -213,7 +213,7 @@ timed-is reading l m {time} {t} e same = rw (same, e) (go (dateExprOf reading (d
 
 -- the same by what the code learns on its way
 pub timed-turn : (reading : Reading) (l : List ℕ) {w : TimeFound} {time : Time} {t c : ℕ} {m : List ℕ} {r z : ExprTaken} →
-    parsedTime w ≡ timeOf l → w ≡ IsTime time t → c ≡ oneIf (isAt l t lexeme.Comma || isAt l t lexeme.On) → m ≡ drop (t + c) l →
+    parsedTime w ≡ timeOf reading l → w ≡ IsTime time t → c ≡ oneIf (isAt l t lexeme.Comma || isAt l t lexeme.On) → m ≡ drop (t + c) l →
     r ≡ exprAnswer reading m (dateExprOf reading m) → r ≡ z → timedAnswer time (t + c) z ≡ turnAnswer reading l (timedTurnOf reading l)
 timed-turn reading l {m = m} answer e comma here expr f =
     let time = rw (e) at (sym answer) in
@@ -235,7 +235,7 @@ time-stopped reading x p w k e = rw (← e) (go w k)
     go TimeOverflow k = refl
 
 abbrev datedAnswer : Reading → List ℕ → ExprTaken → TurnTaken
-datedAnswer reading l (IsExpr x t p) = timeAnswer x p (timeBehindOf t l)
+datedAnswer reading l (IsExpr x t p) = timeAnswer x p (timeBehindOf reading t l)
 datedAnswer reading l NoExpr = turnAnswer reading l (undatedTurnOf reading l)
 datedAnswer reading l ExprOverflow = TurnOverflow
 
@@ -250,8 +250,8 @@ dated-turn reading l test e expr f = rw (← f, expr, ← test, e) (sym (go (dat
     dated x overflow = refl
 
     go : (w : Parsed DateExpr) →
-        turnAnswer reading l (ifLet w (λ x t. andThen (timeBehindOf t l) (λ time n. is (whole (dateTime x time)) n)) (undatedTurnOf reading l))
+        turnAnswer reading l (ifLet w (λ x t. andThen (timeBehindOf reading t l) (λ time n. is (whole (dateTime x time)) n)) (undatedTurnOf reading l))
         ≡ datedAnswer reading l (exprAnswer reading l w)
-    go (is x t) = dated x (timeBehindOf t l)
+    go (is x t) = dated x (timeBehindOf reading t l)
     go nothing = refl
     go overflow = refl

@@ -11,7 +11,7 @@ use borrow.Author.Tests.{ltb-true, ltb-false, ne-eqb}
 use Rattle.refusals.specs.Table as table
 use Rattle.refusals.specs.Answers.{given, refused, refusalAt, refuse, andThen}
 use Rattle.refusals.proofs.Holds.{Holds, of-given, of-refusal, Bounded, number-zero, number-other}
-use Rattle.lexer.specs.Keywords.{keywords}
+use Rattle.lexer.specs.Keywords.{wordsIn}
 use Rattle.lexer.specs.Lex.{Item, Lexed, lexed, front, codesOf, startsOf, endedOf}
 use Rattle.lexer.specs.declared.lex.Ended.{Ended}
 use Rattle.lexer.specs.declared.reading.Reading.{Reading}
@@ -68,12 +68,12 @@ kept-count n nothing = refl
 kept-count n overflow = refl
 
 -- the codes of what `lex` answers to a phrase and stores are as many as the lexemes, and there is room for them
-pub codes-stored : (s : List ℕ) {line : Ended} {codes : List ℕ} → line ≡ endedOf (lexed keywords s) →
-    codes ≡ sets (replicate 64 0) 0 (codesOf (front keywords s)) →
+pub codes-stored : (reading : Reading) (s : List ℕ) {line : Ended} {codes : List ℕ} → line ≡ endedOf (lexed (wordsIn reading) s) →
+    codes ≡ sets (replicate 64 0) 0 (codesOf (front (wordsIn reading) s)) →
     (line .count ≤ length codes) × (length (take (line .count) codes) ≡ line .count) × (line .count ≤ 64)
-codes-stored s {line} {codes} e f =
-    let most = placed keywords s e .count-most in
-    let all : length codes ≡ 64 = rw (f, length-sets (replicate 64 0) 0 (codesOf (front keywords s))) in
+codes-stored reading s {line} {codes} e f =
+    let most = placed (wordsIn reading) s e .count-most in
+    let all : length codes ≡ 64 = rw (f, length-sets (replicate 64 0) 0 (codesOf (front (wordsIn reading) s))) in
     (omega arith, length-take-le (line .count) codes (omega arith), most)
 
 -- the same, read
@@ -83,23 +83,23 @@ module _ (reading : Reading) (s : List ℕ) where
       let w = dateTimeOf reading (take (line .count) (sets (replicate 64 0) 0 (codesOf items))) in
       endedWith (judgedOf line (countOf w) (sets (replicate 64 0) 0 (startsOf items)) (length s)) (chainOf (treeIn (kept (line .count) w)))
 
-  line-answered : lineRead (endedOf (lexed keywords s)) (front keywords s) ≡ phraseAnswer (readOf reading keywords s)
+  line-answered : lineRead (endedOf (lexed (wordsIn reading) s)) (front (wordsIn reading) s) ≡ phraseAnswer (readOf reading (wordsIn reading) s)
   unfolding readOf
-  line-answered = go refl (lexed-holds keywords s)
+  line-answered = go refl (lexed-holds (wordsIn reading) s)
     where
-      go : {w : Lexed} → lexed keywords s ≡ w → Holds (Whole s) (Bounded 1 4 (min (length s) 256)) w →
-          lineRead (endedOf w) (front keywords s) ≡ phraseAnswer (andThen w (readItems reading (length s)))
+      go : {w : Lexed} → lexed (wordsIn reading) s ≡ w → Holds (Whole s) (Bounded 1 4 (min (length s) 256)) w →
+          lineRead (endedOf w) (front (wordsIn reading) s) ≡ phraseAnswer (andThen w (readItems reading (length s)))
       go same (of-given {x = items} whole) =
           let codes = length-map items (λ (i : Item). i .code) in
-          rw (front-whole keywords s items same, sets-taken (codesOf items) (replicate 64 0) (omega arith) (length items) codes)
+          rw (front-whole (wordsIn reading) s items same, sets-taken (codesOf items) (replicate 64 0) (omega arith) (length items) codes)
           (codes-answer items (replicate 64 0) (whole .lexemes) (length s) (dateTimeOf reading (codesOf items)))
       go same (of-refusal {r} bounds) = rw (ne-eqb (r .number) 0 (λ z. omega arith), none-kept reading (dateTimeOf reading []) (date-time-holds reading []))
 
-  pub read-answered : {line r : Ended} {codes starts : List ℕ} {x : Gathered} → line ≡ endedOf (lexed keywords s) →
-      codes ≡ sets (replicate 64 0) 0 (codesOf (front keywords s)) → starts ≡ sets (replicate 64 0) 0 (startsOf (front keywords s)) →
+  pub read-answered : {line r : Ended} {codes starts : List ℕ} {x : Gathered} → line ≡ endedOf (lexed (wordsIn reading) s) →
+      codes ≡ sets (replicate 64 0) 0 (codesOf (front (wordsIn reading) s)) → starts ≡ sets (replicate 64 0) 0 (startsOf (front (wordsIn reading) s)) →
       x ≡ gathered (kept (line .count) (dateTimeOf reading (take (line .count) codes))) →
       r ≡ judgedOf line (x .taken) starts (length s) →
-      endedWith r (x .chain) ≡ phraseAnswer (readOf reading keywords s)
+      endedWith r (x .chain) ≡ phraseAnswer (readOf reading (wordsIn reading) s)
   read-answered {line} {r} {codes} {starts} {x} e f g gives ends =
       let w = dateTimeOf reading (take (line .count) codes) in
       let count : x .taken ≡ countOf w = rw gives (kept-count (line .count) w) in
@@ -108,7 +108,7 @@ module _ (reading : Reading) (s : List ℕ) where
 -- a phrase that is read: its lexemes, all of them taken, and the tree that `DateTime::parse` gives, of at most 21 parts
 pub record ReadWhole (reading : Reading) (s : List ℕ) (x : TreeRead) : Type 0 where
   pub items : List Item
-  pub lexemes : lexed keywords s ≡ given items
+  pub lexemes : lexed (wordsIn reading) s ≡ given items
   pub parsed : dateTimeOf reading (codesOf items) ≡ is (x .tree) (x .taken)
   pub all : x .taken ≡ length items
   pub few : sizeTree (x .tree) ≤ 21
@@ -117,7 +117,7 @@ pub record ReadWhole (reading : Reading) (s : List ℕ) (x : TreeRead) : Type 0 
 abbrev ReadHolds : Reading → List ℕ → ReadPhrase → Type 0
 ReadHolds reading s w = Holds (ReadWhole reading s) (Bounded 1 7 (min (length s) 256)) w
 
-module _ (reading : Reading) (s : List ℕ) (items : List Item) (lexemes : lexed keywords s ≡ given items) (whole : Whole s items) where
+module _ (reading : Reading) (s : List ℕ) (items : List Item) (lexemes : lexed (wordsIn reading) s ≡ given items) (whole : Whole s items) where
   codes-hold : (w : Parsed DateTime) → dateTimeOf reading (codesOf items) ≡ w →
       ReadHolds reading s (readCodes w (length items) (startsOf items) (length s))
   codes-hold (is x t) e = go (ltb t (length items)) refl
@@ -125,7 +125,7 @@ module _ (reading : Reading) (s : List ℕ) (items : List Item) (lexemes : lexed
       go : (b : Bool) → ltb t (length items) ≡ b →
           ReadHolds reading s (cond b (refuse table.LeftOver (getD (startsOf items) t 0) (length s)) (reads x t))
       go true h =
-          let start = rw (front-whole keywords s items lexemes) at (start-below keywords s t) in
+          let start = rw (front-whole (wordsIn reading) s items lexemes) at (start-below (wordsIn reading) s t) in
           let below = start (ltb-true t (length items) h) in
           of-refusal {r = refusalAt table.LeftOver (getD (startsOf items) t 0) (length s)} (omega arith)
       go false h =
@@ -136,11 +136,11 @@ module _ (reading : Reading) (s : List ℕ) (items : List Item) (lexemes : lexed
   codes-hold nothing e = of-refusal {r = refusalAt table.Nothing 0 0} (omega arith)
   codes-hold overflow e = of-refusal {r = refusalAt table.LargeSum 0 0} (omega arith)
 
-pub read-holds : (reading : Reading) (s : List ℕ) → ReadHolds reading s (readOf reading keywords s)
+pub read-holds : (reading : Reading) (s : List ℕ) → ReadHolds reading s (readOf reading (wordsIn reading) s)
 unfolding readOf
-read-holds reading s = go refl (lexed-holds keywords s)
+read-holds reading s = go refl (lexed-holds (wordsIn reading) s)
   where
-    go : {w : Lexed} → lexed keywords s ≡ w → Holds (Whole s) (Bounded 1 4 (min (length s) 256)) w →
+    go : {w : Lexed} → lexed (wordsIn reading) s ≡ w → Holds (Whole s) (Bounded 1 4 (min (length s) 256)) w →
         ReadHolds reading s (andThen w (readItems reading (length s)))
     go h (of-given {x = items} whole) = codes-hold reading s items h whole (dateTimeOf reading (codesOf items)) refl
     go h (of-refusal {r} bounds) = of-refusal {r = r} (omega arith)
@@ -148,14 +148,14 @@ read-holds reading s = go refl (lexed-holds keywords s)
 -- what `read` answers with number 0: the reading, and a formed chain that stands for its tree
 pub record WasRead (reading : Reading) (s : List ℕ) (r : PhraseRead) : Type 0 where
   pub tree-read : TreeRead
-  pub is : readOf reading keywords s ≡ given tree-read
+  pub is : readOf reading (wordsIn reading) s ≡ given tree-read
   pub whole : ReadWhole reading s tree-read
   pub taken : r .taken ≡ tree-read .taken
   pub stands : treeOf (r .chain) ≡ tree-read .tree
   pub formed : Formed (r .chain)
 
 -- a phrase that `read` answers with number 0 is read whole
-pub was-read : (reading : Reading) (s : List ℕ) {r : PhraseRead} → r ≡ phraseAnswer (readOf reading keywords s) → r .refusal .number ≡ 0 → WasRead reading s r
+pub was-read : (reading : Reading) (s : List ℕ) {r : PhraseRead} → r ≡ phraseAnswer (readOf reading (wordsIn reading) s) → r .refusal .number ≡ 0 → WasRead reading s r
 was-read reading s {r} answer z =
     let read = number-zero (read-holds reading s) (omega arith) (rw answer at z) in
     let x = read .value .tree in
@@ -172,7 +172,7 @@ was-read reading s {r} answer z =
 
 -- one that it answers with any other number is refused so
 pub was-refused :
-    (reading : Reading) (s : List ℕ) {r : PhraseRead} → r ≡ phraseAnswer (readOf reading keywords s) → (r .refusal .number ≡ 0 → ⊥) →
-    readOf reading keywords s ≡ refused (r .refusal)
+    (reading : Reading) (s : List ℕ) {r : PhraseRead} → r ≡ phraseAnswer (readOf reading (wordsIn reading) s) → (r .refusal .number ≡ 0 → ⊥) →
+    readOf reading (wordsIn reading) s ≡ refused (r .refusal)
 was-refused reading s answer other =
-    number-other (readOf reading keywords s) (λ z. other (rw answer z)) ∙ ap (λ (q : PhraseRead). refused (q .refusal)) (sym answer)
+    number-other (readOf reading (wordsIn reading) s) (λ z. other (rw answer z)) ∙ ap (λ (q : PhraseRead). refused (q .refusal)) (sym answer)

@@ -16,7 +16,7 @@ use Rattle.phrase.specs.DateTimes.{Turn, whole, ago, link, timeBehindOf,
 use Rattle.phrase.specs.Read.{readItems}
 
 -- a time behind a date expression
-time-behind-plain : (t : ℕ) (l : List ℕ) → timeBehindOf t (plainOf l) ≡ timeBehindOf t l
+time-behind-plain : (t : ℕ) (l : List ℕ) → timeBehindOf First t (plainOf l) ≡ timeBehindOf First t l
 unfolding timeBehindOf
 time-behind-plain t l = simp (at-plain, drop-plain, time-plain)
 

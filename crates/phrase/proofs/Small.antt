@@ -37,9 +37,9 @@ SmallTurn (whole x) = SmallTree x
 SmallTurn (ago dur) = SmallDuration dur
 SmallTurn (link back dur) = SmallDuration dur
 
-time-behind-small : (t : ℕ) (l : List ℕ) → Gives SmallTime (timeBehindOf t l)
+time-behind-small : (reading : Reading) (t : ℕ) (l : List ℕ) → Gives SmallTime (timeBehindOf reading t l)
 unfolding timeBehindOf
-time-behind-small t l = if-let-gives _ (time-small _) (λ time u a. is-gives a) (is-gives tt)
+time-behind-small reading t l = if-let-gives _ (time-small reading _) (λ time u a. is-gives a) (is-gives tt)
 
 with-duration-small : (dur : Duration) (t : ℕ) (l : List ℕ) → SmallDuration dur → Gives SmallTurn (withDurationOf dur t l)
 unfolding withDurationOf
@@ -53,9 +53,9 @@ turn-small : (reading : Reading) (l : List ℕ) → Gives SmallTurn (turnOf read
 unfolding turnOf undatedTurnOf timedTurnOf
 turn-small reading l =
     pick-gives (isAt l 0 lexeme.Now) (is-gives tt)
-    (if-let-gives _ (expr-small reading l) (λ e t a. then-gives _ (time-behind-small t l) (λ time n b. is-gives (a, b)))
-    (if-let-gives _ (duration-small l) (λ dur t a. with-duration-small dur t l a)
-    (then-gives _ (time-small l) (λ time t a. if-let-gives _ (expr-small reading _) (λ e u b. is-gives (b, a)) (is-gives (tt, a))))))
+    (if-let-gives _ (expr-small reading l) (λ e t a. then-gives _ (time-behind-small reading t l) (λ time n b. is-gives (a, b)))
+    (if-let-gives _ (duration-small reading l) (λ dur t a. with-duration-small dur t l a)
+    (then-gives _ (time-small reading l) (λ time t a. if-let-gives _ (expr-small reading _) (λ e u b. is-gives (b, a)) (is-gives (tt, a))))))
 
 around-small : (back : Bool) (dur : Duration) (x : DateTime) → SmallDuration dur → SmallTree x → SmallTree (around back dur x)
 around-small true dur x a b = (a, b)

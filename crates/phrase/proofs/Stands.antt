@@ -30,25 +30,25 @@ use Rattle.phrase.specs.Chains.{sizeTree}
 use Rattle.phrase.specs.Outlines.{linkTaken, timeTaken, isBack}
 
 -- a link of t lexemes: its duration at the front of l, and its direction behind that
-pub record LinkStands (l : List ℕ) (back : Bool) (dur : Duration) (t : ℕ) : Type 0 where
+pub record LinkStands (r : Reading) (l : List ℕ) (back : Bool) (dur : Duration) (t : ℕ) : Type 0 where
   pub taken : ℕ
-  pub reading : durationOf l ≡ is dur taken
+  pub reading : durationOf r l ≡ is dur taken
   pub one : t ≡ taken + 1
   pub direction : isBack l taken ≡ back
 
 -- the duration that a base may have, at the place p
-pub record BaseStands (own : List Duration) (p : ℕ) (l : List ℕ) : Type 0 where
-  pub stands : OwnStands own (drop p l)
+pub record BaseStands (reading : Reading) (own : List Duration) (p : ℕ) (l : List ℕ) : Type 0 where
+  pub stands : OwnStands reading own (drop p l)
   pub within : p ≤ length l
 
 -- the durations of a tree that stands at the front of l
 abbrev pub TreeStands : Reading → List ℕ → DateTime → Type 0
-TreeStands reading l (dateTime e t) = BaseStands (ownOf e) (ownPlace reading l e) l
-TreeStands reading l (timeDate t e) = BaseStands (ownOf e) (timeTaken l + ownPlace reading (drop (timeTaken l) l) e) l
+TreeStands reading l (dateTime e t) = BaseStands reading (ownOf e) (ownPlace reading l e) l
+TreeStands reading l (timeDate t e) = BaseStands reading (ownOf e) (timeTaken reading l + ownPlace reading (drop (timeTaken reading l) l) e) l
 TreeStands reading l (durationAfter dur x) =
-    LinkStands l false dur (linkTaken l) × (linkTaken l ≤ length l) × TreeStands reading (drop (linkTaken l) l) x
+    LinkStands reading l false dur (linkTaken reading l) × (linkTaken reading l ≤ length l) × TreeStands reading (drop (linkTaken reading l) l) x
 TreeStands reading l (durationBefore dur x) =
-    LinkStands l true dur (linkTaken l) × (linkTaken l ≤ length l) × TreeStands reading (drop (linkTaken l) l) x
+    LinkStands reading l true dur (linkTaken reading l) × (linkTaken reading l ≤ length l) × TreeStands reading (drop (linkTaken reading l) l) x
 TreeStands reading l now = Unit
 
 -- no link
@@ -61,8 +61,8 @@ Bare now = Unit
 
 abbrev pub TurnStands : Reading → List ℕ → Turn → ℕ → Type 0
 TurnStands reading l (whole x) t = TreeStands reading l x × Bare x
-TurnStands reading l (ago dur) t = LinkStands l true dur t
-TurnStands reading l (link back dur) t = LinkStands l back dur t
+TurnStands reading l (ago dur) t = LinkStands reading l true dur t
+TurnStands reading l (link back dur) t = LinkStands reading l back dur t
 
 -- the parts of a turn
 abbrev sizeTurn : Turn → ℕ
@@ -93,24 +93,24 @@ comma-most l t x h = go (isAt l t lexeme.Comma) (isAt l t x) refl refl
     go false true e f = let some = there (at-most l t x) f in omega arith
     go false false e f = omega arith
 
-time-behind-took : (t : ℕ) (l : List ℕ) → t ≤ length l → Took (timeBehindOf t l) t (length l)
+time-behind-took : (reading : Reading) (t : ℕ) (l : List ℕ) → t ≤ length l → Took (timeBehindOf reading t l) t (length l)
 unfolding timeBehindOf
-time-behind-took t l h =
+time-behind-took reading t l h =
     let s = commaOr l t lexeme.At in
     let most = comma-most l t lexeme.At h in
     let left = length-drop s l in
-    if-let-took (timeOf (drop s l)) _ _ (time-took (drop s l))
+    if-let-took (timeOf reading (drop s l)) _ _ (time-took reading (drop s l))
     (λ time u a b. record { bounds = (omega arith, omega arith) })
     (record { bounds = (omega arith, omega arith) })
 
 -- the duration of a date expression
-expr-base : (reading : Reading) (l : List ℕ) (x : DateExpr) (t : ℕ) → dateExprOf reading l ≡ is x t → BaseStands (ownOf x) (ownPlace reading l x) l
+expr-base : (reading : Reading) (l : List ℕ) (x : DateExpr) (t : ℕ) → dateExprOf reading l ≡ is x t → BaseStands reading (ownOf x) (ownPlace reading l x) l
 expr-base reading l x t e =
     let b = (rw e at (expr-few reading l)) .bounds in
     record { stands = b .stands; within = omega arith }
 
 -- the same from s lexemes before on
-further : (own : List Duration) (p s : ℕ) (l : List ℕ) → s ≤ length l → BaseStands own p (drop s l) → BaseStands own (s + p) l
+further : {reading : Reading} (own : List Duration) (p s : ℕ) (l : List ℕ) → s ≤ length l → BaseStands reading own p (drop s l) → BaseStands reading own (s + p) l
 further own p s l h b =
     let left = length-drop s l in
     record { stands = rw (drop-drop p s l) at (b .stands); within = omega arith }
@@ -118,8 +118,8 @@ further own p s l h b =
 timed-holds : (reading : Reading) (l : List ℕ) → Each (TurnHolds reading l) (timedTurnOf reading l)
 unfolding timedTurnOf
 timed-holds reading l =
-    then-each (timeOf l) _ (λ time t e.
-    let b = found e (time-took l) in
+    then-each (timeOf reading l) _ (λ time t e.
+    let b = found e (time-took reading l) in
     let s = commaOr l t lexeme.On in
     let most = comma-most l t lexeme.On (omega arith) in
     let left = length-drop s l in
@@ -141,13 +141,13 @@ timed-holds reading l =
       };
     }))
 
-module _ (reading : Reading) (l : List ℕ) (dur : Duration) (t : ℕ) (e : durationOf l ≡ is dur t) where
+module _ (reading : Reading) (l : List ℕ) (dur : Duration) (t : ℕ) (e : durationOf reading l ≡ is dur t) where
   -- a word behind a duration
   behind : (x : Turn) (back : Bool) (word : ℕ) → isAt l t word ≡ true → isBack l t ≡ back → sizeTurn x ≡ size dur →
-      (LinkStands l back dur (t + 1) → TurnStands reading l x (t + 1)) → Each (TurnHolds reading l) (is x (t + 1))
+      (LinkStands reading l back dur (t + 1) → TurnStands reading l x (t + 1)) → Each (TurnHolds reading l) (is x (t + 1))
   behind x back word h direction same stands =
       let some = there (at-most l t word) h in
-      let b = duration-bounds l e in
+      let b = duration-bounds reading l e in
       record {
         bounds = record {
           one = omega arith;
@@ -168,7 +168,7 @@ module _ (reading : Reading) (l : List ℕ) (dur : Duration) (t : ℕ) (e : dura
 
 undated-holds : (reading : Reading) (l : List ℕ) → Each (TurnHolds reading l) (undatedTurnOf reading l)
 unfolding undatedTurnOf
-undated-holds reading l = if-let-each (durationOf l) _ _ (λ dur t e. duration-holds reading l dur t e) (timed-holds reading l)
+undated-holds reading l = if-let-each (durationOf reading l) _ _ (λ dur t e. duration-holds reading l dur t e) (timed-holds reading l)
 
 -- one turn
 pub turn-holds : (reading : Reading) (l : List ℕ) → Each (TurnHolds reading l) (turnOf reading l)
@@ -180,18 +180,18 @@ turn-holds reading l =
     })
     (λ e. if-let-each (dateExprOf reading l) _ _
     (λ x t f. let b = (rw f at (expr-few reading l)) .bounds in
-    then-each (timeBehindOf t l) _ (λ time n g. let k = found g (time-behind-took t l (omega arith)) in record {
+    then-each (timeBehindOf reading t l) _ (λ time n g. let k = found g (time-behind-took reading t l (omega arith)) in record {
       bounds = record { one = omega arith; most = omega arith; few = omega arith; stands = (expr-base reading l x t f, tt) };
     }))
     (undated-holds reading l))
 
 -- the lexemes of a link are those of its duration and one
-pub link-taken : {l : List ℕ} {back : Bool} {dur : Duration} {t : ℕ} → LinkStands l back dur t → linkTaken l ≡ t
+pub link-taken : {reading : Reading} {l : List ℕ} {back : Bool} {dur : Duration} {t : ℕ} → LinkStands reading l back dur t → linkTaken reading l ≡ t
 link-taken s = rw (s .reading) (sym (s .one))
 
 -- a link around a tree
 around-stands : (reading : Reading) (back : Bool) (dur : Duration) (x : DateTime) (l : List ℕ) (t : ℕ) →
-    LinkStands l back dur t → t ≤ length l → TreeStands reading (drop t l) x → TreeStands reading l (around back dur x)
+    LinkStands reading l back dur t → t ≤ length l → TreeStands reading (drop t l) x → TreeStands reading l (around back dur x)
 around-stands reading true dur x l t s most h = rw (link-taken s) (s, most, h)
 around-stands reading false dur x l t s most h = rw (link-taken s) (s, most, h)
 

@@ -1,11 +1,12 @@
--- Worked phrases: what is read of each, from its bytes, computed.
+-- Worked phrases: what is read of each, from its bytes, computed, under each reading.
 use mathlib.Core.Path.{_≡_, refl}
 use mathlib.Core.List.{List, [], _∷_, map}
 use Prim.Native.Nat.{ℕ}
 use Prim.Native.String.{String}
 use Rattle.digits.specs.Bytes.{bytesOf}
-use Rattle.lexer.specs.Keywords.{keywords}
-use Rattle.lexer.specs.declared.reading.Reading.the-variants.{First}
+use Rattle.lexer.specs.Keywords.{keywords, wordsIn}
+use Rattle.lexer.specs.declared.reading.Reading.{Reading}
+use Rattle.lexer.specs.declared.reading.Reading.the-variants.{First, Second}
 use Rattle.lexer.specs.Classes.{classOf, markOf}
 use Rattle.refusals.specs.Table as table
 use Rattle.refusals.specs.Answers.{refuse}
@@ -23,7 +24,7 @@ use Rattle.dates.specs.Times.{minuteOf, halfOf, clockOf, timeOf}
 use Rattle.dates.specs.declared.units.Unit.the-variants.{Day, Hour}
 use Rattle.dates.specs.declared.units.RelativeSpecifier.the-variants.{Next}
 use Rattle.dates.specs.declared.duration.Part.the-variants.{Article, Specific}
-use Rattle.dates.specs.declared.date.Date.the-variants.{Today, Tomorrow, Empty as NoDate}
+use Rattle.dates.specs.declared.date.Date.the-variants.{MonthDay, MonthDayYear, Today, Tomorrow, Empty as NoDate}
 use Rattle.dates.specs.declared.time.Time.the-variants.{HourMin, HourMinPM, Empty as NoTime}
 use Rattle.expressions.specs.Tree.{date, relativeWeekday, before, after, weekday, empty}
 use Rattle.phrase.specs.Tree.{dateTime, timeDate, durationAfter}
@@ -76,12 +77,24 @@ cases =
     ∷ row "forty days ago" (refuse table.Unknown 0 5)
     ∷ []
 
--- each row is what `readOf` gives
-pub read-as-listed : map (λ c. readOf First keywords (c .phrase)) cases ≡ map (λ c. c .reading) cases
-unfolding cases keywords classOf markOf wordAt numberAt tokenAt lexed get isAt within isEnding wordOf literalOf onesOf teensOf
+-- the table of the second reading: any ending behind a literal, the usual spellings, and a comma that goes with a year, else with a time
+unfoldable pub secondCases : List Case
+secondCases =
+    row "march 24th" (reads (dateTime (date (MonthDay 3 24)) NoTime) 3)
+    ∷ row "forty days ago" (reads (dateTime (before (part (Specific Day 40)) NoDate) NoTime) 3)
+    ∷ row "march 3, 2027, 5 pm" (reads (dateTime (date (MonthDayYear 3 3 2027)) (HourMinPM 5 0)) 7)
+    ∷ row "march 3, 5 pm" (reads (dateTime (date (MonthDay 3 3)) (HourMinPM 5 0)) 5)
+    ∷ []
+
+-- each row of a table is what `readOf` gives in a reading
+abbrev Listed : Reading → List Case → Type 0
+Listed reading rows = map (λ c. readOf reading (wordsIn reading) (c .phrase)) rows ≡ map (λ c. c .reading) rows
+
+pub read-as-listed : Listed First cases × Listed Second secondCases
+unfolding cases secondCases keywords wordsIn classOf markOf wordAt numberAt tokenAt lexed get isAt within isEnding wordOf literalOf onesOf teensOf
     tensOf tensOnesOf numDoubleOf sumOf numTailOf hundredsOf numTripleOf numTripleUnitOf fitsOf unitsOf numStep turns again numOf
     isArticle unitOf monthOf weekdayOf relativeSpecifierOf specificOf articleOf concreteOf durationTurn durationOf namedDayOf
     dayMonthYearOf monthDayOf isDelim threeNumbersOf twoNumbersOf behindSecondOf delimitedOf dateOf minuteOf halfOf clockOf timeOf
     inTailOf durationTailOf tailOf withDurationOf relativeExprOf weekdayExprOf undatedOf dateExprOf timeBehindOf durationTurnOf
     timedTurnOf undatedTurnOf turnOf dateTimeStep dateTimeOf readOf
-read-as-listed = refl
+read-as-listed = (refl, refl)

@@ -28,8 +28,8 @@ abbrev pub commaOr : List ℕ → ℕ → ℕ → ℕ
 commaOr l t x = t + oneIf (isAt l t lexeme.Comma || isAt l t x)
 
 -- [, | at] [<time>] behind t lexemes: the comma or "at" is taken also with no time behind it
-unfoldable pub timeBehindOf : ℕ → List ℕ → Parsed Time
-timeBehindOf t l = let s = commaOr l t lexeme.At in ifLet (timeOf (drop s l)) (λ time u. is time (s + u)) (is Empty s)
+unfoldable pub timeBehindOf : Reading → ℕ → List ℕ → Parsed Time
+timeBehindOf reading t l = let s = commaOr l t lexeme.At in ifLet (timeOf reading (drop s l)) (λ time u. is time (s + u)) (is Empty s)
 
 -- <duration> after | from | before <datetime>, <duration> ago
 unfoldable pub withDurationOf : Duration → ℕ → List ℕ → Parsed Turn
@@ -43,18 +43,18 @@ withDurationOf dur t l =
 -- <time> [, | on] [<date_expr>]: the comma or "on" is taken also with no date behind it
 unfoldable pub timedTurnOf : Reading → List ℕ → Parsed Turn
 timedTurnOf reading l =
-    andThen (timeOf l) (λ time t. let s = commaOr l t lexeme.On in
+    andThen (timeOf reading l) (λ time t. let s = commaOr l t lexeme.On in
     ifLet (dateExprOf reading (drop s l)) (λ expr u. is (whole (timeDate time expr)) (s + u)) (is (whole (timeDate time empty)) s))
 
 -- from the duration on
 unfoldable pub undatedTurnOf : Reading → List ℕ → Parsed Turn
-undatedTurnOf reading l = ifLet (durationOf l) (λ dur t. withDurationOf dur t l) (timedTurnOf reading l)
+undatedTurnOf reading l = ifLet (durationOf reading l) (λ dur t. withDurationOf dur t l) (timedTurnOf reading l)
 
 -- now; then a dated phrase before a duration, and a bare time last
 unfoldable pub turnOf : Reading → List ℕ → Parsed Turn
 turnOf reading l =
     pick (isAt l 0 lexeme.Now) (is (whole now) 1)
-    (ifLet (dateExprOf reading l) (λ expr t. andThen (timeBehindOf t l) (λ time n. is (whole (dateTime expr time)) n))
+    (ifLet (dateExprOf reading l) (λ expr t. andThen (timeBehindOf reading t l) (λ time n. is (whole (dateTime expr time)) n))
     (undatedTurnOf reading l))
 
 -- behind "after", "from" and "before" a datetime is read again, and with none there is nothing

@@ -33,20 +33,20 @@ takenOf nothing = 0
 takenOf overflow = 0
 
 -- the lexemes of the link at the front of l: a duration, and the word behind it
-abbrev pub linkTaken : List ℕ → ℕ
-linkTaken l = takenOf (durationOf l) + 1
+abbrev pub linkTaken : Reading → List ℕ → ℕ
+linkTaken reading l = takenOf (durationOf reading l) + 1
 
 -- the lexemes of the time at the front of l, with the comma or "on" behind it
-abbrev pub timeTaken : List ℕ → ℕ
-timeTaken l = commaOr l (takenOf (timeOf l)) lexeme.On
+abbrev pub timeTaken : Reading → List ℕ → ℕ
+timeTaken reading l = commaOr l (takenOf (timeOf reading l)) lexeme.On
 
 -- the outline of a tree that stands at the front of l, behind m links; the place of its base's own duration is counted from the base on
 abbrev pub outline : Reading → Count → ℕ → List ℕ → DateTime → Outline
 outline reading k m l (dateTime e t) = record { taken = k; base = Dated (shape e); time = t; own = ownPlace reading l e; m = m }
 outline reading k m l (timeDate t e) =
-    record { taken = k; base = Timed (shape e); time = t; own = timeTaken l + ownPlace reading (drop (timeTaken l) l) e; m = m }
-outline reading k m l (durationAfter dur x) = outline reading k (m + 1) (drop (linkTaken l) l) x
-outline reading k m l (durationBefore dur x) = outline reading k (m + 1) (drop (linkTaken l) l) x
+    record { taken = k; base = Timed (shape e); time = t; own = timeTaken reading l + ownPlace reading (drop (timeTaken reading l) l) e; m = m }
+outline reading k m l (durationAfter dur x) = outline reading k (m + 1) (drop (linkTaken reading l) l) x
+outline reading k m l (durationBefore dur x) = outline reading k (m + 1) (drop (linkTaken reading l) l) x
 outline reading k m l now = record { taken = k; base = Now; time = Empty; own = 0; m = m }
 
 -- how a reading ended
@@ -94,5 +94,5 @@ hasOwn (Dated x) = hasDuration x
 hasOwn (Timed x) = hasDuration x
 
 -- a row with the parts of the base's own duration, which stands at the front of l
-abbrev pub withOwn : Base → List ℕ → Parts → Parts
-withOwn b l ps = cond (hasOwn b) (rowed ps (durationOf l) .parts) ps
+abbrev pub withOwn : Reading → Base → List ℕ → Parts → Parts
+withOwn reading b l ps = cond (hasOwn b) (rowed ps (durationOf reading l) .parts) ps

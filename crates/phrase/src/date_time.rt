@@ -73,12 +73,12 @@ fn take_comma_or(l: &[u64], t: usize, x: u64) -> usize
 }
 
 // [, | at] [<time>] behind t lexemes
-fn time_behind(l: &[u64], t: usize) -> TimeFound
+fn time_behind(reading: Reading, l: &[u64], t: usize) -> TimeFound
     requires { ⌜ t ≤ length (now l) ⌝ }
-    ensures { λ r. ⌜ parsedTime r ≡ timeBehindOf t (now (l .entry)) ⌝ }
+    ensures { λ r. ⌜ parsedTime r ≡ timeBehindOf reading t (now (l .entry)) ⌝ }
 {
     let s = t + take_comma_or(l, t, AT);
-    match read_time(rest(l, s)) {
+    match read_time(reading, rest(l, s)) {
         TimeFound::Is(time, u) => TimeFound::Is(time, s + u),
         TimeFound::Nothing => TimeFound::Is(Time::Empty, s),
         TimeFound::Overflow => TimeFound::Overflow,
@@ -118,7 +118,7 @@ fn turn_stopped(a: TimeFound) -> TurnTaken
 fn read_timed(reading: Reading, l: &[u64]) -> TurnTaken
     ensures { λ r. ⌜ r ≡ turnAnswer reading (now (l .entry)) (timedTurnOf reading (now (l .entry))) ⌝ }
 {
-    let a = read_time(l);
+    let a = read_time(reading, l);
     let TimeFound::Is(time, t) = a else {
         return turn_stopped(a);
     };
@@ -135,7 +135,7 @@ fn read_timed(reading: Reading, l: &[u64]) -> TurnTaken
 fn read_undated(reading: Reading, l: &[u64]) -> TurnTaken
     ensures { λ r. ⌜ r ≡ turnAnswer reading (now (l .entry)) (undatedTurnOf reading (now (l .entry))) ⌝ }
 {
-    let taken = read_duration(l);
+    let taken = read_duration(reading, l);
     match taken {
         Taken::Is {
             taken: t,
@@ -156,7 +156,7 @@ fn read_turn(reading: Reading, l: &[u64]) -> TurnTaken
     let e = read_expr(reading, l);
     match e {
         ExprTaken::Is(expr, t, own) => {
-            let a = time_behind(l, t);
+            let a = time_behind(reading, l, t);
             let TimeFound::Is(time, n) = a else {
                 return turn_stopped(a);
             };

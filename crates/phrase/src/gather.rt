@@ -52,12 +52,12 @@ fn is_back(l: &[u64], t: usize) -> bool
 }
 
 // The parts of the base's own duration at the front of l behind those of the links.
-fn with_own(base: Base, l: &[u64], parts: Parts) -> Parts
+fn with_own(reading: Reading, base: Base, l: &[u64], parts: Parts) -> Parts
     requires { ⌜ 3 * parts .n + length (now l) ≤ 64 ⌝ }
-    ensures { λ r. ⌜ r ≡ withOwn base (now (l .entry)) parts ⌝ }
+    ensures { λ r. ⌜ r ≡ withOwn reading base (now (l .entry)) parts ⌝ }
 {
     if has_own(base) {
-        let x = with_parts(l, parts);
+        let x = with_parts(reading, l, parts);
         return x.parts;
     }
     parts
@@ -83,7 +83,7 @@ pub fn gather(reading: Reading, l: &[u64], n: usize) -> Gathered
     let mut at: usize = 0;
     while i < m {
         let left = rest(l, at);
-        let x = with_parts(left, parts);
+        let x = with_parts(reading, left, parts);
         let with = x.parts;
         let end = x.end;
         links[i] = Link {
@@ -98,7 +98,7 @@ pub fn gather(reading: Reading, l: &[u64], n: usize) -> Gathered
     let base = o.base;
     let time = o.time;
     let taken = o.taken;
-    let all = with_own(base, rest(l, at + o.own), parts);
+    let all = with_own(reading, base, rest(l, at + o.own), parts);
     let chain = Chain {
         base,
         time,

@@ -14,7 +14,7 @@ use refusals::NOTHING;
 use refusals::Refusal;
 ghost use mathlib.Core.Path.{_≡_};
 ghost use Prim.Native.Nat.{_+_, _≤_};
-ghost use Rattle.lexer.specs.Keywords.{keywords};
+ghost use Rattle.lexer.specs.Keywords.{wordsIn};
 ghost use Rattle.refusals.specs.Answers.{placeOf, offendingOf};
 ghost use Rattle.phrase.specs.Read.{judgedOf, readOf, phraseAnswer};
 
@@ -58,11 +58,11 @@ fn judged(line: Ended, taken: Count, starts: &[u8; 64], n: usize) -> Ended
 // A phrase read: its tree in one of the readings, or a refusal of 1 to 7 in their order. What is left behind the reading is refusal 7, from its first byte to
 // the end of the phrase. Where lexing refuses there are no lexemes, so that one reading is made for every answer.
 pub fn read(reading: Reading, phrase: &[u8]) -> PhraseRead
-    ensures { λ r. ⌜ r ≡ phraseAnswer (readOf reading keywords (now (phrase .entry))) ⌝ }
+    ensures { λ r. ⌜ r ≡ phraseAnswer (readOf reading (wordsIn reading) (now (phrase .entry))) ⌝ }
 {
     let mut codes = [0u64; 64];
     let mut starts = [0u8; 64];
-    let line = lex(phrase, &mut codes, &mut starts);
+    let line = lex(reading, phrase, &mut codes, &mut starts);
     let n = line.count;
     let x = gather(reading, &codes[..n], n);
     let taken = x.taken;
@@ -78,8 +78,8 @@ pub fn read(reading: Reading, phrase: &[u8]) -> PhraseRead
 
 // The offending part of the caller's own phrase; empty where nothing is refused.
 pub fn offending(reading: Reading, phrase: &[u8]) -> &[u8]
-    ensures { λ r. ⌜ now r ≡ offendingOf (now (phrase .entry)) (readOf reading keywords (now (phrase .entry))) ⌝ }
-    ensures own { λ r. ⌜ r .ptr ≡ ((phrase .entry) .ptr .0, placeOf (readOf reading keywords (now (phrase .entry))) + (phrase .entry) .ptr .1) ⌝ }
+    ensures { λ r. ⌜ now r ≡ offendingOf (now (phrase .entry)) (readOf reading (wordsIn reading) (now (phrase .entry))) ⌝ }
+    ensures own { λ r. ⌜ r .ptr ≡ ((phrase .entry) .ptr .0, placeOf (readOf reading (wordsIn reading) (now (phrase .entry))) + (phrase .entry) .ptr .1) ⌝ }
 {
     let r = read(reading, phrase);
     let refusal = r.refusal;

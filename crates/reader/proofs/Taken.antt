@@ -6,12 +6,13 @@ use Prim.Native.Nat.{ℕ, zero, suc}
 use lib.Dec.{leb}
 use lib.ListN.{length}
 use denote.Ref.{RefT, now}
-use Rattle.lexer.specs.Keywords.{keywords}
+use Rattle.lexer.specs.Keywords.{wordsIn}
 use Rattle.refusals.specs.Table as refusal
 use Rattle.refusals.specs.Answers.{refuse}
 use Rattle.lexer.specs.Lex.{Lexed, item, ahead, ifTaken, lexFrom, lexed}
 use Rattle.lexer.specs.declared.lex.Token.{Token}
 use Rattle.lexer.specs.declared.lex.Token.the-variants.{Finish, Taken, Refused}
+use Rattle.lexer.specs.declared.reading.Reading.{Reading}
 use Rattle.reader.specs.declared.Lexer.{Lexer}
 use Rattle.reader.specs.Read.{newOf, nextOf, placeBehind, behindOf, taken}
 
@@ -22,16 +23,18 @@ same-behind (Refused r) g h same = refl
 same-behind (Taken k a e) g h same = same k a e refl
 
 -- from any reader, with any room
-pub taken-from : (room : ℕ) (r : Lexer) → taken room r ≡ lexFrom keywords room (now (r .phrase)) (r .at)
+pub taken-from : (room : ℕ) (r : Lexer) → taken room r ≡ lexFrom (wordsIn (r .reading)) room (now (r .phrase)) (r .at)
 taken-from zero r = refl
 taken-from (suc room) r =
+    let ws = wordsIn (r .reading) in
     let s = now (r .phrase) in
     let t = nextOf r in
-    same-behind t (λ k a e. ahead (item k a ∷ []) (taken room (behindOf r t))) (λ k a e. ahead (item k a ∷ []) (lexFrom keywords room s e))
-    (λ k a e q. ap (ahead (item k a ∷ [])) (taken-from room (behindOf r t) ∙ ap (λ (x : Token). lexFrom keywords room s (placeBehind (r .at) x)) q))
+    same-behind t (λ k a e. ahead (item k a ∷ []) (taken room (behindOf r t))) (λ k a e. ahead (item k a ∷ []) (lexFrom ws room s e))
+    (λ k a e q. ap (ahead (item k a ∷ [])) (taken-from room (behindOf r t) ∙ ap (λ (x : Token). lexFrom ws room s (placeBehind (r .at) x)) q))
 
 -- tokens taken one after the other from a new reader until the end, with room for 64 lexemes, behind the test for 256 bytes: exactly lexing's lexemes
 -- and their places, or its refusal
-pub lexed-is : (s : RefT (List ℕ)) → lexed keywords (now s) ≡ cond (leb (length (now s)) 256) (taken 64 (newOf s)) (refuse refusal.TooLong 0 0)
+pub lexed-is : (reading : Reading) (s : RefT (List ℕ))
+    → lexed (wordsIn reading) (now s) ≡ cond (leb (length (now s)) 256) (taken 64 (newOf reading s)) (refuse refusal.TooLong 0 0)
 unfolding lexed
-lexed-is s = ap (λ (x : Lexed). cond (leb (length (now s)) 256) x (refuse refusal.TooLong 0 0)) (sym (taken-from 64 (newOf s)))
+lexed-is reading s = ap (λ (x : Lexed). cond (leb (length (now s)) 256) x (refuse refusal.TooLong 0 0)) (sym (taken-from 64 (newOf reading s)))

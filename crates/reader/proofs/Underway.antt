@@ -8,10 +8,12 @@ use native.Mathlib.Omega.{arith}
 use borrow.Author.Tests.{le-leb, lt-leb}
 use lib.ListN.{length, length-append, replicate}
 use denote.Ref.{RefT, now}
-use Rattle.lexer.specs.Keywords.{keywords}
+use Rattle.lexer.specs.Keywords.{wordsIn}
+use Rattle.lexer.specs.Words.{Word}
 use Rattle.lexer.specs.Lex.{Item, item, Lexed, ahead, lexFrom, frontFrom}
 use Rattle.lexer.specs.declared.lex.Token.{Token}
 use Rattle.lexer.specs.declared.lex.Token.the-variants.{Finish, Taken, Refused}
+use Rattle.lexer.specs.declared.reading.Reading.{Reading}
 use Rattle.lexer.proofs.Lines.{lex-finish, lex-refused, lex-full, lex-taken, ahead-none, ahead-more, array-more}
 use Rattle.reader.specs.declared.Lexer.{Lexer}
 use Rattle.reader.specs.declared.gather.Gathered.{Gathered}
@@ -21,11 +23,11 @@ use Rattle.reader.proofs.Taken.{taken-from}
 
 -- what the reader r still has to give
 abbrev rest : ℕ → Lexer → Lexed
-rest left r = lexFrom keywords left (now (r .phrase)) (r .at)
+rest left r = lexFrom (wordsIn (r .reading)) left (now (r .phrase)) (r .at)
 
 -- the lexemes that it still has in front
 abbrev restFront : ℕ → Lexer → List Item
-restFront left r = frontFrom keywords left (now (r .phrase)) (r .at)
+restFront left r = frontFrom (wordsIn (r .reading)) left (now (r .phrase)) (r .at)
 
 -- the reading that answers A, with the lexemes F in front, is at the reader r, with t turns to go at most
 pub record Going (A : Lexed) (F : List Item) (g : Gathered) (r : Lexer) (t : ℕ) : Type 0 where
@@ -51,38 +53,42 @@ so-longer l k a =
 
 -- one token more
 module _ (r : Lexer) (done : List Item) where
+  abbrev ws : List Word
+  ws = wordsIn (r .reading)
+
   abbrev s : List ℕ
   s = now (r .phrase)
 
   step : (left : ℕ) (t : Token) → length done + left ≡ 64 → nextOf r ≡ t
       → Underway (ahead done (rest left r)) (done ++ restFront left r) (joinedTo (soFar done) t) (behindOf r t) left
-  step left Finish c e = let h = lex-finish keywords s (r .at) left e in inl (rw (h .0, h .1, append-nil))
-  step left (Refused x) c e = let h = lex-refused keywords s (r .at) left x e in inl (rw (h .0, h .1, append-nil))
+  step left Finish c e = let h = lex-finish ws s (r .at) left e in inl (rw (h .0, h .1, append-nil))
+  step left (Refused x) c e = let h = lex-refused ws s (r .at) left x e in inl (rw (h .0, h .1, append-nil))
   step zero (Taken k a b) c e =
-      let h = lex-full keywords s (r .at) 0 k a b refl e in
+      let h = lex-full ws s (r .at) 0 k a b refl e in
       inl (rw (le-leb 64 (length done) (omega arith), h .0, append-nil))
   step (suc left) (Taken k a b) c e =
-      let h = lex-taken keywords s (r .at) (suc left) left k a b refl e in
+      let h = lex-taken ws s (r .at) (suc left) left k a b refl e in
       inr (record {
         done = done ++ (item k a ∷ []);
         left = left;
         room = simp length-append (omega arith);
         turns = refl;
         gathered = rw (lt-leb 64 (length done) (omega arith), so-longer done k a);
-        answer = ap (ahead done) (h .0) ∙ ahead-more done (item k a ∷ []) (lexFrom keywords left s b);
-        leads = ap (_++_ done) (h .1) ∙ sym (append-assoc done (item k a ∷ []) (frontFrom keywords left s b));
+        answer = ap (ahead done) (h .0) ∙ ahead-more done (item k a ∷ []) (lexFrom ws left s b);
+        leads = ap (_++_ done) (h .1) ∙ sym (append-assoc done (item k a ∷ []) (frontFrom ws left s b));
       })
 
 -- a new reader, and nothing gathered
-pub begins : (s : RefT (List ℕ)) → Underway (taken 64 (newOf s)) (frontFrom keywords 64 (now s) 0) nothing (newOf s) 65
-begins s =
+pub begins : (reading : Reading) (s : RefT (List ℕ)) →
+    Underway (taken 64 (newOf reading s)) (frontFrom (wordsIn reading) 64 (now s) 0) nothing (newOf reading s) 65
+begins reading s =
     inr (record {
       done = [];
       left = 64;
       room = refl;
       turns = refl;
       gathered = refl;
-      answer = taken-from 64 (newOf s) ∙ sym (ahead-none (rest 64 (newOf s)));
+      answer = taken-from 64 (newOf reading s) ∙ sym (ahead-none (rest 64 (newOf reading s)));
       leads = refl;
     })
 

@@ -10,7 +10,7 @@ use Rattle.refusals.specs.Answers.{given, refused, andThen}
 use Rattle.refusals.specs.declared.Refusal.{Refusal}
 use Rattle.refusals.proofs.Holds.{Holds, of-given, of-refusal, Bounded, given-holds, refusal-holds}
 use Rattle.calendar.specs.declared.moments.Moment.{Moment}
-use Rattle.lexer.specs.Keywords.{keywords}
+use Rattle.lexer.specs.Keywords.{wordsIn}
 use Rattle.lexer.specs.declared.reading.Reading.{Reading}
 use Rattle.phrase.specs.Chains.{sizeTree}
 use Rattle.phrase.specs.Read.{ReadPhrase, readOf}
@@ -34,7 +34,7 @@ made-list : (x : DateTime) → sizeTree x ≤ 21 → isList (stepsOf x) ≡ true
 made-list x few = rw (le-leb (length (stepsOf x)) 24 (at-most-24 x few), made-formed x)
 
 -- for every reading, every phrase and every now, valid or not, running what was made equals `answerOf`
-pub ready-answers : (reading : Reading) (s : List ℕ) (n : Moment) → runReady (readyOf reading keywords s) n ≡ answerOf reading keywords s n
+pub ready-answers : (reading : Reading) (s : List ℕ) (n : Moment) → runReady (readyOf reading (wordsIn reading) s) n ≡ answerOf reading (wordsIn reading) s n
 unfolding readyOf answerOf runOf
 ready-answers reading s n = go (read-holds reading s)
   where
@@ -44,15 +44,15 @@ ready-answers reading s n = go (read-holds reading s)
     go (of-refusal b) = refl
 
 -- making ready refuses exactly when reading refuses, with the same number, place and part
-pub refuses-as-reading : (reading : Reading) (s : List ℕ) {r : Refusal} → readyOf reading keywords s ≡ refused r → readOf reading keywords s ≡ refused r
+pub refuses-as-reading : (reading : Reading) (s : List ℕ) {r : Refusal} → readyOf reading (wordsIn reading) s ≡ refused r → readOf reading (wordsIn reading) s ≡ refused r
 unfolding readyOf
-refuses-as-reading reading s {r} h = go (readOf reading keywords s) h
+refuses-as-reading reading s {r} h = go (readOf reading (wordsIn reading) s) h
   where
     go : (w : ReadPhrase) → andThen w (λ x. given (stepsOf (x .tree))) ≡ refused r → w ≡ refused r
     go (given x) h = cc
     go (refused q) h = cc
 
-pub reading-refuses : (reading : Reading) (s : List ℕ) {r : Refusal} → readOf reading keywords s ≡ refused r → readyOf reading keywords s ≡ refused r
+pub reading-refuses : (reading : Reading) (s : List ℕ) {r : Refusal} → readOf reading (wordsIn reading) s ≡ refused r → readyOf reading (wordsIn reading) s ≡ refused r
 unfolding readyOf
 reading-refuses reading s h = rw h
 
@@ -65,11 +65,11 @@ pub record MadeReady (ss : List Step) : Type 0 where
   pub small : All (SmallStep (24 * widest)) ss
 
 -- such a list is made, or the refusal is of 1 to 7, with a part within the phrase and the 256 bytes that it may have
-pub made-ready : (reading : Reading) (s : List ℕ) → Holds MadeReady (Bounded 1 7 (min (length s) 256)) (readyOf reading keywords s)
+pub made-ready : (reading : Reading) (s : List ℕ) → Holds MadeReady (Bounded 1 7 (min (length s) 256)) (readyOf reading (wordsIn reading) s)
 unfolding readyOf
-made-ready reading s = go (readOf reading keywords s) refl
+made-ready reading s = go (readOf reading (wordsIn reading) s) refl
   where
-    go : (w : ReadPhrase) → readOf reading keywords s ≡ w →
+    go : (w : ReadPhrase) → readOf reading (wordsIn reading) s ≡ w →
         Holds MadeReady (Bounded 1 7 (min (length s) 256)) (andThen w (λ x. given (stepsOf (x .tree))))
     go (given x) h =
         let few = given-holds (read-holds reading s) h .few in
@@ -77,6 +77,6 @@ made-ready reading s = go (readOf reading keywords s) refl
           most = at-most-24 (x .tree) few;
           apart = neighbours-apart (x .tree);
           list = made-list (x .tree) few;
-          small = all-smaller (omega arith) (tree-parts (x .tree) (given-holds (read-small reading keywords s) h) .all);
+          small = all-smaller (omega arith) (tree-parts (x .tree) (given-holds (read-small reading (wordsIn reading) s) h) .all);
         })
     go (refused r) h = of-refusal (refusal-holds (read-holds reading s) h)

@@ -5,7 +5,7 @@ use refusals::NONE;
 use refusals::Refusal;
 use steps::plan::Plan;
 ghost use mathlib.Core.Path.{_≡_};
-ghost use Rattle.lexer.specs.Keywords.{keywords};
+ghost use Rattle.lexer.specs.Keywords.{wordsIn};
 ghost use Rattle.ready.specs.Ready.{readyOf, readyAnswer};
 
 pub mod make;
@@ -21,7 +21,7 @@ pub struct Ready {
 
 // A phrase made ready in one of the readings: its steps, or what reading refuses.
 pub fn make_ready(reading: Reading, phrase: &[u8]) -> Ready
-    ensures { λ r. ⌜ r ≡ readyAnswer (readyOf reading keywords (now (phrase .entry))) ⌝ }
+    ensures { λ r. ⌜ r ≡ readyAnswer (readyOf reading (wordsIn reading) (now (phrase .entry))) ⌝ }
 {
     let x = read(reading, phrase);
     let refusal = x.refusal;

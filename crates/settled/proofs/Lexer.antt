@@ -12,7 +12,7 @@ token-at = same token-at'.Post _ _ (λ κs a z e p. p)
 pub refuse : Settled refuse'.Post
 refuse = same refuse'.Post _ _ (λ κs a z e p. p)
 
-pub lex : Settled lex'.Post × Same lex'.Post (λ κs z e. e .1 .0 .now) × Same lex'.Post (λ κs z e. e .1 .1 .0 .now)
+pub lex : Settled lex'.Post × Same lex'.Post (λ κs z e. e .1 .1 .0 .now) × Same lex'.Post (λ κs z e. e .1 .1 .1 .0 .now)
 lex = (
   same lex'.Post _ _ (λ κs a z e p. p .0),
   same lex'.Post _ _ (λ κs a z e p. p .1 .0),

@@ -53,7 +53,7 @@ unread-read κs a z e = all-models _ (λ w. r-fact _ _ (r-last _)) (λ w. refl) 
 pub unread : Same (Post unread'.ended _ unread-read) (λ κs z e. z .now) × Same (Post unread'.ended _ unread-read) (λ κs z e. z .ptr)
 unread = (same _ _ _ (λ κs a z e p. p .0), same _ _ _ (λ κs a z e p. p .1))
 
-pub lex : Settled lex'.Post × Same lex'.Post (λ κs z e. e .1 .0 .now) × Same lex'.Post (λ κs z e. e .1 .1 .0 .now)
+pub lex : Settled lex'.Post × Same lex'.Post (λ κs z e. e .1 .1 .0 .now) × Same lex'.Post (λ κs z e. e .1 .1 .1 .0 .now)
 lex = (
   same lex'.Post _ _ (λ κs a z e p. p .0),
   same lex'.Post _ _ (λ κs a z e p. p .1 .0),

@@ -1,9 +1,10 @@
 #!/usr/bin/env python3
 """What lexing answers, worked out apart from the code: writes this program's stdin and the stdout that it must give, each answer on two lines,
-since the program lexes by the lexer and by a reader, and behind them the unread rest behind the first token.
+since the program lexes by the lexer and by a reader, and behind them the unread rest behind the first token; all of it in the first reading and
+then in the second.
 
 The rules are those of document 01 (the refusal table and module 2), the words are the `map.insert` lines of the Rust's lexer.rs and the
-lexemes the variants of its enum, both in their order.
+lexemes the variants of its enum, both in their order. The second reading has the words of the first, "th" with a lexeme of its own, and three more.
 Use: python3 expected.py   (it writes ../stdin and ../stdout)
 """
 import pathlib
@@ -41,14 +42,20 @@ VALUES = {name: k + 1 for k, name in enumerate(ONES.split())} | {name: 20 + 10 *
 # a number word's code is its value; every other lexeme but Num has its code from 100 on; a literal's has its digits times 2^32 above its value
 OTHERS = [name for name in LEXEMES.split() if name not in VALUES and name != "Num"]
 CODES = VALUES | {name: 100 + k for k, name in enumerate(OTHERS)}
-WORDS = {word.encode(): CODES[name] for word, name in (row.split(":") for row in KEYWORDS.split())}
+def coded(rows):
+    return {word.encode(): CODES[name] for word, name in (row.split(":") for row in rows.split())}
+
+
+WORDS = coded(KEYWORDS)
+ADDED = coded("forty:Fourty fortieth:Fourty eighth:Eight")
+SECOND_WORDS = WORDS | coded("th:TH") | ADDED
 MARKS = {b"-": CODES["Dash"], b"/": CODES["Slash"], b".": CODES["Dot"], b",": CODES["Comma"], b":": CODES["Colon"]}
 
 
-def code_of(part):
+def code_of(words, part):
     """The code of a word, a number or a mark; or the number of its refusal, negative."""
     if part.isalpha():
-        return WORDS.get(part.lower(), -2)
+        return words.get(part.lower(), -2)
     if part.isdigit():
         return 2**32 * len(part) + int(part) if int(part) <= 4294967295 else -3
     return MARKS.get(part, -2)
@@ -58,12 +65,12 @@ def code_of(part):
 TOKEN = re.compile(rb"[A-Za-z]+|[0-9]+|[^ \t]")
 
 
-def answer(phrase):
+def answer(words, phrase):
     if len(phrase) > 256:
         return b"refused 1 at 0 to 0 part "
     lexemes = []
     for match in TOKEN.finditer(phrase):
-        code = code_of(match.group())
+        code = code_of(words, match.group())
         if code >= 0 and len(lexemes) == 64:
             code = -4
         if code < 0:
@@ -142,13 +149,21 @@ def cases():
     for _ in range(400):
         drawn = draw.choices(pieces, k=draw.randint(1, 12))
         yield draw.choice([b" ", b"", b"  "]).join(mixed_case(piece) if piece.isalpha() and draw.random() < 0.2 else piece for piece in drawn)
+    # the words that only the second reading has, as the others above, and beside the Rust's spellings
+    for word in ADDED:
+        yield mixed_case(word) + b" " + word.upper()
+        yield word[:-1]
+        yield b"now " + word + b"x"
+    yield from [b"fourty eigth 4th 24th TH th forty fortieth eighth eight", b"4th 24th TH th forty fortieth eighth eight fourty"]
+    yield from [b"forty", b"in forty days", b"forty-eighth", b"fourtieth fortieth", b"eigth", b"fourty", b"march the 24th", b"1th 2th 3th 40th"]
 
 
 phrases = list(cases())
-assert len(WORDS) == 133 and not any(b"\n" in phrase for phrase in phrases)
+assert len(WORDS) == 133 and len(SECOND_WORDS) == 136 and not any(b"\n" in phrase for phrase in phrases)
 text = b"\n".join(phrases)
 assert len(text) < 65536
 crate = pathlib.Path(__file__).resolve().parent.parent
 (crate / "stdin").write_bytes(text)
-told = (2 * (answer(phrase) + b"\n") + behind_first(phrase) + b"\n" for phrase in [bytes([b]) for b in range(256)] + phrases)
+all_phrases = [bytes([b]) for b in range(256)] + phrases
+told = (2 * (answer(words, phrase) + b"\n") + behind_first(phrase) + b"\n" for words in (WORDS, SECOND_WORDS) for phrase in all_phrases)
 (crate / "stdout").write_bytes(b"".join(told))

@@ -29,7 +29,7 @@ fn write_read(reading: Reading, codes: &[u64])
 pub(crate) fn write_phrase(reading: Reading, phrase: &[u8]) {
     let mut codes = [0u64; 64];
     let mut starts = [0u8; 64];
-    let r = lex(phrase, &mut codes, &mut starts);
+    let r = lex(reading, phrase, &mut codes, &mut starts);
     if r.refusal.number == 0 {
         let n = r.count;
         let lexemes = &codes[..n];

@@ -10,7 +10,7 @@ use lib.Seq.{take-all, take-take}
 use borrow.Author.Tests.{leb-true, leb-false, lt-leb}
 use Rattle.digits.specs.Forms.{ofForm}
 use Rattle.digits.proofs.Forms.{form-length}
-use Rattle.lexer.specs.Keywords.{keywords}
+use Rattle.lexer.specs.Keywords.{wordsIn}
 use Rattle.lexer.specs.Lex.{lexed}
 use Rattle.refusals.specs.Table as refusal
 use Rattle.calendar.specs.declared.moments.Moment.{Moment}
@@ -45,7 +45,7 @@ alike-kept l m e = go (leb (length l) 256) refl
         long many (omega arith)
 
 -- "phrase longer than 256 bytes" is refusal 1 at every now
-pub too-long : (l : List ℕ) (n : Moment) → 256 < length l → answerOf First keywords l n ≡ refuse refusal.TooLong 0 0
+pub too-long : (l : List ℕ) (n : Moment) → 256 < length l → answerOf First (wordsIn First) l n ≡ refuse refusal.TooLong 0 0
 unfolding answerOf readOf lexed
 too-long l n h = rw (lt-leb (length l) 256 h)
 

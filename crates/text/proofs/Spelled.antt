@@ -10,7 +10,7 @@ use Rattle.digits.specs.Bytes.{bytesOf}
 use Rattle.digits.specs.Digits.{widthOf, decimalOf}
 use Rattle.digits.proofs.Stores.{sets-append}
 use Rattle.digits.proofs.Widths.{digits-length, width-limit}
-use Rattle.lexer.specs.Keywords.{keywords}
+use Rattle.lexer.specs.Keywords.{wordsIn}
 use Rattle.calendar.specs.declared.moments.Moment.{Moment}
 use Rattle.text.specs.Answers.{Answer, given, refused, First, answerOf}
 use Rattle.text.specs.Texts.{refusalText, textOf, fitting}
@@ -31,7 +31,7 @@ text-limit (refused r) = omega (arith, refusal-length (r .number) (r .place), wi
 
 -- nor its line
 pub answer-limit : (n : Moment) (p : List ℕ) → length (answerLine n p) ≤ 53
-answer-limit n p = simp length-append (omega (arith, text-limit (answerOf First keywords p n)))
+answer-limit n p = simp length-append (omega (arith, text-limit (answerOf First (wordsIn First) p n)))
 
 -- a refusal, written part by part
 pub refusal-stored :

@@ -5,7 +5,7 @@ use Prim.Native.Nat.{ℕ}
 use lib.ListN.{getD}
 use Rattle.digits.specs.Bytes.{bytesOf}
 use Rattle.digits.specs.Digits.{widthOf}
-use Rattle.lexer.specs.Keywords.{keywords}
+use Rattle.lexer.specs.Keywords.{keywords, wordsIn}
 use Rattle.lexer.specs.Classes.{classOf, markOf}
 use Rattle.lexer.specs.Lex.{wordAt, tokenAt, lexed}
 use Rattle.phrase.specs.Read.{readOf}
@@ -26,20 +26,20 @@ phrases = bytesOf "next friday" ∷ bytesOf "forty days ago" ∷ bytesOf "5/2" �
 -- row i of the starred table
 starred-row :
     (i : ℕ) →
-    getD (map (λ c. answerOf First keywords (c .phrase) (c .from)) starred) i (refuse 0 0 0)
+    getD (map (λ c. answerOf First (wordsIn First) (c .phrase) (c .from)) starred) i (refuse 0 0 0)
     ≡ getD (map (λ c. c .answer) starred) i (refuse 0 0 0)
 starred-row i = ap (λ (l : List (Answer Moment)). getD l i (refuse 0 0 0)) (starred-as-listed .0)
 
-next-friday : answerOf First keywords (bytesOf "next friday") A ≡ given (momentOf 2026 2 20 9 30 15)
+next-friday : answerOf First (wordsIn First) (bytesOf "next friday") A ≡ given (momentOf 2026 2 20 9 30 15)
 unfolding starred
 next-friday = starred-row 1
 
 -- "forty" is no word of the Rust's
-forty-days-ago : answerOf First keywords (bytesOf "forty days ago") A ≡ refuse 2 0 5
-unfolding answerOf readOf lexed tokenAt wordAt classOf markOf keywords
+forty-days-ago : answerOf First (wordsIn First) (bytesOf "forty days ago") A ≡ refuse 2 0 5
+unfolding answerOf readOf lexed tokenAt wordAt classOf markOf keywords wordsIn
 forty-days-ago = refl
 
-five-two : answerOf First keywords (bytesOf "5/2") A ≡ refuse 7 1 3
+five-two : answerOf First (wordsIn First) (bytesOf "5/2") A ≡ refuse 7 1 3
 unfolding starred
 five-two = starred-row 6
 
@@ -54,8 +54,8 @@ first-line = refl
 
 answered : answerLines A phrases ≡ answers (given (momentOf 2026 2 20 9 30 15)) (refuse 2 0 5) (refuse 7 1 3)
 answered =
-    ap (λ (x : Answer Moment). answers x (answerOf First keywords (bytesOf "forty days ago") A) (answerOf First keywords (bytesOf "5/2") A)) next-friday
-    ∙ ap (λ (y : Answer Moment). answers (given (momentOf 2026 2 20 9 30 15)) y (answerOf First keywords (bytesOf "5/2") A)) forty-days-ago
+    ap (λ (x : Answer Moment). answers x (answerOf First (wordsIn First) (bytesOf "forty days ago") A) (answerOf First (wordsIn First) (bytesOf "5/2") A)) next-friday
+    ∙ ap (λ (y : Answer Moment). answers (given (momentOf 2026 2 20 9 30 15)) y (answerOf First (wordsIn First) (bytesOf "5/2") A)) forty-days-ago
     ∙ ap (λ (z : Answer Moment). answers (given (momentOf 2026 2 20 9 30 15)) (refuse 2 0 5) z) five-two
 
 spelled :

@@ -3,7 +3,7 @@ use Prim.Native.Nat.{ℕ, _-_, _*_, _≤_}
 use mathlib.Core.Path.{_≡_}
 use mathlib.Core.List.{List, [], _∷_, _++_}
 use lib.ListN.{length, take, drop}
-use Rattle.lexer.specs.Keywords.{keywords}
+use Rattle.lexer.specs.Keywords.{wordsIn}
 use Rattle.calendar.specs.declared.moments.Moment.{Moment}
 use Rattle.text.specs.Answers.{First, answerOf}
 use Rattle.text.specs.Nows.{nowOf}
@@ -16,7 +16,7 @@ use Rattle.text.specs.declared.stream.Piece.{Piece}
 
 -- the answer to a phrase at a now in the first reading, on a line of its own
 abbrev pub answerLine : Moment → List ℕ → List ℕ
-answerLine n p = textOf (answerOf First keywords p n) ++ (feed ∷ [])
+answerLine n p = textOf (answerOf First (wordsIn First) p n) ++ (feed ∷ [])
 
 -- an answer for each phrase
 abbrev pub answerLines : Moment → List (List ℕ) → List ℕ

@@ -5,7 +5,7 @@ use mathlib.Core.List.{List}
 use lib.ListN.{length}
 use lib.Seq.{sets}
 use denote.Ref.{now}
-use Rattle.lexer.specs.Keywords.{keywords}
+use Rattle.lexer.specs.Keywords.{wordsIn}
 use Rattle.steps.specs.declared.plan.Step.{Step}
 use Rattle.ready.specs.Ready.{ReadyPhrase, readyOf}
 use Rattle.records.specs.Records.{encodeOf}
@@ -18,7 +18,8 @@ use Rattle.fuzzydate.proofs.fuzzy_make_ready.Tie as tie
 -- the reading that was chosen is that of the number
 chosen-of :
     (made : tie.After-make-ready) → let args = made .before .before .before .before .before .before .args in
-    readyIn (args .reading) (now (args .phrase)) ≡ readyOf (made .before .before .chosen .given .0 .0) keywords (now (args .phrase))
+    let reading = made .before .before .chosen .given .0 .0 in
+    readyIn (args .reading) (now (args .phrase)) ≡ readyOf reading (wordsIn reading) (now (args .phrase))
 chosen-of made = rw (← (made .before .before .before .before .choose .ensures), made .before .before .chosen .given .1)
 
 -- what was made is a list

@@ -20,6 +20,7 @@ use Rattle.numbers.proofs.units.Kinds as units-kinds
 use Rattle.numbers.proofs.+units+whole.Lts-units as units-lts
 use Rattle.numbers.proofs.found.Reads as found-reads
 use Rattle.numbers.proofs.literal.Reads as literal-reads
+use Rattle.numbers.proofs.literal_tokens.Reads as literal-tokens-reads
 use Rattle.numbers.proofs.num_triple.Reads as num-triple-reads
 use Rattle.numbers.proofs.num_triple_unit.Reads as num-triple-unit-reads
 use Rattle.numbers.proofs.slices.is_at.Reads as is-at-reads
@@ -31,10 +32,10 @@ use Rattle.numbers.proofs.+units+whole.Tie.{close}
 
 -- the lexemes left fall at each turn: `units` passes fewer to `whole`, and `whole` all to `units`
 abbrev μ-whole : Measures 1 whole-kinds.ps ℕ
-μ-whole κs a = 2 * length (a .0 .now) + 1
+μ-whole κs a = 2 * length (a .1 .0 .now) + 1
 
 abbrev μ-units : Measures 1 units-kinds.ps ℕ
-μ-units κs a = 2 * length (a .0 .now)
+μ-units κs a = 2 * length (a .1 .0 .now)
 
 module _ (t : ℕ) where
   abbrev whole-at : In 1 whole-kinds.ps
@@ -52,6 +53,8 @@ module _ (t : ℕ) where
     units.Post,
     found-reads.Asked,
     found-reads.Learnt,
+    literal-tokens-reads.Asked,
+    literal-tokens-reads.Learnt,
     literal-reads.Asked,
     literal-reads.Learnt,
   )
@@ -88,8 +91,8 @@ module _ (t : ℕ) where
       let units = c .before .units in
       let arm = c .match in
       promised
-      (rw (num-is (now (c .before .before .before .before .args .l)), ← (num-triple .ensures .0), ← (units .ensures .0)) (sym (kept _ _ (arm .keys2))))
-      (num-read _)
+      (rw (num-is _ (now (c .before .before .before .before .args .l)), ← (num-triple .ensures .0), ← (units .ensures .0)) (sym (kept _ _ (arm .keys2))))
+      (num-read _ _)
 
   whole-found-requires : whole-lts.Need-found-requires whole-claims whole-at whole.Post
   whole-found-requires c κs = search needs
@@ -111,14 +114,14 @@ module _ (t : ℕ) where
       let arm2 = c .match2 in
       promised
       (rw (
-        num-is (now (c .before .before .before .before .before .before .before .before .args .l)),
+        num-is _ (now (c .before .before .before .before .before .before .before .before .args .l)),
         ← (num-triple .ensures .0),
         ← (units .ensures .0),
         enum-told .given .1,
         ← (found .ensures),
         ← (units2 .ensures .0),
       ) (sym (kept _ _ (arm2 .keys2))))
-      (num-read _)
+      (num-read _ _)
 
   whole-enum-told-3 : whole-lts.Need-enum-told-3 whole-claims whole-at whole.Post
   whole-enum-told-3 c = search needs
@@ -135,7 +138,7 @@ module _ (t : ℕ) where
       let arm3 = c .match3 in
       promised
       (rw (
-        num-is (now (c .before .before .before .before .before .before .before .before .before .before .args .l)),
+        num-is _ (now (c .before .before .before .before .before .before .before .before .before .before .args .l)),
         ← (num-triple .ensures .0),
         ← (units .ensures .0),
         enum-told .given .1,
@@ -143,7 +146,10 @@ module _ (t : ℕ) where
         ← (units2 .ensures .0),
         enum-told2 .given .1,
       ) (sym (kept _ _ (arm3 .keys2))))
-      (num-read _)
+      (num-read _ _)
+
+  whole-literal-tokens-requires : whole-lts.Need-literal-tokens-requires whole-claims whole-at whole.Post
+  whole-literal-tokens-requires c κs = search needs
 
   whole-literal-requires : whole-lts.Need-literal-requires whole-claims whole-at whole.Post
   whole-literal-requires c κs = search needs
@@ -151,17 +157,18 @@ module _ (t : ℕ) where
   whole-returns-4 : whole-lts.Need-returns-4 whole-claims whole-at whole.Post
   unfolding numStep
   whole-returns-4 c =
-      let num-triple = c .before .before .before .before .before .before .before .before .before .before .num-triple in
-      let units = c .before .before .before .before .before .before .before .before .before .units in
-      let enum-told = c .before .before .before .before .before .before .before .enum-told in
-      let found = c .before .before .before .before .before .before .found in
-      let units2 = c .before .before .before .before .before .units2 in
-      let enum-told2 = c .before .before .before .enum-told2 in
-      let enum-told3 = c .before .enum-told3 in
+      let num-triple = c .before .before .before .before .before .before .before .before .before .before .before .num-triple in
+      let units = c .before .before .before .before .before .before .before .before .before .before .units in
+      let enum-told = c .before .before .before .before .before .before .before .before .enum-told in
+      let found = c .before .before .before .before .before .before .before .found in
+      let units2 = c .before .before .before .before .before .before .units2 in
+      let enum-told2 = c .before .before .before .before .enum-told2 in
+      let enum-told3 = c .before .before .enum-told3 in
+      let literal-tokens = c .before .literal-tokens in
       let literal = c .literal in
       promised
       (rw (
-        num-is (now (c .before .before .before .before .before .before .before .before .before .before .before .before .args .l)),
+        num-is _ (now (c .before .before .before .before .before .before .before .before .before .before .before .before .before .args .l)),
         ← (num-triple .ensures .0),
         ← (units .ensures .0),
         enum-told .given .1,
@@ -169,9 +176,10 @@ module _ (t : ℕ) where
         ← (units2 .ensures .0),
         enum-told2 .given .1,
         enum-told3 .given .1,
+        ← (literal-tokens .ensures),
         ← (literal .ensures),
       ))
-      (num-read _)
+      (num-read _ _)
 
   units-enum-known-triple : units-lts.Need-enum-known-triple units-claims units-at units.Post
   units-enum-known-triple c = search needs
@@ -182,7 +190,7 @@ module _ (t : ℕ) where
       let arm = c .match in
       promised
       (rw (none (arm .keys2) (c .before .before .pre .1)))
-      (units-read numOf num-read _ _ (c .before .before .pre .1))
+      (units-read (numOf _) (num-read _) _ _ (c .before .before .pre .1))
 
   units-rest-requires : units-lts.Need-rest-requires units-claims units-at units.Post
   units-rest-requires c κs =
@@ -203,7 +211,7 @@ module _ (t : ℕ) where
       let arm2 = c .match2 in
       promised
       (rw (triple .given .1, ← (rest .ensures .0), ← (num-triple-unit .ensures .0), none (arm2 .keys2) (num-triple-unit .ensures .1)))
-      (units-read numOf num-read _ _ (c .before .before .before .before .before .before .before .pre .1))
+      (units-read (numOf _) (num-read _) _ _ (c .before .before .before .before .before .before .before .pre .1))
 
   units-cast-head : units-lts.Need-cast-head units-claims units-at units.Post
   units-cast-head c = search needs
@@ -266,7 +274,7 @@ module _ (t : ℕ) where
         ← (c .before .whole .ensures .0),
         ← (c .sum .ensures),
       ))
-      (units-read numOf num-read _ _ (start .before .before .before .pre .1))
+      (units-read (numOf _) (num-read _) _ _ (start .before .before .before .pre .1))
 
 pub +units+whole-spec : {M : Type 1} → statement M
 +units+whole-spec =
@@ -302,5 +310,6 @@ pub +units+whole-spec : {M : Type 1} → statement M
     (whole-returns-2 t)
     (whole-enum-told-3 t)
     (whole-returns-3 t)
+    (whole-literal-tokens-requires t)
     (whole-literal-requires t)
     (whole-returns-4 t))

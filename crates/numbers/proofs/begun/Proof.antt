@@ -28,11 +28,13 @@ enum-told c = search needs
 
 returns-2 : tie.Need-returns-2
 returns-2 c =
-    let l = now (c .before .before .before .before .before .before .args .l) in
+    let entry = c .before .before .before .before .before .before in
+    let reading = entry .args .reading in
+    let l = now (entry .args .l) in
     let get = c .before .before .before .before .get in
     let is-within = c .before .before .before .is-within in
     let apart = rw (get .ensures .0) at (sym (is-within .ensures) ∙ c .before .before .if1 .left) in
-    promised (sym (kept _ (numOf l) (c .match .keys2)) ∙ rw (c .before .word-or-literal .ensures) (alone l apart)) (num-read _)
+    promised (sym (kept _ (numOf reading l) (c .match .keys2)) ∙ rw (c .before .word-or-literal .ensures) (alone reading l apart)) (num-read _ _)
 
 whole-requires-2 : tie.Need-whole-requires-2
 whole-requires-2 c κs = search needs

@@ -14,7 +14,7 @@ enum-known-ones c = search needs
 
 returns : tie.Need-returns
 unfolding hundredsOf
-returns c = promised (rw (none (c .match .keys2) (c .before .before .pre))) (hundreds-taken _ _ (c .before .before .pre))
+returns c = promised (rw (none (c .match .keys2) (c .before .before .pre))) (hundreds-taken _ _ _ (c .before .before .pre))
 
 is-at-requires : tie.Need-is-at-requires
 is-at-requires c κs = search needs
@@ -72,13 +72,13 @@ returns-2 c =
       ← (c .before .num-double .ensures .0),
       ← (c .sum .ensures),
     ))
-    (hundreds-taken _ _ (then .before .before .before .before .before .before .pre))
+    (hundreds-taken _ _ _ (then .before .before .before .before .before .before .pre))
 
 returns-3 : tie.Need-returns-3
 unfolding hundredsOf
 returns-3 c =
     promised (rw (c .before .before .before .ones .given .1, ← (c .before .is-at .ensures .0), c .if1 .left))
-    (hundreds-taken _ _ (c .before .before .before .before .before .before .pre))
+    (hundreds-taken _ _ _ (c .before .before .before .before .before .before .pre))
 
 pub hundreds-spec : {M : Type 1} → statement M
 hundreds-spec =

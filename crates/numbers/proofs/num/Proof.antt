@@ -16,7 +16,7 @@ returns : tie.Need-returns
 returns c = search needs
 
 returns-2 : tie.Need-returns-2
-returns-2 c = promised (sym (no-num _ (sym (c .before .begins-number .ensures) ∙ c .if1 .left))) (num-read _)
+returns-2 c = promised (sym (no-num _ _ (sym (c .before .begins-number .ensures) ∙ c .if1 .left))) (num-read _ _)
 
 pub num-spec : {M : Type 1} → statement M
 num-spec = tie.close (tie.spec begins-number-requires begun-requires returns returns-2)

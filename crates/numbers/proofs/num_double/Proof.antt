@@ -17,7 +17,7 @@ unfolding numDoubleOf
 returns c =
     let tens-ones = c .before .tens-ones in
     let arm = c .match in
-    promised (rw (← (tens-ones .ensures .0)) (sym (kept _ _ (arm .keys2)))) (num-double-taken _)
+    promised (rw (← (tens-ones .ensures .0)) (sym (kept _ _ (arm .keys2)))) (num-double-taken _ _)
 
 teens-requires : tie.Need-teens-requires
 teens-requires c κs = search needs
@@ -34,7 +34,7 @@ returns-2 c =
     let arm2 = c .match2 in
     promised
     (rw (← (tens-ones .ensures .0), enum-told .given .1, ← (teens .ensures .0)) (sym (kept _ _ (arm2 .keys2))))
-    (num-double-taken _)
+    (num-double-taken _ _)
 
 ones-requires : tie.Need-ones-requires
 ones-requires c κs = search needs
@@ -53,7 +53,10 @@ returns-3 c =
     let arm3 = c .match3 in
     promised
     (rw (← (tens-ones .ensures .0), enum-told .given .1, ← (teens .ensures .0), enum-told2 .given .1, ← (ones .ensures .0)) (sym (kept _ _ (arm3 .keys2))))
-    (num-double-taken _)
+    (num-double-taken _ _)
+
+literal-tokens-requires : tie.Need-literal-tokens-requires
+literal-tokens-requires c κs = search needs
 
 literal-requires : tie.Need-literal-requires
 literal-requires c κs = search needs
@@ -61,12 +64,13 @@ literal-requires c κs = search needs
 returns-4 : tie.Need-returns-4
 unfolding numDoubleOf
 returns-4 c =
-    let tens-ones = c .before .before .before .before .before .before .before .before .before .tens-ones in
-    let enum-told = c .before .before .before .before .before .before .before .enum-told in
-    let teens = c .before .before .before .before .before .before .teens in
-    let enum-told2 = c .before .before .before .before .enum-told2 in
-    let ones = c .before .before .before .ones in
-    let enum-told3 = c .before .enum-told3 in
+    let tens-ones = c .before .before .before .before .before .before .before .before .before .before .tens-ones in
+    let enum-told = c .before .before .before .before .before .before .before .before .enum-told in
+    let teens = c .before .before .before .before .before .before .before .teens in
+    let enum-told2 = c .before .before .before .before .before .enum-told2 in
+    let ones = c .before .before .before .before .ones in
+    let enum-told3 = c .before .before .enum-told3 in
+    let literal-tokens = c .before .literal-tokens in
     let literal = c .literal in
     promised (rw (
       ← (tens-ones .ensures .0),
@@ -75,8 +79,9 @@ returns-4 c =
       enum-told2 .given .1,
       ← (ones .ensures .0),
       enum-told3 .given .1,
+      ← (literal-tokens .ensures),
       ← (literal .ensures),
-    )) (num-double-taken _)
+    )) (num-double-taken _ _)
 
 pub num-double-spec : {M : Type 1} → statement M
 num-double-spec =
@@ -91,5 +96,6 @@ num-double-spec =
     ones-requires
     enum-told-3
     returns-3
+    literal-tokens-requires
     literal-requires
     returns-4)

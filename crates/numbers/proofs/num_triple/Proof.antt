@@ -22,7 +22,7 @@ returns c =
     let ones = c .before .before .ones in
     let hundreds = c .before .hundreds in
     let arm = c .match in
-    promised (rw (← (ones .ensures .0), ← (hundreds .ensures .0)) (sym (kept _ _ (arm .keys2)))) (num-triple-taken _)
+    promised (rw (← (ones .ensures .0), ← (hundreds .ensures .0)) (sym (kept _ _ (arm .keys2)))) (num-triple-taken _ _)
 
 found-requires : tie.Need-found-requires
 found-requires c κs = search needs
@@ -49,7 +49,7 @@ returns-2 c =
       ← (c .before .before .found .ensures),
       ← (hundreds2 .ensures .0),
     ) (sym (kept _ _ (arm2 .keys2))))
-    (num-triple-taken _)
+    (num-triple-taken _ _)
 
 num-double-requires : tie.Need-num-double-requires
 num-double-requires c κs = search needs
@@ -76,7 +76,7 @@ returns-3 c =
       ← (hundreds2 .ensures .0),
       enum-told2 .given .1,
       ← (num-double .ensures .0),
-    ) (sym (kept _ _ (arm3 .keys2)))) (num-triple-taken _)
+    ) (sym (kept _ _ (arm3 .keys2)))) (num-triple-taken _ _)
 
 literal-hundreds-requires : tie.Need-literal-hundreds-requires
 literal-hundreds-requires c κs = search needs
@@ -102,7 +102,7 @@ returns-4 c =
       ← (num-double .ensures .0),
       enum-told3 .given .1,
       ← (c .literal-hundreds .ensures),
-    )) (num-triple-taken _)
+    )) (num-triple-taken _ _)
 
 pub num-triple-spec : {M : Type 1} → statement M
 num-triple-spec =

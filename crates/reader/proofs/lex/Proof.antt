@@ -1,16 +1,17 @@
--- `reader::lex` meets its contract. The loop's invariant: the first i lexemes are copied. Assumes nothing.
+-- `reader::lex` meets its contract. The loop's invariant: the first i lexemes that are gathered are copied. Assumes nothing.
 use mathlib.Core.Path.{_≡_, refl, ap, _∙_}
 use mathlib.Core.List.{List, map}
-use Prim.Native.Nat.{ℕ, _+_, _-_, _≤_, _<_}
+use Prim.Native.Nat.{ℕ, _-_, _≤_, _<_}
 use native.Mathlib.Nat.{zero-add}
 use native.Mathlib.Omega.{arith}
 use borrow.Author.Needs.{needs}
 use borrow.Author.Tests.{le-leb, lt-leb}
-use lib.ListN.{length, getD, take, set, replicate, length-map}
-use lib.Seq.{take-all, sets}
-use Rattle.lexer.specs.Keywords.{keywords}
+use lib.ListN.{length, getD, take, replicate, length-map}
+use lib.Seq.{sets, length-sets}
+use Rattle.lexer.specs.Keywords.{wordsIn}
+use Rattle.lexer.specs.Words.{Word}
 use Rattle.lexer.specs.Lex.{Item, lexed, front, codesOf, startsOf, endedOf}
-use Rattle.digits.proofs.Stores.{sets-at, sets-take}
+use Rattle.digits.proofs.Stores.{sets-at, sets-take, sets-taken}
 use Rattle.lexer.proofs.Places.{front-most, start-below, placed}
 use Rattle.reader.specs.declared.gather.Gathered.{Gathered}
 use Rattle.reader.specs.Gather.{gatheredOf}
@@ -19,64 +20,75 @@ use Rattle.reader.proofs.Taken.{lexed-is}
 use Rattle.reader.proofs.lex.Statement.{statement}
 use Rattle.reader.proofs.lex.Tie as tie
 
--- the first i of the lexemes l stand in the arrays
-record Copied (l : List Item) (codes₀ starts₀ codes starts : List ℕ) (i : ℕ) : Type 0 where
-  within : i ≤ length l
-  codes-are : codes ≡ sets codes₀ 0 (take i (codesOf l))
-  starts-are : starts ≡ sets starts₀ 0 (take i (startsOf l))
+-- the first i of the lexemes that are gathered stand in the arrays
+record Copied (g : Gathered) (codes₀ starts₀ codes starts : List ℕ) (i : ℕ) : Type 0 where
+  within : i ≤ g .count
+  codes-are : codes ≡ sets codes₀ 0 (take i (g .codes))
+  starts-are : starts ≡ sets starts₀ 0 (take i (g .starts))
 
 abbrev Inv-loop : tie.InvT-loop
-Inv-loop phrase codes₀ starts₀ g n read-codes read-starts i₀ codes starts i = Copied (front keywords phrase) codes₀ starts₀ codes starts i
+Inv-loop phrase codes₀ starts₀ g n read-codes read-starts i₀ codes starts i = Copied g codes₀ starts₀ codes starts i
 
 abbrev μ-loop : tie.MeasureT-loop
 μ-loop phrase codes₀ starts₀ g n read-codes read-starts i₀ codes starts i = n - i
 
--- what was read is what lexing reads, and the lexemes in front are those of the phrase
-read-is : (c : tie.After-read Inv-loop μ-loop) →
-    let s = c .before .before .before .args .phrase .now in
-    c .read .result ≡ gatheredOf (lexed keywords s) (front keywords s)
-unfolding front
-read-is c =
-    let s = c .before .before .before .args .phrase in
-    let short = le-leb (length (s .now)) 256 (c .before .if1 .left) in
-    rw (lexed-is s, short) (c .read .ensures)
+-- once the phrase is read: the words, the phrase, and what was gathered of it
+module _ (c : tie.After-read Inv-loop μ-loop) where
+  abbrev words : List Word
+  words = wordsIn (c .before .before .before .args .reading)
 
--- where all lexemes are copied, nothing is left out
-copied-all : (f : Item → ℕ) (l : List Item) (a : List ℕ) (i : ℕ) → i ≡ length l → sets a 0 (take i (map f l)) ≡ sets a 0 (map f l)
-copied-all f l a i e = ap (sets a 0) (take-all i (map f l) (omega (arith, length-map l f)))
-
--- the next lexeme is copied
-module _ (c : tie.In-loop Inv-loop μ-loop) where
   abbrev bytes : List ℕ
-  bytes = c .before .before .before .before .before .before .before .args .phrase .now
+  bytes = c .before .before .before .args .phrase .now
+
+  -- what was read is what lexing reads, and the lexemes in front are those of the phrase
+  read-is : c .read .result ≡ gatheredOf (lexed words bytes) (front words bytes)
+  unfolding front
+  read-is =
+      let short = le-leb (length bytes) 256 (c .before .if1 .left) in
+      rw (lexed-is (c .before .before .before .args .reading) (c .before .before .before .args .phrase), short) (c .read .ensures)
+
+  -- as many are gathered as stand in front
+  count-is : c .read .result .count ≡ length (front words bytes)
+  count-is = ap (λ (g : Gathered). g .count) read-is
+
+  -- both arrays have 64 places
+  codes-length : length (c .read .result .codes) ≡ 64
+  codes-length = rw read-is (length-sets (replicate 64 0) 0 (codesOf (front words bytes)))
+
+  starts-length : length (c .read .result .starts) ≡ 64
+  starts-length = rw read-is (length-sets (replicate 64 0) 0 (startsOf (front words bytes)))
+
+  -- as many of an array's values as there are lexemes are all of theirs
+  copied-all : (f : Item → ℕ) (i : ℕ) → i ≡ length (front words bytes)
+      → take i (sets (replicate 64 0) 0 (map f (front words bytes))) ≡ map f (front words bytes)
+  copied-all f i e =
+      let n = length-map (front words bytes) f in
+      sets-taken (map f (front words bytes)) (replicate 64 0) (omega (arith, front-most words bytes)) i (omega arith)
+
+-- the next lexeme, the i-th, is copied
+module _ (c : tie.In-loop Inv-loop μ-loop) where
+  abbrev at : tie.After-read Inv-loop μ-loop
+  at = c .before .before .before .before
 
   abbrev i : ℕ
   i = c .before .loop .i
 
-  below : i < length (front keywords bytes)
-  below = omega (arith, ap (λ (g : Gathered). g .count) (read-is (c .before .before .before .before)))
+  -- there is one
+  below : i < length (front (words at) (bytes at))
+  below = omega (arith, count-is at)
 
+  -- and a place for it
   within : i < 64
-  within = omega (arith, below, front-most keywords bytes)
+  within = omega (arith, below, front-most (words at) (bytes at))
 
-  -- a field of it, as it was gathered
-  fetched : (f : Item → ℕ) → getD (sets (replicate 64 0) 0 (map f (front keywords bytes))) i 0 ≡ getD (map f (front keywords bytes)) i 0
-  fetched f =
-      let n = length-map (front keywords bytes) f in
-      sets-at (map f (front keywords bytes)) (replicate 64 0) (omega (arith, front-most keywords bytes)) i (omega (arith, below))
-
-  code-is : getD (c .before .before .before .before .read .result .codes) i 0 ≡ getD (codesOf (front keywords bytes)) i 0
-  code-is = ap (λ (g : Gathered). getD (g .codes) i 0) (read-is (c .before .before .before .before)) ∙ fetched (λ (x : Item). x .code)
-
-  start-is : getD (c .before .before .before .before .read .result .starts) i 0 ≡ getD (startsOf (front keywords bytes)) i 0
-  start-is = ap (λ (g : Gathered). getD (g .starts) i 0) (read-is (c .before .before .before .before)) ∙ fetched (λ (x : Item). x .start)
-
-  -- and one more stands in an array
-  copied : (f : Item → ℕ) (a : List ℕ) {b : List ℕ} {v : ℕ} → b ≡ sets a 0 (take i (map f (front keywords bytes)))
-      → v ≡ getD (map f (front keywords bytes)) i 0 → set b i v ≡ sets a 0 (take (i + 1) (map f (front keywords bytes)))
-  copied f a e q =
-      let n = length-map (front keywords bytes) f in
-      rw (e, q) (rw zero-add at (sets-take a 0 (map f (front keywords bytes)) i (omega (arith, below))))
+  -- it begins within the first 256 bytes
+  start-fits : getD (at .read .result .starts) i 0 < 256
+  start-fits =
+      let l = front (words at) (bytes at) in
+      let n = length-map l (λ (x : Item). x .start) in
+      let is = sets-at (startsOf l) (replicate 64 0) (omega (arith, front-most (words at) (bytes at))) i (omega (arith, below)) in
+      let e = ap (λ (g : Gathered). getD (g .starts) i 0) (read-is at) ∙ is in
+      omega (arith, e, start-below (words at) (bytes at) i below)
 
 refuse-requires : tie.Need-refuse-requires Inv-loop μ-loop
 refuse-requires c κs = search needs
@@ -84,10 +96,11 @@ refuse-requires c κs = search needs
 returns : tie.Need-returns Inv-loop μ-loop
 unfolding front
 returns c =
-    let s = c .before .before .before .args .phrase in
-    let long = lt-leb (length (s .now)) 256 (c .before .if1 .taken) in
-    let right : c .refuse .result ≡ endedOf (lexed keywords (s .now)) = rw (lexed-is s, long) (c .refuse .ensures) in
-    (right, (simp long, (simp long, placed keywords (s .now) right)))
+    let a = c .before .before .before .args in
+    let ws = wordsIn (a .reading) in
+    let long = lt-leb (length (a .phrase .now)) 256 (c .before .if1 .taken) in
+    let right : c .refuse .result ≡ endedOf (lexed ws (a .phrase .now)) = rw (lexed-is (a .reading) (a .phrase), long) (c .refuse .ensures) in
+    (right, (simp long, (simp long, placed ws (a .phrase .now) right)))
 
 read-requires : tie.Need-read-requires Inv-loop μ-loop
 read-requires c κs = search needs
@@ -114,7 +127,7 @@ array-read-starts : tie.Need-array-read-starts Inv-loop μ-loop
 array-read-starts c = within c
 
 cast-starts : tie.Need-cast-starts Inv-loop μ-loop
-cast-starts c = rw (start-is c) (omega (arith, start-below keywords (bytes c) (i c) (below c)))
+cast-starts c = omega (arith, start-fits c)
 
 element-write-starts : tie.Need-element-write-starts Inv-loop μ-loop
 element-write-starts c = within c
@@ -128,24 +141,31 @@ loop-less c = omega arith
 loop-again : tie.Need-loop-again Inv-loop μ-loop
 loop-again c =
     let l = c .before .loop .inv in
-    let args = c .before .before .before .before .before .before .before .args in
+    let a = at c .before .before .before .args in
+    let g = at c .read .result in
     record {
-      within = omega (arith, below c);
-      codes-are = copied c (λ (x : Item). x .code) (args .codes .now) (l .codes-are) (code-is c);
-      starts-are = copied c (λ (x : Item). x .start) (args .starts .now) (l .starts-are) (start-is c);
+      within = omega arith;
+      codes-are = rw (l .codes-are) (rw zero-add at (sets-take (a .codes .now) 0 (g .codes) (i c) (omega (arith, within c, codes-length (at c)))));
+      starts-are = rw (l .starts-are) (rw zero-add at (sets-take (a .starts .now) 0 (g .starts) (i c) (omega (arith, within c, starts-length (at c)))));
     }
 
 returns-2 : tie.Need-returns-2 Inv-loop μ-loop
 returns-2 c =
     let l = c .before .before .loop in
     let read = c .before .before .before .before .before in
+    let ws = words read in
+    let s = bytes read in
     let args = read .before .before .before .args in
-    let s = args .phrase .now in
-    let all : l .i ≡ length (front keywords s) = omega (arith, ap (λ (g : Gathered). g .count) (read-is read)) in
+    let all : l .i ≡ length (front ws s) = omega (arith, count-is read) in
     let right = ap (λ (g : Gathered). g .ended) (read-is read) in
-    let codes = l .inv .codes-are ∙ copied-all (λ (x : Item). x .code) (front keywords s) (args .codes .now) (l .i) all in
-    let starts = l .inv .starts-are ∙ copied-all (λ (x : Item). x .start) (front keywords s) (args .starts .now) (l .i) all in
-    (right, (codes, (starts, placed keywords s right)))
+    let codes = ap (λ (g : Gathered). take (l .i) (g .codes)) (read-is read) ∙ copied-all read (λ (x : Item). x .code) (l .i) all in
+    let starts = ap (λ (g : Gathered). take (l .i) (g .starts)) (read-is read) ∙ copied-all read (λ (x : Item). x .start) (l .i) all in (
+      right,
+      (
+        l .inv .codes-are ∙ ap (sets (args .codes .now) 0) codes,
+        (l .inv .starts-are ∙ ap (sets (args .starts .now) 0) starts, placed ws s right),
+      ),
+    )
 
 pub lex-spec : {M : Type 1} → statement M
 lex-spec =

@@ -26,23 +26,27 @@ use denote.Laws.{Is}
 use denote.Plain.{uint-lawful, nothing-lawful, nothing-makes}
 use denote.Builtin.{u8, unit}
 use denote.Ref.{RefT, NamedLft, now}
+use denote.Signature.{plain}
 use denote.Slice.{sliceVal, ShrSlice, slice-vals, shr-slice-tells, shr-slice-lawful}
 use denote.Steps.{owned, nothing as none}
 use denote.Enum.Laws as EL
 use denote.Struct.Laws as LL
 use denote.Triple.Call.{calls-at}
-use denote.Triple.Entry.{onEntry}
+use denote.Triple.Entry.{Vals, onEntry}
 use denote.Triple.Statement.{Contract, Triple}
 use denote.Triple.Table.{entered, cited}
 use denote.Triple.Walked.{Stays, stay-dropped, onExit, walkOf, ends-at}
 use denote.Exit.{yes}
 use Rattle.lexer.specs.declared.lex.Token.{Token}
+use Rattle.lexer.specs.declared.reading.Reading.{Reading}
+use Rattle.lexer.proofs.reading.Reading as R
+use Rattle.lexer.proofs.reading.Reading.Laws as R′
 use Rattle.lexer.proofs.lex.Token as S
 use Rattle.lexer.proofs.lex.Token.Laws as S′
 use Rattle.reader.specs.declared.Lexer.{Lexer}
 use Rattle.reader.specs.Read.{newOf, nextOf, behindOf, restStart}
 use Rattle.reader.proofs.Walks.{Promise, meets, brings, answered, told}
-use Rattle.reader.proofs.Held.{Phrase, α, Held, phrase-goes}
+use Rattle.reader.proofs.Held.{Phrase, α, Held, tag, tag-goes, phrase-goes, tag-typed}
 use Rattle.reader.proofs.Lexer as T
 use Rattle.reader.proofs.Lexer.Laws as T′
 use Rattle.reader.proofs.Lexer.new as new
@@ -69,7 +73,7 @@ use Rattle.test_lexer.proofs.write_behind.Key.{name as #write-behind}
 use Rattle.test_lexer.proofs.write_behind.Statement.{statement}
 
 abbrev stayed : Stays (fn.ended .signature .params) (fn.ended .kept)
-stayed = (stay-dropped Phrase yes, tt)
+stayed = (stay-dropped (plain (λ _. R.the-row)) yes, (stay-dropped Phrase yes, tt))
 
 -- what `unread` promises: the rest of the phrase, where it stands in the phrase
 abbrev Rest-of : Lexer → RefT (List ℕ) → Type 0
@@ -106,13 +110,16 @@ module _ {M : Type 1} (𝓤 : URA M) (H : Heap 𝓤) (A : Atoms 𝓤) (W : Given
     of-unread : Triple 𝓤 (𝓣 .C unread-def.name) Unread
     of-rest : Triple 𝓤 (𝓣 .C rest-def.name) Rest
 
-  module _ (κ : Lft) (q : Share) (s : RefT (List ℕ)) where
-    -- the slice's machine value
+  module _ (κ : Lft) (q : Share) (reading : Reading) (s : RefT (List ℕ)) where
+    -- the machine values
     abbrev v : Val
     v = sliceVal (s .ptr) (length (s .now))
 
+    abbrev at : Vals fn.signature (κ, tt)
+    at = (tag reading ∷ [], (v ∷ [], tt))
+
     abbrev bound : walkOf 𝓤 H A fn.ended stayed (fn.clauses 𝓤 H A mem run) .Ghost
-    bound = (((κ, tt), (q, tt), tt, (s, tt), (v ∷ [], tt)), tt)
+    bound = (((κ, tt), (q, tt), tt, (reading, (s, tt)), at), tt)
 
     abbrev Post : Val → SProp 𝓤
     Post = walkOf 𝓤 H A fn.ended stayed (fn.clauses 𝓤 H A mem run) .post bound
@@ -126,15 +133,15 @@ module _ {M : Type 1} (𝓤 : URA M) (H : Heap 𝓤) (A : Atoms 𝓤) (W : Given
 
     exits : ent 𝓤 (⋆ 𝓤 H A (raw (toks 𝓤 A 1 (κ, tt) (q, tt)) ∷ [])) (Post vunit)
     exits =
-        let P = onExit 𝓤 H A fn.ended stayed (κ, tt) (q, tt) (v ∷ [], tt) vunit tt (s, tt) (tt, tt) in
+        let P = onExit 𝓤 H A fn.ended stayed (κ, tt) (q, tt) at vunit tt (reading, (s, tt)) (tt, (tt, tt)) in
         qed W (raw (toks 𝓤 A 1 (κ, tt) (q, tt)) ∷ []) ∵
-        suffices ! _ (ends-at 𝓤 H A fn.ended stayed (fn.clauses 𝓤 H A mem run) W bound vunit tt (tt, tt) (tt, tt)) $
+        suffices ! _ (ends-at 𝓤 H A fn.ended stayed (fn.clauses 𝓤 H A mem run) W bound vunit tt (tt, (tt, tt)) (tt, (tt, tt))) $
         suffices ! P (via 𝓤 (sep 𝓤 (emp 𝓤) P) (emp∗ 𝓤 P) (comm∗ 𝓤 (emp 𝓤) P)) $
-        frame ! $ none ! $ none ! $ fjoin ! $ frame ! $ owned ! unit (Is unit) (nothing-makes 𝓤 H A W) tt _ refl $ done !
+        frame ! $ none ! $ none ! $ fjoin ! $ none ! $ fjoin ! $ frame ! $ owned ! unit (Is unit) (nothing-makes 𝓤 H A W) tt _ refl $ done !
 
     -- what each call is passed
     abbrev to-new : New .Ghost
-    to-new = (((κ, tt), (q, tt), tt, (s, tt), (v ∷ [], tt)), tt)
+    to-new = (((κ, tt), (q, tt), tt, (reading, (s, tt)), at), tt)
 
     abbrev to-next : Lexer → Val → Next .Ghost
     to-next r u = (((κ, tt), (q, tt), tt, (r, tt), (u ∷ [], tt)), tt)
@@ -152,19 +159,21 @@ module _ {M : Type 1} (𝓤 : URA M) (H : Heap 𝓤) (A : Atoms 𝓤) (W : Given
     to-rest n w x y = (((κ, tt), (q, tt), tt, (n, (x, tt)), (w ∷ [], (y ∷ [], tt))), tt)
 
     walk : (𝓣 : Tables 𝓤 H) → Known 𝓣 → Is (ShrSlice (named 0) κ u8) s (v ∷ [])
-        → ent 𝓤 (onEntry 𝓤 H A fn.signature (κ, tt) (q, tt) (s, tt) (v ∷ [], tt)) (WpFn 𝓤 H (𝓣 .C) (𝓣 .Λ) code.function (v ∷ []) Post)
+        → ent 𝓤 (onEntry 𝓤 H A fn.signature (κ, tt) (q, tt) (reading, (s, tt)) at) (WpFn 𝓤 H (𝓣 .C) (𝓣 .Λ) code.function (tag reading ∷ v ∷ []) Post)
     walk 𝓣 known is-s =
         let fm = fmOf 𝓤 H (W .laws) 𝓣 in
-        qed W (raw (toks 𝓤 A 1 (κ, tt) (q, tt)) ∷ ‵ (owns (ShrSlice (named 0) κ u8 ∷ []) (s, tt) (v ∷ [], tt)) ∷ []) ∵
-        enter ! (𝓣 .C) (𝓣 .Λ) code.function (v ∷ []) _ $
+        qed W (raw (toks 𝓤 A 1 (κ, tt) (q, tt)) ∷ ‵ (owns (R.the-row ∷ ShrSlice (named 0) κ u8 ∷ []) (reading, (s, tt)) at) ∷ []) ∵
+        enter ! (𝓣 .C) (𝓣 .Λ) code.function (tag reading ∷ v ∷ []) _ $
         alloc1 ! (λ l₀. alloc1 ! (λ l₁. alloc1 ! (λ l₂. alloc1 ! (λ l₃. alloc1 ! (λ l₄. alloc1 ! (λ l₅.
-        alloc1 ! (λ l₆. alloc1 ! (λ l₇. alloc1 ! (λ l₈. alloc1 ! (λ l₉. alloc1 ! (λ l₁₀. alloc1 ! (λ l₁₁. alloc0 ! $
-        params1 ! $ pass1 ! (init ! 20 refl (shr-slice-lawful 𝓤 H A W (named 0) κ u8 .typed s (v ∷ []) is-s .0)) $ pass0 ! $
-        -- [room for _11; …; _1; …; room for _0; …; the token; what the slice owns]
-        move ! (24 ∷ 25 ∷ []) $ brings ! new.ended (new.clauses 𝓤 H A mem run) to-new (id⊢ 𝓤 (emp 𝓤)) $
-        calls-at ! fm New (known .of-new) to-new (and-then ! (load ! (from ! (stop !)) (look ! 21 refl)) (no-more !)) (λ u.
-        told ! tt new.ended (new.clauses 𝓤 H A mem run) to-new u (λ r. r ≡ newOf s) (λ r ws. id⊢ 𝓤 _) (λ r e is-r.
-        -- [what the reader owns; the token; room for _11; …]
+        alloc1 ! (λ l₆. alloc1 ! (λ l₇. alloc1 ! (λ l₈. alloc1 ! (λ l₉. alloc1 ! (λ l₁₀. alloc1 ! (λ l₁₁. alloc1 ! (λ l₁₂. alloc0 ! $
+        params1 ! $ pass1 ! (init ! 22 refl (tag-typed 𝓤 H A W reading)) $
+        pass1 ! (init ! 20 refl (shr-slice-lawful 𝓤 H A W (named 0) κ u8 .typed s (v ∷ []) is-s .0)) $ pass0 ! $
+        -- [room for _12; …; _2; …; _1; …; room for _0; …; the token; what the reading and the slice own]
+        move ! (26 ∷ 27 ∷ []) $ brings ! new.ended (new.clauses 𝓤 H A mem run) to-new (id⊢ 𝓤 (emp 𝓤)) $
+        calls-at ! fm New (known .of-new) to-new
+        (and-then ! (load ! (from ! (stop !)) (look ! 23 refl)) (and-then ! (load ! (from ! (stop !)) (look ! 21 refl)) (no-more !))) (λ u.
+        told ! tt new.ended (new.clauses 𝓤 H A mem run) to-new u (λ r. r ≡ newOf reading s) (λ r ws. id⊢ 𝓤 _) (λ r e is-r.
+        -- [what the reader owns; the token; room for _12; …]
         land ! (from ! (stop !)) (init ! 20 refl (reader-typed r u is-r)) $
         assigns ! (of-opd ! (load ! (from ! (stop !)) (look ! 20 refl))) (from ! (stop !)) (init ! 16 refl (reader-typed r u is-r)) $
         assigns ! (of-opd ! (load ! (from ! (stop !)) (look ! 20 refl))) (from ! (stop !)) (init ! 12 refl (reader-typed r u is-r)) $
@@ -174,14 +183,14 @@ module _ {M : Type 1} (𝓤 : URA M) (H : Heap 𝓤) (A : Atoms 𝓤) (W : Given
         brings ! next.ended (next.clauses 𝓤 H A mem run) (to-next r u) (id⊢ 𝓤 (emp 𝓤)) $
         calls-at ! fm Next (known .of-next) (to-next r u) (and-then ! (load ! (from ! (stop !)) (look ! 12 refl)) (no-more !)) (λ w.
         told ! tt next.ended (next.clauses 𝓤 H A mem run) (to-next r u) w (λ k. k ≡ nextOf r) (λ k ws. id⊢ 𝓤 _) (λ k e is-k.
-        -- [what the token read owns; the token; what the reader owns; room for _11; …]
+        -- [what the token read owns; the token; what the reader owns; room for _12; …]
         land ! (from ! (stop !)) (init ! 15 refl (EL.lawful S.the-type S′.the-laws 𝓤 H A W tt .typed k _ is-k .0)) $
         none ! $ move ! (1 ∷ 0 ∷ []) $ fjoin ! $ move ! (2 ∷ 0 ∷ []) $ fjoin ! $ move ! (1 ∷ 0 ∷ []) $
         brings ! behind.ended (behind.clauses 𝓤 H A mem run) (to-behind r u k w) (id⊢ 𝓤 (emp 𝓤)) $
         calls-at ! fm Behind (known .of-behind) (to-behind r u k w)
         (and-then ! (load ! (from ! (stop !)) (look ! 15 refl)) (and-then ! (load ! (from ! (stop !)) (look ! 13 refl)) (no-more !))) (λ u′.
         told ! tt behind.ended (behind.clauses 𝓤 H A mem run) (to-behind r u k w) u′ (λ r′. r′ ≡ behindOf r k) (λ r′ ws. id⊢ 𝓤 _) (λ r′ e′ is-r′.
-        -- [what the moved reader owns; the token; room for _11; …]
+        -- [what the moved reader owns; the token; room for _12; …]
         land ! (from ! (stop !)) (init ! 18 refl (reader-typed r′ u′ is-r′)) $
         assigns ! (of-opd ! (load ! (from ! (stop !)) (look ! 18 refl))) (from ! (stop !)) (init ! 6 refl (reader-typed r′ u′ is-r′)) $
         use1 W (‵ (Held (κ, tt) .own r′ (u′ ∷ [])) ⊛ ‵ (Held (κ, tt) .own r′ (u′ ∷ [])))
@@ -190,7 +199,7 @@ module _ {M : Type 1} (𝓤 : URA M) (H : Heap 𝓤) (A : Atoms 𝓤) (W : Given
         brings ! place.ended (place.clauses 𝓤 H A mem run) (to-place r′ u′) (id⊢ 𝓤 (emp 𝓤)) $
         calls-at ! fm Place (known .of-place) (to-place r′ u′) (and-then ! (load ! (from ! (stop !)) (look ! 6 refl)) (no-more !)) (λ w′.
         told ! tt place.ended (place.clauses 𝓤 H A mem run) (to-place r′ u′) w′ (λ n. n ≡ r′ .at) (λ n ws. id⊢ 𝓤 _) (λ n e″ is-n.
-        -- [the place; the token; what the moved reader owns; room for _11; …]
+        -- [the place; the token; what the moved reader owns; room for _12; …]
         land ! (from ! (stop !)) (init ! 9 refl (uint-lawful 𝓤 H A W w64 .typed n _ is-n .0)) $
         assigns ! (of-opd ! (load ! (from ! (stop !)) (look ! 19 refl))) (from ! (stop !)) (init ! 3 refl (reader-typed r′ u′ is-r′)) $
         none ! $ move ! (3 ∷ 0 ∷ []) $ fjoin ! $ move ! (2 ∷ 0 ∷ []) $
@@ -198,7 +207,7 @@ module _ {M : Type 1} (𝓤 : URA M) (H : Heap 𝓤) (A : Atoms 𝓤) (W : Given
         calls-at ! fm Unread (known .of-unread) (to-unread r′ u′) (and-then ! (load ! (from ! (stop !)) (look ! 2 refl)) (no-more !)) (λ y.
         told ! tt unread.ended (unread.clauses 𝓤 H A mem run) (to-unread r′ u′) y (Rest-of r′)
         (λ x ws. fst∗ 𝓤 (fact 𝓤 (Rest-of r′ x)) (fact 𝓤 (Stands-at r′ x))) (λ x e‴ is-x.
-        -- [what the unread rest owns; the token; the place; _11; …]
+        -- [what the unread rest owns; the token; the place; _12; …]
         land ! (from ! (stop !)) (init ! 5 refl (shr-slice-lawful 𝓤 H A W erased κ u8 .typed x _ is-x .0)) $
         none ! $ move ! (1 ∷ 0 ∷ []) $ fjoin ! $ move ! (2 ∷ 0 ∷ []) $ fjoin ! $ move ! (1 ∷ 0 ∷ []) $
         brings ! rest.ended (rest.clauses 𝓤 H A mem run) (to-rest n w′ x y) (id⊢ 𝓤 (emp 𝓤)) $
@@ -206,13 +215,13 @@ module _ {M : Type 1} (𝓤 : URA M) (H : Heap 𝓤) (A : Atoms 𝓤) (W : Given
         (and-then ! (load ! (from ! (stop !)) (look ! 7 refl)) (and-then ! (load ! (from ! (stop !)) (look ! 3 refl)) (no-more !))) (λ z.
         answered ! tt rest.ended (rest.clauses 𝓤 H A mem run) (to-rest n w′ x y) z (λ o. emp 𝓤) (λ o ws. id⊢ 𝓤 _) (λ o is-o.
         land ! (from ! (stop !)) (init ! 11 refl (nothing-lawful 𝓤 H A W .typed o _ is-o .0)) $
-        assigns ! (of-opd ! (unit-lit !)) (from ! (stop !)) (init ! 25 refl (tt, tt)) $
-        returns ! (look ! 25 refl) $ forget ! 3 refl $ forget ! 5 refl $ forget ! 7 refl $ forget ! 9 refl $ forget ! 11 refl $ forget ! 13 refl $
-        forget ! 15 refl $ forget ! 17 refl $ forget ! 19 refl $ forget ! 21 refl $ forget ! 23 refl $ forget ! 25 refl $
-        move ! (25 ∷ 26 ∷ []) $ free1 ! $ move ! (23 ∷ 24 ∷ []) $ free1 ! $ move ! (21 ∷ 22 ∷ []) $ free1 ! $ move ! (19 ∷ 20 ∷ []) $ free1 ! $
+        assigns ! (of-opd ! (unit-lit !)) (from ! (stop !)) (init ! 27 refl (tt, tt)) $
+        returns ! (look ! 27 refl) $ forget ! 3 refl $ forget ! 5 refl $ forget ! 7 refl $ forget ! 9 refl $ forget ! 11 refl $ forget ! 13 refl $
+        forget ! 15 refl $ forget ! 17 refl $ forget ! 19 refl $ forget ! 21 refl $ forget ! 23 refl $ forget ! 25 refl $ forget ! 27 refl $
+        move ! (27 ∷ 28 ∷ []) $ free1 ! $ move ! (25 ∷ 26 ∷ []) $ free1 ! $ move ! (23 ∷ 24 ∷ []) $ free1 ! $ move ! (21 ∷ 22 ∷ []) $ free1 ! $ move ! (19 ∷ 20 ∷ []) $ free1 ! $
         move ! (17 ∷ 18 ∷ []) $ free1 ! $ move ! (15 ∷ 16 ∷ []) $ free1 ! $ move ! (13 ∷ 14 ∷ []) $ free1 ! $ move ! (11 ∷ 12 ∷ []) $ free1 ! $
         move ! (9 ∷ 10 ∷ []) $ free1 ! $ move ! (7 ∷ 8 ∷ []) $ free1 ! $ move ! (5 ∷ 6 ∷ []) $ free1 ! $ move ! (3 ∷ 4 ∷ []) $ free1 ! $ free0 ! $
-        keep ! (1 ∷ []) $ by ! exits))))))))))))))))))))))))
+        keep ! (1 ∷ []) $ by ! exits)))))))))))))))))))))))))
 
 pub write-behind-spec : {M : Type 1} → statement M
 unfolding code.routine tablesOf
@@ -233,6 +242,7 @@ write-behind-spec 𝓤 H 𝓜 𝓖 𝓡 =
     } in
     entered 𝓤 H (Promise 𝓤 H A fn.ended clauses) (𝓣 .C) (𝓣 .Λ) #write-behind code.function (code.unfolded 𝓤 H 𝓜 𝓡)
     (meets 𝓤 H A fn.ended clauses W stayed (tablesOf 𝓤 H 𝓜 𝓣) code.function
-    (phrase-goes 𝓤 H A W, tt)
-    (λ κs. (slice-vals, tt)) (λ κs. (shr-slice-tells (named 0) (κs .0) u8, tt))
-    (λ κs qs bounds a g are. walk 𝓤 H A W mem run (κs .0) (qs .0) (a .0) (tablesOf 𝓤 H 𝓜 𝓣) known (are .0)))
+    (tag-goes 𝓤 H A W, (phrase-goes 𝓤 H A W, tt))
+    (λ κs. (EL.vals R.the-type R′.the-laws, (slice-vals, tt)))
+    (λ κs. (EL.tells R.the-type R′.the-laws, (shr-slice-tells (named 0) (κs .0) u8, tt)))
+    (λ κs qs bounds a g are. walk 𝓤 H A W mem run (κs .0) (qs .0) (a .0) (a .1 .0) (tablesOf 𝓤 H 𝓜 𝓣) known (are .1 .0)))

@@ -5,16 +5,16 @@ use Rattle.test_lexer.proofs.write_bytes.Statement.{statement}
 use Rattle.test_lexer.proofs.write_bytes.Tie as tie
 
 abbrev Inv-loop : tie.InvT-loop
-Inv-loop b₀ b = Unit {0}
+Inv-loop reading b₀ b = Unit {0}
 
 abbrev μ-loop : tie.MeasureT-loop
-μ-loop b₀ b = 256 - b
+μ-loop reading b₀ b = 256 - b
 
 loop-holds : tie.Need-loop-holds Inv-loop μ-loop
 loop-holds c = search needs
 
-cast-t5 : tie.Need-cast-t5 Inv-loop μ-loop
-cast-t5 c = search needs
+cast-t6 : tie.Need-cast-t6 Inv-loop μ-loop
+cast-t6 c = search needs
 
 slice-aggregate-write-answer : tie.Need-slice-aggregate-write-answer Inv-loop μ-loop
 slice-aggregate-write-answer c = search needs
@@ -41,7 +41,7 @@ write-bytes-spec =
     Inv-loop
     μ-loop
     loop-holds
-    cast-t5
+    cast-t6
     slice-aggregate-write-answer
     write-answer-requires
     add-b

@@ -54,11 +54,11 @@ returns-2 c =
 three-numbers-requires : tie.Need-three-numbers-requires
 three-numbers-requires c κs = search needs
 
-add-t12 : tie.Need-add-t12
-add-t12 c = search needs
+add-t13 : tie.Need-add-t13
+add-t13 c = search needs
 
-add-t14 : tie.Need-add-t14
-add-t14 c =
+add-t15 : tie.Need-add-t15
+add-t15 c =
     let e = number-found (c .before .before .before .a .given .1) (c .before .before .before .before .before .num .ensures .1) in
     omega arith
 
@@ -108,8 +108,8 @@ behind-second-spec =
     date-stopped-requires
     returns-2
     three-numbers-requires
-    add-t12
-    add-t14
+    add-t13
+    add-t15
     returns-3
     two-numbers-requires
     returns-4)

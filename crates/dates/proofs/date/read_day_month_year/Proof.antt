@@ -78,8 +78,8 @@ returns-3 c =
       ← (num .ensures .0),
     ) (unread _ _ (number-arm (num .result) (c .before .match3 .keys2)) (c .date-stopped2 .ensures))
 
-add-t12 : tie.Need-add-t12
-add-t12 c =
+add-t13 : tie.Need-add-t13
+add-t13 c =
     let entry = c .before .before .before .before .before .before .before .before .before .before .before .before .before .before .before .before in
     let room = rest-requires-2 (c .before .before .before .before .before .before) (entry .κs) in
     let e = number-found (c .before .before .b .given .1) (c .before .before .before .before .num .ensures .1) in
@@ -118,5 +118,5 @@ read-day-month-year-spec =
     enum-known-b
     date-stopped-requires-2
     returns-3
-    add-t12
+    add-t13
     returns-4)

@@ -16,7 +16,7 @@ unfolding concreteOf
 returns c =
     promised
     (rw (← (c .before .read-specific .ensures .0)) (kept _ _ (part-arm (c .before .read-specific .result) (c .match .keys2))))
-    (concrete-took _)
+    (concrete-took _ _)
 
 read-article-requires : tie.Need-read-article-requires
 read-article-requires c κs = search needs
@@ -25,7 +25,7 @@ returns-2 : tie.Need-returns-2
 unfolding concreteOf
 returns-2 c =
     let read-specific = c .before .before .before .read-specific in
-    promised (rw (← (read-specific .ensures .0), c .before .enum-told .given .1, ← (c .read-article .ensures .0))) (concrete-took _)
+    promised (rw (← (read-specific .ensures .0), c .before .enum-told .given .1, ← (c .read-article .ensures .0))) (concrete-took _ _)
 
 pub read-concrete-spec : {M : Type 1} → statement M
 read-concrete-spec =

@@ -14,10 +14,10 @@ use Rattle.dates.proofs.duration.read_duration.Tie as tie
 
 -- what was passed, and then what is joined to it, is the answer
 abbrev Inv-loop : tie.InvT-loop
-Inv-loop l t end₀ sub-daily₀ end sub-daily = Joined subDailyKept (takenAnswer (durationOf l)) l end sub-daily
+Inv-loop reading l t end₀ sub-daily₀ end sub-daily = Joined subDailyKept reading (takenAnswer (durationOf reading l)) l end sub-daily
 
 abbrev μ-loop : tie.MeasureT-loop
-μ-loop l t end₀ sub-daily₀ end sub-daily = length l - end
+μ-loop reading l t end₀ sub-daily₀ end sub-daily = length l - end
 
 read-concrete-requires : tie.Need-read-concrete-requires Inv-loop μ-loop
 read-concrete-requires c κs = search needs
@@ -32,10 +32,11 @@ returns : tie.Need-returns Inv-loop μ-loop
 unfolding durationTurn
 returns c =
     let read-concrete = c .before .before .read-concrete in
+    let reading = c .before .before .before .before .args .reading in
     let l = now (c .before .before .before .before .args .l) in
     let arm = part-arm (read-concrete .result) (c .before .match .keys2) in
-    taken-promised l (rw (
-      duration-is l,
+    taken-promised reading l (rw (
+      duration-is reading l,
       ← (read-concrete .ensures .0),
       ← (unread (parsedPart (read-concrete .result)) _ arm refl),
     ) (c .taken-stopped .ensures))
@@ -45,9 +46,9 @@ is-sub-daily-requires c κs = search needs
 
 loop-holds : tie.Need-loop-holds Inv-loop μ-loop
 loop-holds c =
-    let looking = taken-looking (now (c .before .before .before .before .before .before .args .l)) in
+    let looking = taken-looking _ (now (c .before .before .before .before .before .before .args .l)) in
     let read-concrete = c .before .before .before .before .read-concrete in
-    let said = part-learnt subDailyKept looking refl (read-concrete .ensures .0) (c .before .before .c .given .1) in
+    let said = part-learnt subDailyKept _ looking refl (read-concrete .ensures .0) (c .before .before .c .given .1) in
     let same : 0 + c .before .before .c .given .0 .1 .0 ≡ c .before .before .c .given .0 .1 .0 = omega arith in
     rw (c .is-sub-daily .ensures) (rw same at said)
 
@@ -86,10 +87,10 @@ loop-less c = search needs
 loop-again : tie.Need-loop-again Inv-loop μ-loop
 loop-again c =
     let d = c .before .before .before .before .before .before .before in
-    let looking = and-behind subDailyKept (d .before .before .loop .inv) (d .before .is-at .ensures .0) (d .if1 .taken) in
+    let looking = and-behind subDailyKept _ (d .before .before .loop .inv) (d .before .is-at .ensures .0) (d .if1 .taken) in
     let e = c .before .before .before .before .before in
     let next = c .before .before .before .next in
-    let said = part-learnt subDailyKept looking (e .before .rest .ensures .0) (e .read-concrete2 .ensures .0) (next .given .1) in
+    let said = part-learnt subDailyKept _ looking (e .before .rest .ensures .0) (e .read-concrete2 .ensures .0) (next .given .1) in
     rw (c .either .ensures, c .before .is-sub-daily2 .ensures) said
 
 enum-told : tie.Need-enum-told Inv-loop μ-loop
@@ -98,10 +99,10 @@ enum-told c = search needs
 returns-2 : tie.Need-returns-2 Inv-loop μ-loop
 returns-2 c =
     let d = c .before .before .before .before in
-    let looking = and-behind subDailyKept (d .before .before .loop .inv) (d .before .is-at .ensures .0) (d .if1 .taken) in
+    let looking = and-behind subDailyKept _ (d .before .before .loop .inv) (d .before .is-at .ensures .0) (d .if1 .taken) in
     let e = c .before .before in
-    let said = part-learnt subDailyKept looking (e .before .rest .ensures .0) (e .read-concrete2 .ensures .0) (c .enum-told .given .1) in
-    taken-promised _ (sym said)
+    let said = part-learnt subDailyKept _ looking (e .before .rest .ensures .0) (e .read-concrete2 .ensures .0) (c .enum-told .given .1) in
+    taken-promised _ _ (sym said)
 
 enum-told-2 : tie.Need-enum-told-2 Inv-loop μ-loop
 enum-told-2 c = search needs
@@ -109,13 +110,13 @@ enum-told-2 c = search needs
 returns-3 : tie.Need-returns-3 Inv-loop μ-loop
 returns-3 c =
     let d = c .before .before .before .before in
-    let looking = and-behind subDailyKept (d .before .before .loop .inv) (d .before .is-at .ensures .0) (d .if1 .taken) in
+    let looking = and-behind subDailyKept _ (d .before .before .loop .inv) (d .before .is-at .ensures .0) (d .if1 .taken) in
     let e = c .before .before in
-    let said = part-learnt subDailyKept looking (e .before .rest .ensures .0) (e .read-concrete2 .ensures .0) (c .enum-told2 .given .1) in
-    taken-promised _ (sym said)
+    let said = part-learnt subDailyKept _ looking (e .before .rest .ensures .0) (e .read-concrete2 .ensures .0) (c .enum-told2 .given .1) in
+    taken-promised _ _ (sym said)
 
 returns-4 : tie.Need-returns-4 Inv-loop μ-loop
-returns-4 c = taken-promised _ (no-and subDailyKept (c .before .before .loop .inv) (c .before .is-at .ensures .0) (c .if1 .left))
+returns-4 c = taken-promised _ _ (no-and subDailyKept _ (c .before .before .loop .inv) (c .before .is-at .ensures .0) (c .if1 .left))
 
 pub read-duration-spec : {M : Type 1} → statement M
 read-duration-spec =

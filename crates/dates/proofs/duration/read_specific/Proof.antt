@@ -22,7 +22,7 @@ returns c =
     let num = c .before .before .num in
     promised
     (rw (← (num .ensures .0)) (unread _ _ (number-arm (num .result) (c .before .match .keys2)) (c .part-stopped .ensures)))
-    (specific-took _)
+    (specific-took _ _)
 
 rest-requires : tie.Need-rest-requires
 rest-requires c κs = let b = found (c .before .a .given .1) (c .before .before .before .num .ensures .1) in omega arith
@@ -45,10 +45,10 @@ returns-2 c =
     let read-unit = c .before .before .read-unit in
     promised
     (rw (← (num .ensures .0), a .given .1, ← (rest .ensures .0), ← (read-unit .ensures .0), c .enum-told .given .1))
-    (specific-took _)
+    (specific-took _ _)
 
-add-t8 : tie.Need-add-t8
-add-t8 c = search needs
+add-t9 : tie.Need-add-t9
+add-t9 c = search needs
 
 returns-3 : tie.Need-returns-3
 unfolding specificOf
@@ -58,7 +58,7 @@ returns-3 c =
     let rest = c .before .before .before .before .before .rest in
     let read-unit = c .before .before .before .before .read-unit in
     let u = c .before .before .u in
-    promised (rw (← (num .ensures .0), a .given .1, ← (rest .ensures .0), ← (read-unit .ensures .0), u .given .1)) (specific-took _)
+    promised (rw (← (num .ensures .0), a .given .1, ← (rest .ensures .0), ← (read-unit .ensures .0), u .given .1)) (specific-took _ _)
 
 pub read-specific-spec : {M : Type 1} → statement M
 read-specific-spec =
@@ -73,5 +73,5 @@ read-specific-spec =
     enum-known-u
     enum-told
     returns-2
-    add-t8
+    add-t9
     returns-3)

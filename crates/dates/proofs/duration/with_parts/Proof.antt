@@ -13,15 +13,15 @@ use Rattle.dates.proofs.duration.with_parts.Tie as tie
 
 -- what is in the row, and then what is read from here on, is the answer; three lexemes were passed for each part
 abbrev Inv-loop : tie.InvT-loop
-Inv-loop l parts row₀ end₀ at₀ row end at =
-    Looking (rowKept parts) (rowed parts (durationOf l)) l at row (record { parts = row; end = end })
+Inv-loop reading l parts row₀ end₀ at₀ row end at =
+    Looking (rowKept parts) reading (rowed parts (durationOf reading l)) l at row (record { parts = row; end = end })
     × (3 * row .n + length l ≤ 64 + at)
 
 abbrev μ-loop : tie.MeasureT-loop
-μ-loop l parts row₀ end₀ at₀ row end at = length l - at
+μ-loop reading l parts row₀ end₀ at₀ row end at = length l - at
 
 loop-holds : tie.Need-loop-holds Inv-loop μ-loop
-loop-holds c = (row-looking (c .before .args .parts) (now (c .before .args .l)), search needs)
+loop-holds c = (row-looking _ (c .before .args .parts) (now (c .before .args .l)), search needs)
 
 rest-requires : tie.Need-rest-requires Inv-loop μ-loop
 rest-requires c κs = search needs
@@ -49,7 +49,7 @@ returns : tie.Need-returns Inv-loop μ-loop
 returns c =
     let d = c .before .before in
     let looking = d .before .before .loop .inv .0 in
-    sym (part-learnt (rowKept _) looking (d .before .rest .ensures .0) (d .read-concrete .ensures .0) (c .enum-told .given .1))
+    sym (part-learnt (rowKept _) _ looking (d .before .rest .ensures .0) (d .read-concrete .ensures .0) (c .enum-told .given .1))
 
 enum-told-2 : tie.Need-enum-told-2 Inv-loop μ-loop
 enum-told-2 c = search needs
@@ -58,7 +58,7 @@ returns-2 : tie.Need-returns-2 Inv-loop μ-loop
 returns-2 c =
     let d = c .before .before in
     let looking = d .before .before .loop .inv .0 in
-    sym (part-learnt (rowKept _) looking (d .before .rest .ensures .0) (d .read-concrete .ensures .0) (c .enum-told2 .given .1))
+    sym (part-learnt (rowKept _) _ looking (d .before .rest .ensures .0) (d .read-concrete .ensures .0) (c .enum-told2 .given .1))
 
 is-at-requires : tie.Need-is-at-requires Inv-loop μ-loop
 is-at-requires c κs = search needs
@@ -74,17 +74,17 @@ loop-again c =
     let d = c .before .before .before .before .before .before in
     let looking = d .before .before .loop .inv .0 in
     let part = c .before .before .before .before .part in
-    let said = part-learnt (rowKept _) looking (d .before .rest .ensures .0) (d .read-concrete .ensures .0) (part .given .1) in
+    let said = part-learnt (rowKept _) _ looking (d .before .rest .ensures .0) (d .read-concrete .ensures .0) (part .given .1) in
     let b = found (ap parsedPart (part .given .1)) (d .read-concrete .ensures .1) in
-    rw (c .before .before .push .ensures) (and-behind (rowKept _) said (c .before .is-at .ensures .0) (c .if1 .taken), omega arith)
+    rw (c .before .before .push .ensures) (and-behind (rowKept _) _ said (c .before .is-at .ensures .0) (c .if1 .taken), omega arith)
 
 returns-3 : tie.Need-returns-3 Inv-loop μ-loop
 returns-3 c =
     let d = c .before .before .before .before .before .before in
     let looking = d .before .before .loop .inv .0 in
     let part = c .before .before .before .before .part in
-    let said = part-learnt (rowKept _) looking (d .before .rest .ensures .0) (d .read-concrete .ensures .0) (part .given .1) in
-    rw (c .before .before .push .ensures) (no-and (rowKept _) said (c .before .is-at .ensures .0) (c .if1 .left))
+    let said = part-learnt (rowKept _) _ looking (d .before .rest .ensures .0) (d .read-concrete .ensures .0) (part .given .1) in
+    rw (c .before .before .push .ensures) (no-and (rowKept _) _ said (c .before .is-at .ensures .0) (c .if1 .left))
 
 pub with-parts-spec : {M : Type 1} → statement M
 with-parts-spec =

@@ -22,8 +22,8 @@ num-requires c κs = search needs
 enum-known-minute : tie.Need-enum-known-minute
 enum-known-minute c = search needs
 
-add-t6 : tie.Need-add-t6
-add-t6 c =
+add-t7 : tie.Need-add-t7
+add-t7 c =
     let b = number-found (c .before .before .minute .given .1) (c .before .before .before .before .num .ensures .1) in
     omega arith
 
@@ -36,7 +36,7 @@ returns c =
       ← (c .before .before .before .before .before .rest .ensures .0),
       ← (c .before .before .before .before .num .ensures .0),
       c .before .before .minute .given .1,
-    )) (minute-took _)
+    )) (minute-took _ _)
 
 enum-told : tie.Need-enum-told
 enum-told c = search needs
@@ -50,7 +50,7 @@ returns-2 c =
       ← (c .before .before .before .rest .ensures .0),
       ← (c .before .before .num .ensures .0),
       c .enum-told .given .1,
-    )) (minute-took _)
+    )) (minute-took _ _)
 
 enum-told-2 : tie.Need-enum-told-2
 enum-told-2 c = search needs
@@ -64,11 +64,11 @@ returns-3 c =
       ← (c .before .before .before .rest .ensures .0),
       ← (c .before .before .num .ensures .0),
       c .enum-told2 .given .1,
-    )) (minute-took _)
+    )) (minute-took _ _)
 
 returns-4 : tie.Need-returns-4
 unfolding minuteOf
-returns-4 c = promised (rw (← (c .before .is-at .ensures .0), c .if1 .left)) (minute-took _)
+returns-4 c = promised (rw (← (c .before .is-at .ensures .0), c .if1 .left)) (minute-took _ _)
 
 pub read-minute-spec : {M : Type 1} → statement M
 read-minute-spec =
@@ -78,7 +78,7 @@ read-minute-spec =
     rest-requires
     num-requires
     enum-known-minute
-    add-t6
+    add-t7
     returns
     enum-told
     returns-2

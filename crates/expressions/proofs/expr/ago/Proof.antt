@@ -9,5 +9,5 @@ ago-spec =
     (tie.spec
     (λ c. search needs)
     (λ c. search needs)
-    (λ c dur u e. rw (c .before .h .given .1, e, add-zero))
-    (λ c dur u e. rw (c .before .h2 .given .1, e, add-zero)))
+    (λ c reading dur u e. rw (c .before .h .given .1, e, add-zero))
+    (λ c reading dur u e. rw (c .before .h2 .given .1, e, add-zero)))

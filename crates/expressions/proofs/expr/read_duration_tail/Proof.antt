@@ -37,14 +37,14 @@ returns c =
     let rest = c .before .before .before .before .before .before .before .before .rest in
     let u = c .before .before .before .before .before .u in
     let read-duration = c .before .before .before .before .before .before .before .read-duration in
-    let read = taken-read (durationOf (now (rest .result))) (read-duration .ensures .0) (u .given .1) in
+    let read = taken-read (durationOf _ (now (rest .result))) (read-duration .ensures .0) (u .given .1) in
     rw (
       ← (rest .ensures .0),
       read .reading,
       ← (c .before .before .before .is-at .ensures .0),
       c .before .before .if1 .taken,
       read .sub-daily ∙ c .before .if2 .taken,
-    ) (c .stray .ensures (u .given .0 .0) (omega arith))
+    ) (c .stray .ensures _ (u .given .0 .0) (omega arith))
 
 add-ago : tie.Need-add-ago
 add-ago c =
@@ -66,14 +66,14 @@ returns-2 c =
     let rest = c .before .before .before .before .before .before .before .before .rest in
     let u = c .before .before .before .before .before .u in
     let read-duration = c .before .before .before .before .before .before .before .read-duration in
-    let read = taken-read (durationOf (now (rest .result))) (read-duration .ensures .0) (u .given .1) in
+    let read = taken-read (durationOf _ (now (rest .result))) (read-duration .ensures .0) (u .given .1) in
     rw (
       ← (rest .ensures .0),
       read .reading,
       ← (c .before .before .before .is-at .ensures .0),
       c .before .before .if1 .taken,
       read .sub-daily ∙ c .before .if2 .left,
-    ) (c .ago .ensures (read .duration) (u .given .0 .0 + 1) (omega arith))
+    ) (c .ago .ensures _ (read .duration) (u .given .0 .0 + 1) (omega arith))
 
 add-stray-2 : tie.Need-add-stray-2
 add-stray-2 c =
@@ -98,23 +98,23 @@ returns-3 c =
     let rest = c .before .before .before .before .before .before .before .rest in
     let u = c .before .before .before .before .u in
     let read-duration = c .before .before .before .before .before .before .read-duration in
-    let read = taken-read (durationOf (now (rest .result))) (read-duration .ensures .0) (u .given .1) in
+    let read = taken-read (durationOf _ (now (rest .result))) (read-duration .ensures .0) (u .given .1) in
     rw (← (rest .ensures .0), read .reading, ← (c .before .before .is-at .ensures .0), c .before .if1 .left)
-    (c .stray2 .ensures (u .given .0 .0) (omega arith))
+    (c .stray2 .ensures _ (u .given .0 .0) (omega arith))
 
 returns-4 : tie.Need-returns-4
 unfolding durationTailOf
 returns-4 c =
     let rest = c .before .before .before .before .rest in
     let read-duration = c .before .before .before .read-duration in
-    let none = taken-none (durationOf (now (rest .result))) (read-duration .ensures .0) (c .before .enum-told .given .1) in
+    let none = taken-none (durationOf _ (now (rest .result))) (read-duration .ensures .0) (c .before .enum-told .given .1) in
     rw (← (rest .ensures .0), none, rest .ensures .0) (c .read-in-tail .ensures)
 
 returns-5 : tie.Need-returns-5
 unfolding durationTailOf
 returns-5 c =
     let rest = c .before .before .before .rest in
-    let over = taken-overflow (durationOf (now (rest .result))) (c .before .before .read-duration .ensures .0) (c .enum-told2 .given .1) in
+    let over = taken-overflow (durationOf _ (now (rest .result))) (c .before .before .read-duration .ensures .0) (c .enum-told2 .given .1) in
     rw (← (rest .ensures .0), over)
 
 pub read-duration-tail-spec : {M : Type 1} → statement M

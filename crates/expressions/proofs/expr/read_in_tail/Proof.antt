@@ -38,7 +38,7 @@ unfolding inTailOf
 returns c =
     let rest2 = c .before .before .before .before .before .before .rest2 in
     let read-duration = c .before .before .before .before .before .read-duration in
-    let read = taken-read (durationOf (now (rest2 .result))) (read-duration .ensures .0) (c .before .before .before .u .given .1) in
+    let read = taken-read (durationOf _ (now (rest2 .result))) (read-duration .ensures .0) (c .before .before .before .u .given .1) in
     rw (
       ← (c .before .before .before .before .before .before .before .before .before .rest .ensures .0),
       ← (c .before .before .before .before .before .before .before .before .is-at .ensures .0),
@@ -46,7 +46,7 @@ returns c =
       ← (rest2 .ensures .0),
       read .reading,
       read .sub-daily ∙ c .before .if2 .taken,
-    ) (c .stray .ensures 1 (omega arith))
+    ) (c .stray .ensures _ 1 (omega arith))
 
 add-inside : tie.Need-add-inside
 add-inside c =
@@ -62,7 +62,7 @@ returns-2 c =
     let rest2 = c .before .before .before .before .before .before .rest2 in
     let u = c .before .before .before .u in
     let read-duration = c .before .before .before .before .before .read-duration in
-    let read = taken-read (durationOf (now (rest2 .result))) (read-duration .ensures .0) (u .given .1) in
+    let read = taken-read (durationOf _ (now (rest2 .result))) (read-duration .ensures .0) (u .given .1) in
     rw (
       ← (c .before .before .before .before .before .before .before .before .before .rest .ensures .0),
       ← (c .before .before .before .before .before .before .before .before .is-at .ensures .0),
@@ -83,14 +83,14 @@ unfolding inTailOf
 returns-3 c =
     let rest2 = c .before .before .before .before .rest2 in
     let read-duration = c .before .before .before .read-duration in
-    let none = taken-none (durationOf (now (rest2 .result))) (read-duration .ensures .0) (c .before .enum-told .given .1) in
+    let none = taken-none (durationOf _ (now (rest2 .result))) (read-duration .ensures .0) (c .before .enum-told .given .1) in
     rw (
       ← (c .before .before .before .before .before .before .before .rest .ensures .0),
       ← (c .before .before .before .before .before .before .is-at .ensures .0),
       c .before .before .before .before .before .if1 .taken,
       ← (rest2 .ensures .0),
       none,
-    ) (c .stray2 .ensures 1 (omega arith))
+    ) (c .stray2 .ensures _ 1 (omega arith))
 
 enum-told-2 : tie.Need-enum-told-2
 enum-told-2 c = search needs
@@ -99,7 +99,7 @@ returns-4 : tie.Need-returns-4
 unfolding inTailOf
 returns-4 c =
     let rest2 = c .before .before .before .rest2 in
-    let over = taken-overflow (durationOf (now (rest2 .result))) (c .before .before .read-duration .ensures .0) (c .enum-told2 .given .1) in
+    let over = taken-overflow (durationOf _ (now (rest2 .result))) (c .before .before .read-duration .ensures .0) (c .enum-told2 .given .1) in
     rw (
       ← (c .before .before .before .before .before .before .rest .ensures .0),
       ← (c .before .before .before .before .before .is-at .ensures .0),
@@ -115,7 +115,7 @@ returns-5 : tie.Need-returns-5
 unfolding inTailOf
 returns-5 c =
     rw (← (c .before .before .before .rest .ensures .0), ← (c .before .before .is-at .ensures .0), c .before .if1 .left)
-    (c .stray3 .ensures 0 (omega arith))
+    (c .stray3 .ensures _ 0 (omega arith))
 
 pub read-in-tail-spec : {M : Type 1} → statement M
 read-in-tail-spec =

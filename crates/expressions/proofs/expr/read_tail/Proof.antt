@@ -12,7 +12,7 @@ stray-requires c κs = search needs
 returns : tie.Need-returns
 returns c =
     let args = c .before .before .before .args in
-    rw (tail-none (now (args .l)) (args .t) (c .before .if1 .taken)) (c .stray .ensures 0 (omega arith))
+    rw (tail-none _ (now (args .l)) (args .t) (c .before .if1 .taken)) (c .stray .ensures _ 0 (omega arith))
 
 rest-requires : tie.Need-rest-requires
 rest-requires c κs = search needs
@@ -64,7 +64,7 @@ returns-3 c =
       ← (c .before .before .before .before .rest2 .ensures .0),
       ← (c .before .before .before .read-unit .ensures .0),
       c .before .enum-told2 .given .1,
-    ) (c .stray2 .ensures 1 (omega arith))
+    ) (c .stray2 .ensures _ 1 (omega arith))
 
 add-relative : tie.Need-add-relative
 add-relative c = search needs
@@ -82,7 +82,7 @@ returns-4 c =
       ← (c .before .before .before .before .before .rest2 .ensures .0),
       ← (c .before .before .before .before .read-unit .ensures .0),
       c .before .before .unit .given .1,
-    ) (c .relative .ensures _ 2 (omega arith))
+    ) (c .relative .ensures _ _ 2 (omega arith))
 
 pub read-tail-spec : {M : Type 1} → statement M
 read-tail-spec =

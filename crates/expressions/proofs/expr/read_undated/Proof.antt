@@ -32,7 +32,7 @@ unfolding undatedOf
 returns c =
     let read-duration = c .before .before .before .before .read-duration in
     let l = now (c .before .before .before .before .before .before .args .l) in
-    let read = taken-read (durationOf l) (read-duration .ensures .0) (c .before .before .t .given .1) in
+    let read = taken-read (durationOf _ l) (read-duration .ensures .0) (c .before .before .t .given .1) in
     rw (read .reading) (c .with-duration .ensures (read .duration) (read .sub-daily))
 
 returns-2 : tie.Need-returns-2
@@ -40,7 +40,7 @@ unfolding undatedOf
 returns-2 c =
     let read-duration = c .before .before .before .read-duration in
     let l = now (c .before .before .before .before .before .args .l) in
-    let none = taken-none (durationOf l) (read-duration .ensures .0) (c .before .enum-told .given .1) in
+    let none = taken-none (durationOf _ l) (read-duration .ensures .0) (c .before .enum-told .given .1) in
     rw (none) (c .read-weekday-expr .ensures)
 
 returns-3 : tie.Need-returns-3
@@ -48,7 +48,7 @@ unfolding undatedOf
 returns-3 c =
     let read-duration = c .before .before .read-duration in
     let l = now (c .before .before .before .before .args .l) in
-    let over = taken-overflow (durationOf l) (read-duration .ensures .0) (c .enum-told2 .given .1) in
+    let over = taken-overflow (durationOf _ l) (read-duration .ensures .0) (c .enum-told2 .given .1) in
     rw (over)
 
 pub read-undated-spec : {M : Type 1} → statement M

@@ -8,5 +8,5 @@ relative-spec =
     (tie.spec
     (λ c. search needs)
     (λ c. search needs)
-    (λ c t u e. rw (c .before .h .given .1, e))
-    (λ c t u e. rw (c .before .h2 .given .1, e)))
+    (λ c reading t u e. rw (c .before .h .given .1, e))
+    (λ c reading t u e. rw (c .before .h2 .given .1, e)))

@@ -8,5 +8,5 @@ stray-spec =
     (tie.spec
     (λ c. search needs)
     (λ c. search needs)
-    (λ c u e. rw (c .before .h .given .1))
-    (λ c u e. rw (c .before .h2 .given .1, e)))
+    (λ c reading u e. rw (c .before .h .given .1))
+    (λ c reading u e. rw (c .before .h2 .given .1, e)))

@@ -1,7 +1,7 @@
 -- `lexer::find::compare` meets its contract. Assumes nothing.
 use mathlib.Core.Path.{_≡_, sym}
 use borrow.Author.Tests.{le-ltb}
-use Rattle.lexer.specs.Keywords.{keywords}
+use Rattle.lexer.specs.Keywords.{wordsIn}
 use Rattle.lexer.specs.Table.{sorted, spellingAt, headOf, tailOf, byNumber}
 use Rattle.lexer.specs.declared.find.Order.{Order}
 use Rattle.lexer.specs.declared.find.Order.the-variants.{Same}
@@ -12,8 +12,8 @@ use Rattle.lexer.proofs.find.compare.Tie as tie
 
 -- the heads are the same: the tails decide
 same-heads : (d : tie.After-tail-at) {o : Order} →
-    let args = d .before .before .before .before .args in
-    let row = spellingAt (sorted keywords) (args .i) in
+    let args = d .before .before .before .before .before .args in
+    let row = spellingAt (sorted (wordsIn (args .reading))) (args .i) in
     o ≡ byNumber (d .tail-at .result) (args .tail) Same
     → o ≡ byNumber (headOf row) (args .head) (byNumber (tailOf row) (args .tail) Same)
 same-heads d e =

@@ -1,215 +1,96 @@
--- `lexer::lex::lex` meets its contract. The loop's invariant: what was read so far stands in front of what is left. Assumes nothing.
-use mathlib.Core.Path.{_≡_, refl, sym, ap, _∙_}
-use mathlib.Core.List.{List, [], _∷_, _++_, append-nil, append-assoc}
-use Prim.Native.Nat.{ℕ, _+_, _-_, _≤_}
-use native.Mathlib.Omega.{arith}
+-- `lexer::lex::lex` meets its contract. Assumes nothing.
+use mathlib.Core.Path.{_≡_, sym, _∙_}
+use mathlib.Core.List.{List}
+use Prim.Native.Nat.{ℕ, _≤_}
 use borrow.Author.Needs.{needs}
 use borrow.Author.Tests.{le-leb, lt-leb}
-use lib.ListN.{length, length-append}
+use lib.ListN.{length}
 use lib.Seq.{sets}
-use Rattle.lexer.specs.Keywords.{keywords}
-use Rattle.lexer.specs.Lex.{tokenAt, Item, item, Lexed, ahead, lexFrom, lexed, frontFrom, front}
-use Rattle.lexer.specs.Lex.{codesOf, startsOf, endedOf, Placed}
+use Rattle.lexer.specs.Keywords.{wordsIn}
+use Rattle.lexer.specs.Words.{Word}
+use Rattle.lexer.specs.Lex.{lexFrom, lexed, frontFrom, front, codesOf, startsOf, endedOf, Placed}
 use Rattle.lexer.specs.declared.lex.Ended.{Ended}
-use Rattle.lexer.specs.declared.lex.Token.the-variants.{Finish, Taken, Refused}
-use Rattle.lexer.proofs.Lines.{lex-finish, lex-refused, lex-full, lex-taken, ahead-none, ahead-more, array-more}
-use Rattle.lexer.proofs.Places.{taken-below, placed}
+use Rattle.lexer.proofs.Places.{placed}
 use Rattle.lexer.proofs.lex.lex.Statement.{statement}
 use Rattle.lexer.proofs.lex.lex.Tie as tie
 
--- the phrase s is read up to `at`: n lexemes, `done`, are stored in the arrays
-record Read (s codes₀ starts₀ codes starts : List ℕ) (n at : ℕ) : Type 0 where
-  done : List Item
-  count : length done ≡ n
-  room : n ≤ 64
-  codes-are : codes ≡ sets codes₀ 0 (codesOf done)
-  starts-are : starts ≡ sets starts₀ 0 (startsOf done)
-  read : lexed keywords s ≡ ahead done (lexFrom keywords (64 - n) s at)
-  ahead-of : front keywords s ≡ done ++ frontFrom keywords (64 - n) s at
+-- a phrase that is not too long is read from its first byte on
+short : (ws : List Word) (s codes₀ starts₀ : List ℕ) {codes starts : List ℕ} {r : Ended} → length s ≤ 256
+    → (r ≡ endedOf (lexFrom ws 64 s 0))
+    × ((codes ≡ sets codes₀ 0 (codesOf (frontFrom ws 64 s 0))) × (starts ≡ sets starts₀ 0 (startsOf (frontFrom ws 64 s 0))))
+    → (r ≡ endedOf (lexed ws s))
+    × ((codes ≡ sets codes₀ 0 (codesOf (front ws s))) × ((starts ≡ sets starts₀ 0 (startsOf (front ws s))) × Placed (length s) r))
+unfolding lexed front
+short ws s codes₀ starts₀ {r = r} few (a, (b, e)) =
+    let h = le-leb (length s) 256 few in
+    let right : r ≡ endedOf (lexed ws s) = simp h a in
+    (right, (simp h b, (simp h e, placed ws s right)))
 
-abbrev Inv-loop : tie.InvT-loop
-Inv-loop s codes₀ starts₀ words n₀ at₀ codes starts n at = Read s codes₀ starts₀ codes starts n at
-
-abbrev μ-loop : tie.MeasureT-loop
-μ-loop s codes₀ starts₀ words n₀ at₀ codes starts n at = 64 - n
-
--- what `lex` owes for an answer and the arrays that it leaves
-abbrev Owed : List ℕ → List ℕ → List ℕ → List ℕ → List ℕ → Ended → Type 0
-Owed s codes₀ starts₀ codes starts r =
-    (r ≡ endedOf (lexed keywords s))
-    × ((codes ≡ sets codes₀ 0 (codesOf (front keywords s)))
-    × ((starts ≡ sets starts₀ 0 (startsOf (front keywords s)))
-    × Placed (length s) r))
-
--- no lexeme follows those that were read: the answer is settled, and so are the arrays
-stopped : (s codes₀ starts₀ : List ℕ) {codes starts : List ℕ} {n at : ℕ} {w : Lexed} {r : Ended}
-    (h : Read s codes₀ starts₀ codes starts n at)
-    → (lexFrom keywords (64 - n) s at ≡ w) × (frontFrom keywords (64 - n) s at ≡ []) → r ≡ endedOf (ahead (h .done) w)
-    → Owed s codes₀ starts₀ codes starts r
-stopped s codes₀ starts₀ {codes} {starts} {n} {at} {w} {r} h (e, none) a =
-    let all : front keywords s ≡ h .done = h .ahead-of ∙ ap (_++_ (h .done)) none ∙ append-nil (h .done) in
-    let right : r ≡ endedOf (lexed keywords s) = a ∙ ap endedOf (sym (h .read ∙ ap (ahead (h .done)) e)) in
-    (right, (rw all (h .codes-are), (rw all (h .starts-are), placed keywords s right)))
-
--- the phrase and the arrays at the entry, from a turn of the loop
-module _ (at : tie.At-loop Inv-loop μ-loop) where
-  abbrev phrase : List ℕ
-  phrase = at .before .before .before .before .args .s .now
-
-  abbrev codes₀ : List ℕ
-  codes₀ = at .before .before .before .before .args .codes .now
-
-  abbrev starts₀ : List ℕ
-  starts₀ = at .before .before .before .before .args .starts .now
-
--- the token there is a lexeme
-module _ (d : tie.After-t2 Inv-loop μ-loop) where
-  abbrev at : tie.At-loop Inv-loop μ-loop
-  at = d .before .before .before .before
-
-  abbrev code : ℕ
-  code = d .t2 .given .0 .0
-
-  abbrev start : ℕ
-  start = d .t2 .given .0 .1 .0
-
-  abbrev end : ℕ
-  end = d .t2 .given .0 .1 .1 .0
-
-  taken : tokenAt keywords (phrase at) (at .loop .at) ≡ Taken code start end
-  taken = sym (d .before .before .token-in .ensures) ∙ d .t2 .given .1
-
-refuse-requires : tie.Need-refuse-requires Inv-loop μ-loop
+refuse-requires : tie.Need-refuse-requires
 refuse-requires c κs = search needs
 
-returns : tie.Need-returns Inv-loop μ-loop
+returns : tie.Need-returns
 unfolding lexed front
 returns c =
-    let s = c .before .before .before .args .s .now in
-    let long = lt-leb (length s) 256 (c .before .if1 .taken) in
-    let right : c .refuse .result ≡ endedOf (lexed keywords s) = c .refuse .ensures ∙ sym (simp long) in
-    (right, (simp long, (simp long, placed keywords s right)))
+    let a = c .before .before .before .args in
+    let ws = wordsIn (a .reading) in
+    let long = lt-leb (length (a .s .now)) 256 (c .before .if1 .taken) in
+    let right : c .refuse .result ≡ endedOf (lexed ws (a .s .now)) = c .refuse .ensures ∙ sym (simp long) in
+    (right, (simp long, (simp long, placed ws (a .s .now) right)))
 
-rows-requires : tie.Need-rows-requires Inv-loop μ-loop
-rows-requires c κs = search needs
-
-loop-holds : tie.Need-loop-holds Inv-loop μ-loop
-unfolding lexed front
-loop-holds c =
-    let s = c .before .before .before .args .s .now in
-    let short = le-leb (length s) 256 (c .before .if1 .left) in
-    record {
-      done = [];
-      count = refl;
-      room = omega arith;
-      codes-are = refl;
-      starts-are = refl;
-      read = simp short (sym (ahead-none (lexFrom keywords 64 s 0)));
-      ahead-of = simp short;
-    }
-
-token-in-requires : tie.Need-token-in-requires Inv-loop μ-loop
-token-in-requires c κs = search needs
-
-enum-told : tie.Need-enum-told Inv-loop μ-loop
+enum-told : tie.Need-enum-told
 enum-told c = search needs
 
-returns-2 : tie.Need-returns-2 Inv-loop μ-loop
-returns-2 c =
-    let at = c .before .before .before .before in
-    let l = at .loop in
-    let e : tokenAt keywords (phrase at) (l .at) ≡ Finish = sym (c .before .before .token-in .ensures) ∙ c .enum-told .given .1 in
-    stopped (phrase at) (codes₀ at) (starts₀ at) (l .inv) (lex-finish keywords (phrase at) (l .at) (64 - l .n) e)
-    (rw (append-nil (l .inv .done), l .inv .count))
+first-rows-requires : tie.Need-first-rows-requires
+first-rows-requires c κs = search needs
 
-enum-known-t : tie.Need-enum-known-t Inv-loop μ-loop
-enum-known-t c = search needs
+slice-aggregate-lex-in : tie.Need-slice-aggregate-lex-in
+slice-aggregate-lex-in c = search needs
 
-returns-3 : tie.Need-returns-3 Inv-loop μ-loop
-returns-3 c =
-    let d = c .before in
-    let at = d .before .before .before .before in
-    let l = at .loop in
-    let g = d .t .given in
-    let e : tokenAt keywords (phrase at) (l .at) ≡ Refused (g .0 .0) = sym (d .before .before .token-in .ensures) ∙ g .1 in
-    stopped (phrase at) (codes₀ at) (starts₀ at) (l .inv) (lex-refused keywords (phrase at) (l .at) (64 - l .n) (g .0 .0) e) refl
-
-enum-known-t-2 : tie.Need-enum-known-t-2 Inv-loop μ-loop
-enum-known-t-2 c = search needs
-
-refuse-requires-2 : tie.Need-refuse-requires-2 Inv-loop μ-loop
-refuse-requires-2 c κs = search needs
-
-returns-4 : tie.Need-returns-4 Inv-loop μ-loop
-returns-4 c =
+lex-in-requires : tie.Need-lex-in-requires
+lex-in-requires c κs =
     let d = c .before .before .before in
-    let l = at d .loop in
-    stopped (phrase (at d)) (codes₀ (at d)) (starts₀ (at d)) (l .inv)
-    (lex-full keywords (phrase (at d)) (l .at) (64 - l .n) (code d) (start d) (end d) (omega arith) (taken d)) (c .refuse2 .ensures)
+    (rw (d .before .enum-told .given .1) (d .first-rows .ensures), d .before .before .before .if1 .left)
 
-mul-codes : tie.Need-mul-codes Inv-loop μ-loop
-mul-codes c = omega arith
+enum-told-2 : tie.Need-enum-told-2
+enum-told-2 c = search needs
 
-element-write-codes : tie.Need-element-write-codes Inv-loop μ-loop
-element-write-codes c = omega arith
+second-rows-requires : tie.Need-second-rows-requires
+second-rows-requires c κs = search needs
 
-cast-starts : tie.Need-cast-starts Inv-loop μ-loop
-cast-starts c =
-    let d = c .before .before in
-    let l = at d .loop in
-    omega (arith, taken-below keywords (phrase (at d)) (l .at) (code d) (start d) (end d) (taken d))
+slice-aggregate-lex-in-2 : tie.Need-slice-aggregate-lex-in-2
+slice-aggregate-lex-in-2 c = search needs
 
-element-write-starts : tie.Need-element-write-starts Inv-loop μ-loop
-element-write-starts c = omega arith
+lex-in-requires-2 : tie.Need-lex-in-requires-2
+lex-in-requires-2 c κs =
+    let d = c .before .before .before in
+    (rw (d .before .enum-told2 .given .1) (d .second-rows .ensures), d .before .before .before .if1 .left)
 
-add-n : tie.Need-add-n Inv-loop μ-loop
-add-n c = omega arith
+returns-2 : tie.Need-returns-2
+returns-2 c =
+    let f = c .before .before .before .before .before .before .before in
+    let a = f .before .before .args in
+    short (wordsIn (a .reading)) (a .s .now) (a .codes .now) (a .starts .now) (f .if1 .left) (c .lex-in .ensures)
 
-loop-less : tie.Need-loop-less Inv-loop μ-loop
-loop-less c = omega arith
-
-loop-again : tie.Need-loop-again Inv-loop μ-loop
-loop-again c =
-    let d = c .before .before in
-    let s = phrase (at d) in
-    let l = at d .loop in
-    let n = l .n in
-    let i = item (code d) (start d) in
-    let done = l .inv .done in
-    let next = lex-taken keywords s (l .at) (64 - n) (64 - (n + 1)) (code d) (start d) (end d) (omega arith) (taken d) in
-    record {
-      done = done ++ (i ∷ []);
-      count = simp length-append (omega (arith, l .inv .count));
-      room = omega arith;
-      codes-are = array-more (λ (i : Item). i .code) done i n (codes₀ (at d)) (l .inv .count) (l .inv .codes-are);
-      starts-are = array-more (λ (i : Item). i .start) done i n (starts₀ (at d)) (l .inv .count) (l .inv .starts-are);
-      read = l .inv .read ∙ ap (ahead done) (next .0) ∙ ahead-more done (i ∷ []) (lexFrom keywords (64 - (n + 1)) s (end d));
-      ahead-of =
-          l .inv .ahead-of ∙ ap (_++_ done) (next .1) ∙ sym (append-assoc done (i ∷ []) (frontFrom keywords (64 - (n + 1)) s (end d)));
-    }
+returns-3 : tie.Need-returns-3
+returns-3 c =
+    let f = c .before .before .before .before .before .before .before in
+    let a = f .before .before .args in
+    short (wordsIn (a .reading)) (a .s .now) (a .codes .now) (a .starts .now) (f .if1 .left) (c .lex-in2 .ensures)
 
 pub lex-spec : {M : Type 1} → statement M
 lex-spec =
     tie.close
     (tie.spec
-    Inv-loop
-    μ-loop
     refuse-requires
     returns
-    rows-requires
-    loop-holds
-    token-in-requires
     enum-told
+    first-rows-requires
+    slice-aggregate-lex-in
+    lex-in-requires
+    enum-told-2
+    second-rows-requires
+    slice-aggregate-lex-in-2
+    lex-in-requires-2
     returns-2
-    enum-known-t
-    returns-3
-    enum-known-t-2
-    refuse-requires-2
-    returns-4
-    mul-codes
-    element-write-codes
-    cast-starts
-    element-write-starts
-    add-n
-    loop-less
-    loop-again)
+    returns-3)

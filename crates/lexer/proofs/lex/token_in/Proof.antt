@@ -6,7 +6,8 @@ use Prim.Native.Nat.{ℕ}
 use borrow.Author.Tests.{eq-eqb, ne-eqb, lt-ltb, le-ltb}
 use lib.Dec.{eqb}
 use lib.ListN.{getD}
-use Rattle.lexer.specs.Keywords.{keywords}
+use Rattle.lexer.specs.Keywords.{wordsIn}
+use Rattle.lexer.specs.Words.{Word}
 use Rattle.lexer.specs.Classes.{Letter, classOf}
 use Rattle.lexer.specs.Lex.{tokenOf, tokenAt}
 use Rattle.lexer.proofs.Letters.{letter-is, letter-not}
@@ -16,13 +17,19 @@ use Rattle.lexer.proofs.lex.token_in.Tie as tie
 
 -- a byte stands behind the gaps
 module _ (d : tie.After-letter) where
+  abbrev st : tie.Start
+  st = d .before .before .before .before .before .before
+
+  abbrev ws : List Word
+  ws = wordsIn (st .args .reading)
+
   abbrev s : List ℕ
-  s = d .before .before .before .before .before .args .s .now
+  s = st .args .s .now
 
   abbrev a : ℕ
   a = d .before .before .before .run-end .result
 
-  begun : tokenAt keywords s (d .before .before .before .before .before .args .at) ≡ tokenOf keywords (classOf (getD s a 0)) s a
+  begun : tokenAt ws s (st .args .at) ≡ tokenOf ws (classOf (getD s a 0)) s a
   unfolding tokenAt
   begun = rw (← (d .before .before .before .run-end .ensures), lt-ltb _ _ (d .before .before .if1 .left))
 
@@ -31,8 +38,8 @@ module _ (e : tie.After-class) where
   abbrev at : tie.After-letter
   at = e .before .before .before
 
-  told : tokenAt keywords (s at) (at .before .before .before .before .before .args .at) ≡ tokenOf keywords (e .class .result) (s at) (a at)
-  told = begun at ∙ sym (ap (λ (k : ℕ). tokenOf keywords k (s at) (a at)) (e .class .ensures))
+  told : tokenAt (ws at) (s at) (st at .args .at) ≡ tokenOf (ws at) (e .class .result) (s at) (a at)
+  told = begun at ∙ sym (ap (λ (k : ℕ). tokenOf (ws at) k (s at) (a at)) (e .class .ensures))
 
   no-letter : eqb (e .class .result) Letter ≡ false
   no-letter =
@@ -78,8 +85,8 @@ shared-slice-read-mark c = search needs
 mark-requires : tie.Need-mark-requires
 mark-requires c κs = search needs
 
-add-t15 : tie.Need-add-t15
-add-t15 c = search needs
+add-t16 : tie.Need-add-t16
+add-t16 c = search needs
 
 returns-4 : tie.Need-returns-4
 returns-4 c =
@@ -87,8 +94,8 @@ returns-4 c =
     let no-digit = ne-eqb _ _ (c .before .before .before .if3 .left) in
     rw (told e, no-letter e, no-digit, eq-eqb _ _ (c .before .before .if4 .taken), ← (c .mark .ensures))
 
-add-t6 : tie.Need-add-t6
-add-t6 c = search needs
+add-t7 : tie.Need-add-t7
+add-t7 c = search needs
 
 returns-5 : tie.Need-returns-5
 returns-5 c =
@@ -111,7 +118,7 @@ token-in-spec =
     returns-3
     shared-slice-read-mark
     mark-requires
-    add-t15
+    add-t16
     returns-4
-    add-t6
+    add-t7
     returns-5)

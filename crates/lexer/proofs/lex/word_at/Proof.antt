@@ -3,7 +3,7 @@ use mathlib.Core.Path.{_≡_, sym, ap}
 use mathlib.Core.List.{List}
 use Prim.Native.Nat.{ℕ}
 use borrow.Author.Needs.{needs}
-use Rattle.lexer.specs.Keywords.{keywords}
+use Rattle.lexer.specs.Keywords.{wordsIn}
 use Rattle.lexer.specs.Words.{meaning}
 use Rattle.lexer.specs.Classes.{Letter}
 use Rattle.refusals.specs.Table as refusal
@@ -18,13 +18,13 @@ use Rattle.lexer.proofs.lex.word_at.Tie as tie
 
 module _ (d : tie.After-find) where
   abbrev s : List ℕ
-  s = d .before .before .before .args .s .now
+  s = d .before .before .before .before .args .s .now
 
   abbrev a : ℕ
-  a = d .before .before .before .args .a
+  a = d .before .before .before .before .args .a
 
   -- what is found is what the word means
-  found : d .find .result ≡ meaning keywords (wordFrom s a)
+  found : d .find .result ≡ meaning (wordsIn (d .before .before .before .before .args .reading)) (wordFrom s a)
   found =
       let k = d .before .key-at .ensures in
       d .find .ensures (wordFrom s a) (record {

@@ -1,31 +1,29 @@
 -- `lexer::table::lexeme_at` meets its contract. Assumes nothing.
-use mathlib.Core.Path.{ap, _∙_}
-use mathlib.Core.List.{List}
-use Prim.Native.Nat.{ℕ, _+_, _*_}
-use lib.ListN.{getD}
-use Rattle.lexer.proofs.Rows.{row-lexeme}
-use borrow.Author.Needs.{needs}
+use Prim.Native.Nat.{_+_, _*_}
+use native.Mathlib.Omega.{arith}
+use Rattle.lexer.proofs.Rows.{count-most, row-within, row-lexeme}
 use Rattle.lexer.proofs.table.lexeme_at.Statement.{statement}
 use Rattle.lexer.proofs.table.lexeme_at.Tie as tie
 
-mul-byte-at : tie.Need-mul-byte-at
-mul-byte-at c = search needs
+mul-result : tie.Need-mul-result
+mul-result c = omega (arith, count-most (c .args .reading), c .pre .1)
 
-add-byte-at : tie.Need-add-byte-at
-add-byte-at c = search needs
+add-result : tie.Need-add-result
+add-result c = omega (arith, count-most (c .args .reading), c .pre .1)
 
-byte-at-requires : tie.Need-byte-at-requires
-byte-at-requires c κs = search needs
+shared-slice-read-result : tie.Need-shared-slice-read-result
+shared-slice-read-result c =
+    let st = c .before in
+    omega (arith, row-within (st .args .reading) (st .args .i) (st .pre .1) (st .pre .0))
 
 cast-result : tie.Need-cast-result
-cast-result c = search needs
+cast-result c = let b = c .shared-slice-known .given (c .before .args .i * 16 + 15) in omega arith
 
 returns : tie.Need-returns
 returns c =
     let st = c .before in
-    c .byte-at .ensures
-    ∙ ap (λ (l : List ℕ). getD l (st .args .i * 16 + 15) 0) (st .pre .0)
-    ∙ row-lexeme (st .args .i) (st .pre .1)
+    row-lexeme (st .args .reading) (st .args .i) (st .pre .1) (st .pre .0)
 
 pub lexeme-at-spec : {M : Type 1} → statement M
-lexeme-at-spec = tie.close (tie.spec mul-byte-at add-byte-at byte-at-requires cast-result returns)
+lexeme-at-spec =
+    tie.close (tie.spec mul-result add-result shared-slice-read-result cast-result returns)

@@ -1,22 +1,25 @@
 -- `lexer::table::tail_at` meets its contract. Assumes nothing.
 use mathlib.Core.Path.{_∙_}
 use native.Mathlib.Omega.{arith}
-use Rattle.lexer.proofs.Rows.{row-tail}
-use borrow.Author.Needs.{needs}
+use Rattle.lexer.proofs.Rows.{count-most, row-within, row-tail}
 use Rattle.lexer.proofs.table.tail_at.Statement.{statement}
 use Rattle.lexer.proofs.table.tail_at.Tie as tie
 
 mul-bytes-at : tie.Need-mul-bytes-at
-mul-bytes-at c = search needs
+mul-bytes-at c = omega (arith, count-most (c .before .args .reading), c .before .pre .1)
 
 add-bytes-at : tie.Need-add-bytes-at
-add-bytes-at c = search needs
+add-bytes-at c = omega (arith, count-most (c .before .args .reading), c .before .pre .1)
 
 bytes-at-requires : tie.Need-bytes-at-requires
-bytes-at-requires c κs = (c .pre .0, omega (arith, c .pre .1), omega arith)
+bytes-at-requires c κs =
+    let st = c .before in
+    (omega (arith, row-within (st .args .reading) (st .args .i) (st .pre .1) (st .pre .0)), omega arith)
 
 returns : tie.Need-returns
-returns c = c .bytes-at .ensures ∙ row-tail (c .before .args .i) (c .before .pre .1)
+returns c =
+    let st = c .before .before in
+    c .bytes-at .ensures ∙ row-tail (st .args .reading) (st .args .i) (st .pre .1) (st .pre .0)
 
 pub tail-at-spec : {M : Type 1} → statement M
 tail-at-spec = tie.close (tie.spec mul-bytes-at add-bytes-at bytes-at-requires returns)

@@ -29,20 +29,20 @@ unfolding undatedTurnOf
 returns c =
     let args = c .before .before .before .before .before .before .args in
     let l = now (args .l) in
-    let read = taken-read (durationOf l) (c .before .before .before .before .read-duration .ensures .0) (c .before .before .taken .given .1) in
+    let read = taken-read (durationOf _ l) (c .before .before .before .before .read-duration .ensures .0) (c .before .before .taken .given .1) in
     rw (read .reading) (c .with-duration .ensures (args .reading) (read .duration))
 
 returns-2 : tie.Need-returns-2
 unfolding undatedTurnOf
 returns-2 c =
     let l = now (c .before .before .before .before .before .args .l) in
-    rw (taken-none (durationOf l) (c .before .before .before .read-duration .ensures .0) (c .before .enum-told .given .1)) (c .read-timed .ensures)
+    rw (taken-none (durationOf _ l) (c .before .before .before .read-duration .ensures .0) (c .before .enum-told .given .1)) (c .read-timed .ensures)
 
 returns-3 : tie.Need-returns-3
 unfolding undatedTurnOf
 returns-3 c =
     let l = now (c .before .before .before .before .args .l) in
-    rw (taken-overflow (durationOf l) (c .before .before .read-duration .ensures .0) (c .enum-told2 .given .1))
+    rw (taken-overflow (durationOf _ l) (c .before .before .read-duration .ensures .0) (c .enum-told2 .given .1))
 
 pub read-undated-spec : {M : Type 1} → statement M
 read-undated-spec =

@@ -22,8 +22,8 @@ read-time-requires c κs = search needs
 enum-known-time : tie.Need-enum-known-time
 enum-known-time c = search needs
 
-add-t10 : tie.Need-add-t10
-add-t10 c =
+add-t11 : tie.Need-add-t11
+add-t11 c =
     let b = found (ap parsedTime (c .before .time .given .1)) (c .before .before .before .read-time .ensures .1) in
     omega arith
 
@@ -66,7 +66,7 @@ time-behind-spec =
     rest-requires
     read-time-requires
     enum-known-time
-    add-t10
+    add-t11
     enum-told
     enum-told-2
     returns

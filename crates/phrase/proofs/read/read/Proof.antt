@@ -11,17 +11,17 @@ lex-requires c κs = search needs
 
 array-share-prefix-codes : tie.Need-array-share-prefix-codes
 array-share-prefix-codes c =
-    codes-stored (now (c .before .before .before .before .args .phrase)) (c .lex .ensures .0) (c .lex .ensures .1 .0) .0
+    codes-stored _ (now (c .before .before .before .before .args .phrase)) (c .lex .ensures .0) (c .lex .ensures .1 .0) .0
 
 slice-aggregate-gather : tie.Need-slice-aggregate-gather
 slice-aggregate-gather c =
     let lex = c .before .lex in
-    sym (codes-stored (now (c .before .before .before .before .before .args .phrase)) (lex .ensures .0) (lex .ensures .1 .0) .1)
+    sym (codes-stored _ (now (c .before .before .before .before .before .args .phrase)) (lex .ensures .0) (lex .ensures .1 .0) .1)
 
 gather-requires : tie.Need-gather-requires
 gather-requires c κs =
     let lex = c .before .lex in
-    let b = codes-stored (now (c .before .before .before .before .before .args .phrase)) (lex .ensures .0) (lex .ensures .1 .0) in
+    let b = codes-stored _ (now (c .before .before .before .before .before .args .phrase)) (lex .ensures .0) (lex .ensures .1 .0) in
     omega arith
 
 judged-requires : tie.Need-judged-requires

@@ -30,8 +30,7 @@ use denote.Triple.Walked.{says, Stays, stay-dropped, walkOf, ends-at}
 use denote.Exit.{yes}
 use Rattle.reader.specs.declared.Lexer.{Lexer}
 use Rattle.reader.proofs.Walks.{Promise, meets}
-use Rattle.reader.proofs.Held.{Held, vals, tells, held-goes, typed}
-use Rattle.reader.proofs.Lexer.Laws as T′
+use Rattle.reader.proofs.Held.{Held, mach, vals, tells, held-goes, typed}
 use Rattle.reader.proofs.Lexer.place as place
 use Rattle.reader.proofs.Lexer.place.Code as code
 use Rattle.reader.proofs.Lexer.place.Key.{name as #place}
@@ -42,31 +41,28 @@ stayed = (stay-dropped (plain Held) yes, tt)
 
 module _ {M : Type 1} (𝓤 : URA M) (H : Heap 𝓤) (A : Atoms 𝓤) (W : Given 𝓤 H A) (mem : Memory → SProp 𝓤) (run : Routine → Fun 𝓤)
     (κ : Lft) (q : Share) (d : Lexer) where
-  abbrev mach : Val
-  mach = T′.lowered d
-
   abbrev bound : walkOf 𝓤 H A place.ended stayed (place.clauses 𝓤 H A mem run) .Ghost
-  bound = (((κ, tt), (q, tt), tt, (d, tt), (mach ∷ [], tt)), tt)
+  bound = (((κ, tt), (q, tt), tt, (d, tt), (mach d ∷ [], tt)), tt)
 
   abbrev Post : Val → SProp 𝓤
   Post = walkOf 𝓤 H A place.ended stayed (place.clauses 𝓤 H A mem run) .post bound
 
-  exits : d .at < 2 ^ 64 → ent 𝓤 (onEntry 𝓤 H A place.signature (κ, tt) (q, tt) (d, tt) (mach ∷ [], tt)) (Post (vint w64 (d .at)))
+  exits : d .at < 2 ^ 64 → ent 𝓤 (onEntry 𝓤 H A place.signature (κ, tt) (q, tt) (d, tt) (mach d ∷ [], tt)) (Post (vint w64 (d .at)))
   exits fits =
-      qed W (raw (toks 𝓤 A 1 (κ, tt) (q, tt)) ∷ ‵ (owns (Held (κ, tt) ∷ []) (d, tt) (mach ∷ [], tt)) ∷ []) ∵
+      qed W (raw (toks 𝓤 A 1 (κ, tt) (q, tt)) ∷ ‵ (owns (Held (κ, tt) ∷ []) (d, tt) (mach d ∷ [], tt)) ∷ []) ∵
       suffices ! _ (ends-at 𝓤 H A place.ended stayed (place.clauses 𝓤 H A mem run) W bound (vint w64 (d .at)) (d .at) (tt, tt) (tt, tt)) $
       says ! refl $ frame ! $ drop ! $ nothing ! $ nothing ! $ fjoin ! $ frame ! $
       owned ! usize (Is usize) (uint-makes 𝓤 H A W w64) (d .at) _ (refl, fits) $ done !
 
-  walk : (C : Calls 𝓤 H) (Λ : Loops 𝓤 H) → Is (Held (κ, tt)) d (mach ∷ [])
-      → ent 𝓤 (onEntry 𝓤 H A place.signature (κ, tt) (q, tt) (d, tt) (mach ∷ [], tt)) (WpFn 𝓤 H C Λ code.function (mach ∷ []) Post)
+  walk : (C : Calls 𝓤 H) (Λ : Loops 𝓤 H) → Is (Held (κ, tt)) d (mach d ∷ [])
+      → ent 𝓤 (onEntry 𝓤 H A place.signature (κ, tt) (q, tt) (d, tt) (mach d ∷ [], tt)) (WpFn 𝓤 H C Λ code.function (mach d ∷ []) Post)
   walk C Λ is =
       let wt = typed 𝓤 H A W (κ, tt) d is in
-      qed W (raw (onEntry 𝓤 H A place.signature (κ, tt) (q, tt) (d, tt) (mach ∷ [], tt)) ∷ []) ∵ enter ! C Λ code.function (mach ∷ []) _ $
+      qed W (raw (onEntry 𝓤 H A place.signature (κ, tt) (q, tt) (d, tt) (mach d ∷ [], tt)) ∷ []) ∵ enter ! C Λ code.function (mach d ∷ []) _ $
       alloc1 ! (λ l₀. alloc1 ! (λ l₁. alloc0 ! $ params1 ! $ pass1 ! (init ! 0 refl wt) $ pass0 ! $
-      assigns ! (of-opd ! (load ! (from ! (fld ! refl (stop !))) (look-in ! 0 (sub ! 1 refl (whole !))))) (from ! (stop !))
-      (init ! 2 refl (tt, wt .1 .1 .0)) $
-      returns ! (look ! 2 refl) $ forget ! 0 refl $ forget ! 2 refl $ move ! (2 ∷ 3 ∷ []) $ free1 ! $ free1 ! $ free0 ! $ by ! (exits (wt .1 .1 .0 .fits))))
+      assigns ! (of-opd ! (load ! (from ! (fld ! refl (stop !))) (look-in ! 0 (sub ! 2 refl (whole !))))) (from ! (stop !))
+      (init ! 2 refl (tt, wt .1 .1 .1 .0)) $
+      returns ! (look ! 2 refl) $ forget ! 0 refl $ forget ! 2 refl $ move ! (2 ∷ 3 ∷ []) $ free1 ! $ free1 ! $ free0 ! $ by ! (exits (wt .1 .1 .1 .0 .fits))))
 
 pub place-spec : {M : Type 1} → statement M
 unfolding code.routine tablesOf

@@ -9,11 +9,11 @@ use Rattle.test_lines.proofs.read.write_phrase.Tie as tie
 
 -- the codes' array has room for 64, and as many of them as there are lexemes are taken
 module _ (c : tie.After-lex) where
-  room : length (c .lex .last .1 .0) ≡ 64
+  room : length (c .lex .last .1 .1 .0) ≡ 64
   room = ap length (c .lex .ensures .1 .0) ∙ simp length-sets
 
-  counted : length (take (c .lex .result .count) (c .lex .last .1 .0)) ≡ c .lex .result .count
-  counted = length-take-le (c .lex .result .count) (c .lex .last .1 .0) (omega (arith, room))
+  counted : length (take (c .lex .result .count) (c .lex .last .1 .1 .0)) ≡ c .lex .result .count
+  counted = length-take-le (c .lex .result .count) (c .lex .last .1 .1 .0) (omega (arith, room))
 
 lex-requires : tie.Need-lex-requires
 lex-requires c κs = search needs

@@ -8,7 +8,7 @@ use lib.ListN.{length, length-append}
 use borrow.Author.Needs.{needs}
 use Rattle.digits.specs.Stores.{Written}
 use Rattle.digits.proofs.Stores.{sets-append}
-use Rattle.lexer.specs.Keywords.{keywords}
+use Rattle.lexer.specs.Keywords.{wordsIn}
 use Rattle.text.specs.Answers.{First, answerOf}
 use Rattle.text.specs.Lines.{feed}
 use Rattle.text.specs.Texts.{textOf}
@@ -20,10 +20,10 @@ use Rattle.text.proofs.spelling.write_line.Tie as tie
 told :
     (c : tie.After-write-answer) →
     let args = c .before .before .before .before .before .args in
-    Written (textOf (answerOf First keywords (now (args .phrase)) (args .t))) (c .write-answer .result) (now (args .out)) (c .write-answer .last .1 .0)
+    Written (textOf (answerOf First (wordsIn First) (now (args .phrase)) (args .t))) (c .write-answer .result) (now (args .out)) (c .write-answer .last .1 .0)
 told c =
     let args = c .before .before .before .before .before .args in
-    let x = answerOf First keywords (now (args .phrase)) (args .t) in
+    let x = answerOf First (wordsIn First) (now (args .phrase)) (args .t) in
     let room : length (textOf x) ≤ length (now (args .out)) = omega (arith, text-limit x) in
     rw (c .before .before .answer .ensures, fits (length (now (args .out))) (textOf x) room) at (c .write-answer .ensures)
 
@@ -31,7 +31,7 @@ told c =
 short : (c : tie.After-write-answer) → c .write-answer .result ≤ 52
 short c =
     let args = c .before .before .before .before .before .args in
-    omega (arith, told c .count, text-limit (answerOf First keywords (now (args .phrase)) (args .t)))
+    omega (arith, told c .count, text-limit (answerOf First (wordsIn First) (now (args .phrase)) (args .t)))
 
 answer-requires : tie.Need-answer-requires
 answer-requires c κs = search needs
@@ -52,7 +52,7 @@ returns : tie.Need-returns
 returns c =
     let w = told (c .before .before) in
     let args = c .before .before .before .before .before .before .before .args in
-    let text = textOf (answerOf First keywords (now (args .phrase)) (args .t)) in
+    let text = textOf (answerOf First (wordsIn First) (now (args .phrase)) (args .t)) in
     record {
       count = simp length-append (omega (arith, w .count));
       stored = rw (w .stored, w .count, sets-append text (feed ∷ []) (now (args .out)) 0, zero-add);
