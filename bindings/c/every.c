@@ -174,6 +174,10 @@ int main(void) {
     given("next friday", 2026, 2, 20, 9, 30, 15);
     given_as(FUZZY_FIRST, "tuesday in two weeks", 2026, 1, 27, 9, 30, 15);
     given_as(FUZZY_SECOND, "tuesday in two weeks", 2026, 3, 3, 9, 30, 15);
+    given_as(FUZZY_SECOND, "march 3 5 pm", 2026, 3, 3, 17, 0, 0);
+    given_as(FUZZY_SECOND, "march 24th", 2026, 3, 24, 9, 30, 15);
+    given_as(FUZZY_SECOND, "january 1, 2010", 2010, 1, 1, 9, 30, 15);
+    given_as(FUZZY_SECOND, "forty days ago", 2026, 1, 2, 9, 30, 15);
     given("tuesday two weeks ago", 2026, 1, 27, 9, 30, 15);
     given("5.2.2022", 2022, 2, 5, 9, 30, 15);
     given("5/2 at noon", 2026, 5, 2, 12, 0, 0);
@@ -184,7 +188,8 @@ int main(void) {
     refused_as(UINT32_MAX, "today", 5, FUZZY_NO_READING, 0, 0);
     refused("", 0, FUZZY_NOTHING, 0, 0);
     refused("   ", 3, FUZZY_NOTHING, 0, 0);
-    refused("forty days ago", 14, FUZZY_UNKNOWN, 0, 5);
+    refused("fourthy days ago", 16, FUZZY_UNKNOWN, 0, 7);
+    refused_as(FUZZY_FIRST, "forty days ago", 14, FUZZY_UNKNOWN, 0, 5);
     refused("at \xff", 4, FUZZY_UNKNOWN, 3, 1);
     refused("in\0two days", 11, FUZZY_UNKNOWN, 2, 1);
     refused("4294967296 days ago", 19, FUZZY_LARGE_DIGITS, 0, 10);
@@ -192,7 +197,10 @@ int main(void) {
     refused("5/2", 3, FUZZY_LEFT_OVER, 1, 2);
     refused("this month", 10, FUZZY_NO_SENSE, 0, 0);
     refused("1000/1/1", 8, FUZZY_NO_DATE, 0, 0);
-    refused("january 1, 2010", 15, FUZZY_NO_TIME, 0, 0);
+    refused("january 1, 99", 13, FUZZY_NO_TIME, 0, 0);
+    refused_as(FUZZY_FIRST, "january 1, 2010", 15, FUZZY_NO_TIME, 0, 0);
+    refused_as(FUZZY_FIRST, "march 3 5 pm", 12, FUZZY_LEFT_OVER, 10, 2);
+    refused_as(FUZZY_FIRST, "march 24th", 10, FUZZY_LEFT_OVER, 8, 2);
     refused("four billion days ago", 21, FUZZY_OUTSIDE, 0, 0);
     for (i = 0; i < sizeof many; i++) many[i] = i % 2 == 0 ? '1' : ' ';
     refused(many, 256, FUZZY_TOO_MANY, 128, 1);
