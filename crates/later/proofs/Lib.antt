@@ -1,0 +1,8 @@
+pub mod Alike
+pub mod Outcomes
+pub mod Weekdays
+pub mod Stated
+pub mod Steps
+pub mod Lists
+pub mod Phrases
+pub mod Crossing
