@@ -5,4 +5,3 @@ pub mod Stated
 pub mod Steps
 pub mod Lists
 pub mod Phrases
-pub mod Crossing

@@ -1,1 +1,2 @@
 pub mod Nows
+pub mod Crossing

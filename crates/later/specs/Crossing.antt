@@ -8,12 +8,11 @@ use Rattle.digits.specs.Bytes.{bytesOf}
 use Rattle.lexer.specs.Keywords.{keywords, wordsIn}
 use Rattle.lexer.specs.declared.reading.Reading.{Reading}
 use Rattle.lexer.specs.declared.reading.Reading.the-variants.{First, Second}
-use Rattle.lexer.specs.Classes.{classOf, markOf}
-use Rattle.lexer.specs.Lex.{wordAt, numberAt, tokenAt, lexed}
+use Rattle.lexer.specs.Classes.{classOf}
+use Rattle.lexer.specs.Lex.{wordAt, tokenAt, lexed}
 use Rattle.numbers.specs.Again.{turns, again}
 use Rattle.numbers.specs.Slices.{get, isAt, within}
-use Rattle.numbers.specs.Answers.{fitsOf}
-use Rattle.numbers.specs.Numbers.{isEnding, wordOf, literalOf, onesOf, teensOf, tensOf, tensOnesOf, numDoubleOf, sumOf, hundredsOf}
+use Rattle.numbers.specs.Numbers.{wordOf, literalOf, onesOf, teensOf, tensOf, tensOnesOf, numDoubleOf, sumOf, hundredsOf}
 use Rattle.numbers.specs.Numbers.{tailOf as numTailOf, numTripleOf, numTripleUnitOf, unitsOf, numStep, numOf}
 use Rattle.dates.specs.Units.{isArticle, unitOf, monthOf as namedMonthOf, weekdayOf, relativeSpecifierOf}
 use Rattle.dates.specs.Durations.{specificOf, articleOf, concreteOf, durationTurn, durationOf}
@@ -47,10 +46,10 @@ pub crossing :
     × (answerOf reading (wordsIn reading) phrase late ≡ given (withDate 2026 2 28 late))
     × (answerOf reading (wordsIn reading) phrase early ≡ given (withDate 2026 2 28 early))
     × (instantOf (withDate 2026 2 28 early) < instantOf (withDate 2026 2 28 late))
-unfolding keywords wordsIn classOf markOf wordAt numberAt tokenAt lexed turns again get isAt within fitsOf isEnding wordOf literalOf onesOf
-    teensOf tensOf tensOnesOf numDoubleOf sumOf hundredsOf numTailOf numTripleOf numTripleUnitOf unitsOf numStep numOf isArticle unitOf
-    namedMonthOf weekdayOf relativeSpecifierOf specificOf articleOf concreteOf durationTurn durationOf namedDayOf dayMonthYearOf monthDayOf
-    isDelim threeNumbersOf twoNumbersOf behindSecondOf delimitedOf dateOf minuteOf halfOf clockOf timeOf inTailOf durationTailOf tailOf
+unfolding keywords wordsIn classOf wordAt tokenAt lexed turns again get isAt within wordOf literalOf onesOf teensOf tensOf tensOnesOf
+    numDoubleOf sumOf hundredsOf numTailOf numTripleOf numTripleUnitOf unitsOf numStep numOf isArticle unitOf namedMonthOf weekdayOf
+    relativeSpecifierOf specificOf articleOf concreteOf durationTurn durationOf namedDayOf dayMonthYearOf monthDayOf isDelim
+    threeNumbersOf twoNumbersOf behindSecondOf delimitedOf dateOf minuteOf halfOf clockOf timeOf inTailOf durationTailOf tailOf
     withDurationOf relativeExprOf weekdayExprOf undatedOf dateExprOf timeBehindOf durationTurnOf timedTurnOf undatedTurnOf turnOf
     dateTimeStep dateTimeOf readOf leapYear monthLength daysBeforeMonth daysOfYears dayNumber isDate isTime isMoment monthsStep evaluate
     answerOf
