@@ -38,8 +38,8 @@ given-moment (moment x) e = cc
 given-moment (refused k) e = cc
 
 -- a list of steps never goes back at a later now
-pub run-never-back : (ss : List Step) → NeverBack (λ n. placed (runOf ss n))
-run-never-back ss =
+pub steps-never-back : (ss : List Step) → NeverBack (λ n. placed (runOf ss n))
+steps-never-back ss =
     record {
       never-back =
           λ n m same order e f.

@@ -12,7 +12,7 @@ use Rattle.steps.specs.Running.{runOf}
 use Rattle.ready.specs.Ready.{readyOf}
 use Rattle.ready.proofs.ReadyPhrases.{ready-answers}
 use Rattle.later.specs.Nows.{NeverBack}
-use Rattle.later.proofs.Lists.{run-never-back}
+use Rattle.later.proofs.Lists.{steps-never-back}
 
 -- behind an answer that does not depend on now
 pub then-never-back :
@@ -24,7 +24,7 @@ then-never-back (refused r) f h =
 -- for either reading and every byte string
 pub later-now-never-back : (reading : Reading) (s : List ℕ) → NeverBack (answerOf reading (wordsIn reading) s)
 later-now-never-back reading s =
-    let made = then-never-back (readyOf reading (wordsIn reading) s) (λ ss n. placed (runOf ss n)) run-never-back in
+    let made = then-never-back (readyOf reading (wordsIn reading) s) (λ ss n. placed (runOf ss n)) steps-never-back in
     record {
       never-back =
           λ n m same order e f. made .never-back n m same order (ready-answers reading s n ∙ e) (ready-answers reading s m ∙ f);
