@@ -1,5 +1,5 @@
--- A later now never goes back, as a theorem over what apps call: for one phrase and reading, or one ready phrase, and two nows with the same
--- time of day, whatever the two calls may answer and leave. Assumes nothing.
+-- A later now never goes back, over the calls of apps: for one phrase and reading, or one ready phrase, and two nows with the same time of
+-- day, whatever the two calls may answer and leave. Assumes nothing.
 use Prim.Native.Nat.{ℕ, _<_}
 use native.Mathlib.Omega.{arith}
 use mathlib.Core.Path.{_≡_}
@@ -21,20 +21,22 @@ use Rattle.fuzzydate.proofs.Readings.{settled-in}
 use Rattle.agreed.specs.Calls.{Read, Run, momentLeft}
 use Rattle.agreed.proofs.Agreed.{Says, read-says, run-says}
 
--- with the answer 0 the moment of the definition is left
-zero-left :
-    {low high room : ℕ} {w : Answer Moment} {array array′ : List ℕ} → 0 < low → Holds IsMoment (Bounded low high room) w → Says w array 0 array′ →
-    w ≡ given (momentLeft array′)
-zero-left some (of-given v) c = rw (c .array′-is)
-zero-left some (of-refusal b) c = absurd (omega (arith, c .number-is))
+-- of a definition whose refusals have numbers above 0
+module _ {low high room : ℕ} (some : 0 < low) where
+  -- with the answer 0 its moment is left
+  zero-left :
+      {w : Answer Moment} {array array′ : List ℕ} → Holds IsMoment (Bounded low high room) w → Says w array 0 array′ →
+      w ≡ given (momentLeft array′)
+  zero-left (of-given v) c = rw (c .array′-is)
+  zero-left (of-refusal b) c = absurd (omega (arith, c .number-is))
 
--- two calls that answer 0, by a definition that never goes back
-left-in-order :
-    {low high room : ℕ} (answer : Moment → Answer Moment) → NeverBack answer → 0 < low → ((n : Moment) → Holds IsMoment (Bounded low high room) (answer n)) →
-    (n m : Moment) {a a′ b b′ : List ℕ} → SameTime n m → NotAfter n m → Says (answer n) a 0 a′ → Says (answer m) b 0 b′ →
-    NotAfter (momentLeft a′) (momentLeft b′)
-left-in-order answer never some holds n m same order c d =
-    never .never-back n m same order (zero-left some (holds n) c) (zero-left some (holds m) d)
+  -- and of two calls that answer 0 the moments are in order, where it never goes back
+  left-in-order :
+      (answer : Moment → Answer Moment) → NeverBack answer → ((n : Moment) → Holds IsMoment (Bounded low high room) (answer n)) →
+      (n m : Moment) {a a′ b b′ : List ℕ} → SameTime n m → NotAfter n m → Says (answer n) a 0 a′ → Says (answer m) b 0 b′ →
+      NotAfter (momentLeft a′) (momentLeft b′)
+  left-in-order answer never holds n m same order c d =
+      never .never-back n m same order (zero-left (holds n) c) (zero-left (holds m) d)
 
 -- a phrase at a now in the reading of a number
 in-never-back : (reading : ℕ) (phrase : List ℕ) → NeverBack (answerIn reading phrase)
@@ -47,7 +49,7 @@ pub read-never-back :
     (reading : ℕ) (phrase : List ℕ) (n m : Moment) {a a′ b b′ : List ℕ} → SameTime n m → NotAfter n m →
     Read reading phrase n a 0 a′ → Read reading phrase m b 0 b′ → NotAfter (momentLeft a′) (momentLeft b′)
 read-never-back reading phrase n m same order c d =
-    left-in-order (answerIn reading phrase) (in-never-back reading phrase) (omega arith) (settled-in reading phrase) n m same order
+    left-in-order (omega arith) (answerIn reading phrase) (in-never-back reading phrase) (settled-in reading phrase) n m same order
     (read-says reading c) (read-says reading d)
 
 -- the same of any bytes that are run
@@ -55,5 +57,5 @@ pub run-never-back :
     (ready : List ℕ) (n m : Moment) {a a′ b b′ : List ℕ} → SameTime n m → NotAfter n m →
     Run ready n a 0 a′ → Run ready m b 0 b′ → NotAfter (momentLeft a′) (momentLeft b′)
 run-never-back ready n m same order c d =
-    left-in-order (λ n. placed (runOf (decodeOf ready) n)) (steps-never-back (decodeOf ready)) (omega arith) (run-settled (decodeOf ready)) n m
-    same order (run-says c) (run-says d)
+    left-in-order (omega arith) (λ n. placed (runOf (decodeOf ready) n)) (steps-never-back (decodeOf ready)) (run-settled (decodeOf ready))
+    n m same order (run-says c) (run-says d)
