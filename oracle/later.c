@@ -1,22 +1,12 @@
-/* Document 02's E10, tried: of two nows with the same time of day the later never gives the earlier moment. Reads lines `NOW|PHRASE`, and asks each
- * phrase in both readings at so many pairs of nows: later PAIRS < LINES. For comparison each pair is asked once more with the first now late in its day
- * and the second early, where moments may cross: a run in which none does would have found nothing in the other pairs either. */
+/* Document 02's E10, tried: of two nows with the same time of day the later never gives the earlier moment. Reads lines `NOW|PHRASE` and asks
+ * each phrase in both readings at so many pairs of nows: later PAIRS < LINES. For comparison each pair on two days is asked once more at 23 and at
+ * 1 o'clock, where moments may cross: a run in which none does would have found nothing in the other pairs either. */
 #define _DEFAULT_SOURCE
 #include "fuzzy.h"
 #include "lent.h"
 
 #define MOST_TEXT 8192
 #define NUMBERS FUZZY_MOMENT_NUMBERS
-
-/* xorshift64: the same numbers on every machine. */
-static uint64_t state = 88172645463325252u;
-
-static uint32_t random_below(uint32_t n) {
-    state ^= state << 13;
-    state ^= state >> 7;
-    state ^= state << 17;
-    return (uint32_t)((state >> 11) % n);
-}
 
 static uint32_t month_length(uint32_t year, uint32_t month) {
     if (month == 2) return (year % 4 == 0 && year % 100 != 0) || year % 400 == 0 ? 29 : 28;
@@ -34,22 +24,24 @@ static int is_after(const uint32_t a[NUMBERS], const uint32_t b[NUMBERS]) {
 
 /* A date of any year, at times of the first or last ones or a leap year, and at times at a month's end. */
 static void random_date(uint32_t now[NUMBERS]) {
-    uint32_t kind = random_below(8);
-    now[0] = kind == 0 ? 1 + random_below(3) : kind == 1 ? 9997 + random_below(3) : kind == 2 ? 4 + 4 * random_below(2499) : 1 + random_below(9999);
-    now[1] = random_below(3) == 0 ? 1 + random_below(3) : 1 + random_below(12);
+    static const uint32_t first[4] = {1, 9997, 4, 1}, count[4] = {3, 3, 2499, 9999}, apart[4] = {1, 1, 4, 1};
+    size_t kind = random_below(8);
+    if (kind > 3) kind = 3;
+    now[0] = first[kind] + apart[kind] * (uint32_t)random_below(count[kind]);
+    now[1] = 1 + (uint32_t)random_below(random_below(3) == 0 ? 3 : 12);
     now[2] = month_length(now[0], now[1]);
-    if (random_below(2) == 0) now[2] = 1 + random_below(now[2]);
+    if (random_below(2) == 0) now[2] = 1 + (uint32_t)random_below(now[2]);
 }
 
 static void random_time(uint32_t now[NUMBERS]) {
-    now[3] = random_below(24);
-    now[4] = random_below(60);
-    now[5] = random_below(60);
-    now[6] = random_below(1000);
+    now[3] = (uint32_t)random_below(24);
+    now[4] = (uint32_t)random_below(60);
+    now[5] = (uint32_t)random_below(60);
+    now[6] = (uint32_t)random_below(1000);
 }
 
 /* So many days on, as far as the calendar goes. */
-static void go_on(uint32_t now[NUMBERS], uint32_t days) {
+static void go_on(uint32_t now[NUMBERS], size_t days) {
     for (; days > 0; days--) {
         if (now[0] == 9999 && now[1] == 12 && now[2] == 31) return;
         if (now[2]++ < month_length(now[0], now[1])) continue;

@@ -13,14 +13,15 @@ use Rattle.calendar.proofs.Dates.{Before, by-year, by-month, by-day, Sa
 use Rattle.calendar.proofs.Places.{month-below, in-month-moment}
 
 -- one date is before another or the same
-pub data UpTo (y m d z k e : ℕ) : Type 0 where
+data UpTo (y m d z k e : ℕ) : Type 0 where
   in-year : y < z → UpTo y m d z k e
   in-month : y ≡ z → m < k → UpTo y m d z k e
   on-day : y ≡ z → m ≡ k → d ≤ e → UpTo y m d z k e
 
 -- a day number that is not larger is that of a date that is not later
-pub order-dates : {y m d z k e : ℕ} → IsDate y m d → IsDate z k e → dayNumber y m d ≤ dayNumber z k e → UpTo y m d z k e
-order-dates {y} {m} {d} {z} {k} {e} v w h = ⊎-elim before (⊎-elim same (λ b. absurd (omega (arith, day-order w v b)))) (compared y m d z k e)
+order-dates : {y m d z k e : ℕ} → IsDate y m d → IsDate z k e → dayNumber y m d ≤ dayNumber z k e → UpTo y m d z k e
+order-dates {y} {m} {d} {z} {k} {e} v w h =
+    ⊎-elim before (⊎-elim same (λ b. absurd (omega (arith, day-order w v b)))) (compared y m d z k e)
   where
     same : Same y m d z k e → UpTo y m d z k e
     same s = on-day (s .year) (s .month) (omega (arith, s .day))
@@ -31,14 +32,14 @@ order-dates {y} {m} {d} {z} {k} {e} v w h = ⊎-elim before (⊎-elim same (λ b
     before (by-day p q l) = on-day p q (omega arith)
 
 -- and the other way
-pub dates-order : {y m d z k e : ℕ} → IsDate y m d → IsDate z k e → UpTo y m d z k e → dayNumber y m d ≤ dayNumber z k e
+dates-order : {y m d z k e : ℕ} → IsDate y m d → IsDate z k e → UpTo y m d z k e → dayNumber y m d ≤ dayNumber z k e
 dates-order v w (in-year l) = omega (arith, day-order v w (by-year l))
 dates-order v w (in-month p l) = omega (arith, day-order v w (by-month p l))
 dates-order {y} {m} {d} {z} {k} {e} v w (on-day p q h) =
     ⊎-elim (λ (r : d ≡ e). rw (p, q, r) (omega arith)) (λ l. omega (arith, day-order v w (by-day p q l))) (eq-or-lt-of-le h)
 
 -- the year of a date that is not later is not later
-pub years-order : {y m d z k e : ℕ} → UpTo y m d z k e → y ≤ z
+years-order : {y m d z k e : ℕ} → UpTo y m d z k e → y ≤ z
 years-order (in-year l) = omega arith
 years-order (in-month p l) = omega arith
 years-order (on-day p q h) = omega arith

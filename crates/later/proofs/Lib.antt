@@ -1,4 +1,4 @@
-pub mod Alike
+pub mod InOrder
 pub mod Outcomes
 pub mod Weekdays
 pub mod Stated

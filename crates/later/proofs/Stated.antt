@@ -10,10 +10,10 @@ use Rattle.dates.specs.declared.time.Time.the-variants.{HourMin, HourMinAM, Hou
 use Rattle.evaluation.specs.Dates.{statedDate}
 use Rattle.evaluation.specs.Times.{statedTime, timeAt}
 use Rattle.later.specs.Nows.{SameTime}
-use Rattle.later.proofs.Alike.{Alike, on-dates, at-times, own-time}
+use Rattle.later.proofs.InOrder.{InOrder, on-dates, at-times, own-time}
 use Rattle.later.proofs.Outcomes.{Kept, both, tested}
 
-module _ {t u : Moment} (a : Alike t u) where
+module _ {t u : Moment} (a : InOrder t u) where
   -- one month and day, in years in order
   pub date-kept : (y z m d : ℕ) → y ≤ z → Kept (statedDate y m d t) (statedDate z m d u)
   date-kept y z m d h =

@@ -1,4 +1,4 @@
--- Each step, from moments that are alike: the moments that it gives are alike.
+-- Each step, from moments in order: the moments that it gives are in order.
 use Prim.Native.Nat.{ℕ, _+_, _-_, _%_}
 use native.Mathlib.Omega.{arith}
 use mathlib.Core.Path.{_≡_}
@@ -24,7 +24,7 @@ use Rattle.steps.specs.declared.plan.Move.the-variants.{Minutes, Months, Years,
 use Rattle.steps.specs.declared.plan.Step.{Step}
 use Rattle.steps.specs.declared.plan.Step.the-variants.{From, By, AtTime}
 use Rattle.later.specs.Nows.{SameTime}
-use Rattle.later.proofs.Alike.{Alike, on-dates, at-minutes}
+use Rattle.later.proofs.InOrder.{InOrder, on-dates, at-minutes}
 use Rattle.later.proofs.Outcomes.{Kept, both, no-first, tested}
 use Rattle.later.proofs.Weekdays.{in-week-kept, forward-to-kept, back-to-kept}
 use Rattle.later.proofs.Stated.{date-kept, time-kept}
@@ -36,7 +36,7 @@ dated :
     IsDate (moved back k (yearNumber t) + 1) (t .month) (t .day)
 dated back k t v e f = in-year-date t v (below-limit back k _ years (omega (arith, v .date)) e) (leb-true _ _ f)
 
-module _ {t u : Moment} (v : IsMoment t) (w : IsMoment u) (a : Alike t u) where
+module _ {t u : Moment} (v : IsMoment t) (w : IsMoment u) (a : InOrder t u) where
   -- fixed lengths: as many days stay between the two
   minutes-kept : (back : Bool) (k : ℕ) → Kept (minutesStep back k t) (minutesStep back k u)
   unfolding minutesStep

@@ -10,7 +10,7 @@ use Rattle.calendar.specs.declared.moments.Moment.{Moment}
 use Rattle.dates.specs.declared.units.RelativeSpecifier.{RelativeSpecifier}
 use Rattle.dates.specs.declared.units.RelativeSpecifier.the-variants.{This, Next, Last}
 use Rattle.evaluation.specs.Weekdays.{mondayOf, daysBack, inWeek, forwardTo, backTo}
-use Rattle.later.proofs.Alike.{Alike, on-days}
+use Rattle.later.proofs.InOrder.{InOrder, on-days}
 use Rattle.later.proofs.Outcomes.{Kept, both, tested}
 
 -- the Mondays of their weeks
@@ -42,7 +42,7 @@ firsts n m w r s h a b = omega (arith, a, b)
 lasts : (n m w r s : ℕ) → n ≤ m → LastOn n w r → LastOn m w s → r ≤ s
 lasts n m w r s h a b = omega (arith, a, b)
 
-module _ {t u : Moment} (a : Alike t u) where
+module _ {t u : Moment} (a : InOrder t u) where
   -- on days in order
   day-kept : (n m : ℕ) → n ≤ m → Kept (onDay n t) (onDay m u)
   unfolding onDay
