@@ -24,6 +24,12 @@ take-slice (suc lo) (suc mid) (suc hi) [] h k = take-nil (suc mid - suc lo)
 take-slice (suc lo) (suc mid) (suc hi) (x ∷ l) h k =
     let less : suc mid - suc lo ≡ mid - lo = omega arith in rw less (take-slice lo mid hi l (omega arith) (omega arith))
 
+-- what is still visited is no more than behind the row or before it
+onward-most : (o : Order) (p q k : ℕ) → p ≤ k → q ≤ k → onward o p q ≤ k
+onward-most Less p q k h l = h
+onward-most Same p q k h l = zero-le
+onward-most More p q k h l = l
+
 -- the word that is looked up
 module _ (w : List ℕ) where
   -- with room for as many turns as there are rows no more room is needed
@@ -71,11 +77,6 @@ module _ (w : List ℕ) where
       ∙ ap (λ (r : Word). suc (onward (ordered (r .spelling) w) (visits (drop (suc (mid - lo)) part) w) (visits (take (mid - lo) part) w))) row
       ∙ ap₂ (λ (p q : List Word). suc (onward (ordered (spellingAt ws mid) w) (visits p w) (visits q w)))
       behind (take-slice lo mid hi ws (omega arith) (omega arith))
-
-  onward-most : (o : Order) (p q k : ℕ) → p ≤ k → q ≤ k → onward o p q ≤ k
-  onward-most Less p q k h l = h
-  onward-most Same p q k h l = zero-le
-  onward-most More p q k h l = l
 
   -- of fewer than 2 ^ k rows at most k are visited
   visits-most : (k : ℕ) (ws : List Word) → length ws < 2 ^ k → visits ws w ≤ k

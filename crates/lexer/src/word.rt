@@ -140,7 +140,8 @@ pub(crate) fn key_at(s: &[u8], a: usize) -> Key
     }
 }
 
-// A byte of a word as it is compared: a letter's small one; what is not above the fillers just above them, what is above the letters just above them.
+// A byte of a word as it is compared: a letter's small one; what is not above the fillers counts as the byte above them, what is above the letters
+// as the byte above those, and any other byte as itself.
 fn compared(b: u8) -> u8
     ensures { λ r. ⌜ r ≡ comparedOf (lowerOf b) ⌝ }
 {

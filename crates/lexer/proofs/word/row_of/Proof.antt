@@ -75,7 +75,9 @@ loop-less : tie.Need-loop-less Inv-loop μ-loop
 loop-less c = omega arith
 
 loop-again : tie.Need-loop-again Inv-loop μ-loop
-loop-again c = next _ _ _ (c .before .before .before .before .loop .inv) (c .before .before .before .loop-test .taken) (c .before .before .if1 .left) (c .compared .ensures)
+loop-again c =
+    let in-loop = c .before .before .before in
+    next _ _ _ (in-loop .before .loop .inv) (in-loop .loop-test .taken) (c .before .before .if1 .left) (c .compared .ensures)
 
 returns-2 : tie.Need-returns-2 Inv-loop μ-loop
 returns-2 c = all-places _ _ _ (c .before .loop .inv) (c .loop-test .left)
