@@ -1,4 +1,4 @@
-/* Reads phrases at one now, a ready phrase at two, one phrase in both readings, and stamps. Copy what you need. */
+/* Reads phrases at one now, a ready phrase at two, one phrase in both readings, and stamps, and looks words up. Copy what you need. */
 #include "fuzzy.h"
 
 #include <stdio.h>
@@ -29,6 +29,16 @@ static void show_stamp(const char *text) {
         return;
     }
     printf("%s: %s\n", text, fuzzy_word(fuzzy_number(answer)));
+}
+
+/* Says of a word, as it is typed, whether a phrase may have it. */
+static void show_word(const char *word) {
+    uint32_t found[FUZZY_FOUND_NUMBERS];
+    uint32_t reading;
+    for (reading = FUZZY_FIRST; reading <= FUZZY_SECOND; reading++) {
+        if (fuzzy_find_word(reading, (const uint8_t *)word, strlen(word), found) != 0) return;
+        printf("%s: %s in reading %u, after %u comparisons\n", word, found[0] == 0 ? "no word" : "a word", (unsigned)reading, (unsigned)found[1]);
+    }
 }
 
 int main(void) {
@@ -67,5 +77,9 @@ int main(void) {
     show_stamp("2026-02-11t09:30:15+00:00");
     show_stamp("2026-02-11T09:30:15-05:00");
     show_stamp("2026-02-30T09:30:15Z");
+
+    show_word("Friday");
+    show_word("fort");
+    show_word("forty");
     return 0;
 }
