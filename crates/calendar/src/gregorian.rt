@@ -71,8 +71,8 @@ pub(crate) fn least(a: u32, b: u32) -> u32
     if a < b { a } else { b }
 }
 
-// The whole years before day n: 22967 of 8388608 is a year's share of its days, so that x is that number or one less, and the next
-// year's start says which.
+// The whole years before day n. 22967 / 8388608 is a little less than a day's part of a year, so x is that number or one less, and the
+// start of the next year says which.
 pub(crate) fn years_before(n: u32) -> u32
     requires { ⌜ n < days ⌝ }
     ensures { λ r. ⌜ (r ≡ yearsBefore n) × (r < 9999) × InYear n r ⌝ }

@@ -3,7 +3,7 @@ use mathlib.Core.Path.{_≡_}
 use Prim.Native.Nat.{ℕ, _<_}
 use native.Mathlib.Omega.{arith}
 use Rattle.calendar.specs.Gregorian.{yearsBefore, days, InYear}
-use Rattle.calendar.proofs.Years.{guessed}
+use Rattle.calendar.proofs.Years.{not-late, not-early}
 use Rattle.calendar.proofs.Dates.{between, the-year, years-below}
 use Rattle.calendar.proofs.gregorian.years_before.Statement.{statement}
 use Rattle.calendar.proofs.gregorian.years_before.Tie as tie
@@ -27,14 +27,13 @@ told n r h i = (the-year n r i, omega (arith, the-year n r i, years-below n h), 
 returns : tie.Need-returns
 returns c =
     let n = c .before .before .args .n in
-    let g = guessed n (c .before .before .pre) in
-    told n _ (c .before .before .pre) (between n _ (g .low) (omega arith))
+    told n _ (c .before .before .pre) (between n _ (not-late n _ (omega arith)) (omega arith))
 
 returns-2 : tie.Need-returns-2
 returns-2 c =
     let n = c .before .before .args .n in
-    let g = guessed n (c .before .before .pre) in
-    told n _ (c .before .before .pre) (between n _ (omega arith) (g .high))
+    let h = c .before .before .pre in
+    told n _ h (between n _ (omega arith) (not-early n _ h (omega arith)))
 
 pub years-before-spec : {M : Type 1} → statement M
 years-before-spec =
