@@ -66,7 +66,7 @@ starts-tested = refl
 pub start-at : (k : ℕ) → k < 400 → getD starts k 0 ≡ daysOfYears k
 start-at k h = eqb-true _ _ (each-below (λ k. eqb (getD starts k 0) (daysOfYears k)) 400 starts-tested k h)
 
--- at the arm of a year j
+-- and so does the arm of year j
 pub arm : {k : ℕ} → k < 400 → (j : ℕ) → k ≡ j → getD starts j 0 ≡ daysOfYears k
 arm {k} h j e = rw (← e) (start-at k h)
 

@@ -1,5 +1,5 @@
-// The days before each year of the 400-year cycle, in one table. As a `match` it stands among the compiled constants and is read by one load;
-// an array of them would be built on the stack at each use.
+// The days before each year of the 400-year cycle, in one table. As a `match` it stands among the compiled constants, and an entry is one
+// load; an array would be built on the stack at each use.
 ghost use mathlib.Core.Path.{_≡_};
 ghost use Prim.Native.Nat.{_<_};
 ghost use Rattle.calendar.specs.Gregorian.{daysOfYears};

@@ -14,7 +14,9 @@ returns c = simp (eq-eqb _ _ (c .if1 .taken), and-false) (sixteenth _ (c .if1 .t
 
 returns-2 : tie.Need-returns-2
 unfolding leapYear
-returns-2 c = simp (ne-eqb _ _ (c .if1 .left), ne-eqb (c .before .args .y % 400) 0 (λ e. c .if1 .left (omega arith)), and-true, or-false)
+returns-2 c =
+    let no-cycle = ne-eqb (c .before .args .y % 400) 0 (λ e. c .if1 .left (omega arith)) in
+    simp (ne-eqb _ _ (c .if1 .left), no-cycle, and-true, or-false)
 
 pub leap-year-spec : {M : Type 1} → statement M
 leap-year-spec = tie.close (tie.spec returns returns-2)
