@@ -1,14 +1,15 @@
 -- What the contracts of the functions that apps call allow, in an app's terms.
 use Prim.Native.Nat.{ℕ, _+_, _/_, _%_, _≤_}
 use mathlib.Core.Path.{_≡_}
-use mathlib.Core.List.{List}
+use mathlib.Core.List.{List, [], _∷_}
 use lib.ListN.{length}
 use Rattle.calendar.specs.Moments.{IsMoment, momentOf}
 use Rattle.calendar.specs.declared.moments.Moment.{Moment}
-use Rattle.fuzzydate.specs.Called.{six}
+use Rattle.fuzzydate.specs.Called.{seven}
 use Rattle.fuzzydate.proofs.fuzzy_read.Reads as read'
 use Rattle.fuzzydate.proofs.fuzzy_run.Reads as run'
 use Rattle.fuzzydate.proofs.fuzzy_make_ready.Reads as make'
+use Rattle.fuzzydate.proofs.fuzzy_find_word.Reads as find'
 
 -- a call that a contract allows: the lifetimes, the arguments, the result, and the parameters at exit
 module _ {K : Type 0} {A R E : K → Type 0} (Post : (κs : K) → A κs → R κs → E κs → Type 0) where
@@ -34,7 +35,7 @@ pub record MakeReady (reading : ℕ) (phrase array : List ℕ) (k : ℕ) (array�
   pub answer-is : call .result ≡ k
   pub array′-is : call .exit .1 .1 .0 .now ≡ array′
 
--- what is seen of a call with bytes, a now's six numbers and an array for a moment: what it is given, answers and leaves
+-- what is seen of a call with bytes, a now's seven numbers and an array for a moment: what it is given, answers and leaves
 pub record Seen (C : Type 0) : Type 0 where
   pub bytesOf : C → List ℕ
   pub nowOf : C → Moment
@@ -61,10 +62,12 @@ abbrev pub readSeen : (reading : ℕ) → Seen (ReadIn reading)
 readSeen reading =
     record {
       bytesOf = λ c. c .call .given .1 .0 .now;
-      nowOf = λ c. let a = c .call .given .1 .1 in momentOf (a .0) (a .1 .0) (a .1 .1 .0) (a .1 .1 .1 .0) (a .1 .1 .1 .1 .0) (a .1 .1 .1 .1 .1 .0);
-      arrayOf = λ c. c .call .given .1 .1 .1 .1 .1 .1 .1 .1 .0 .now;
+      nowOf =
+          λ c. let a = c .call .given .1 .1 in
+          momentOf (a .0) (a .1 .0) (a .1 .1 .0) (a .1 .1 .1 .0) (a .1 .1 .1 .1 .0) (a .1 .1 .1 .1 .1 .0) (a .1 .1 .1 .1 .1 .1 .0);
+      arrayOf = λ c. c .call .given .1 .1 .1 .1 .1 .1 .1 .1 .1 .0 .now;
       resultOf = λ c. c .call .result;
-      arrayAfter = λ c. c .call .exit .1 .1 .1 .1 .1 .1 .1 .1 .0 .now;
+      arrayAfter = λ c. c .call .exit .1 .1 .1 .1 .1 .1 .1 .1 .1 .0 .now;
     }
 
 -- what is seen of a call of `fuzzy_run`
@@ -72,10 +75,12 @@ abbrev pub runSeen : Seen (Call run'.Post)
 runSeen =
     record {
       bytesOf = λ c. c .given .0 .now;
-      nowOf = λ c. let a = c .given .1 in momentOf (a .0) (a .1 .0) (a .1 .1 .0) (a .1 .1 .1 .0) (a .1 .1 .1 .1 .0) (a .1 .1 .1 .1 .1 .0);
-      arrayOf = λ c. c .given .1 .1 .1 .1 .1 .1 .1 .0 .now;
+      nowOf =
+          λ c. let a = c .given .1 in
+          momentOf (a .0) (a .1 .0) (a .1 .1 .0) (a .1 .1 .1 .0) (a .1 .1 .1 .1 .0) (a .1 .1 .1 .1 .1 .0) (a .1 .1 .1 .1 .1 .1 .0);
+      arrayOf = λ c. c .given .1 .1 .1 .1 .1 .1 .1 .1 .0 .now;
       resultOf = λ c. c .result;
-      arrayAfter = λ c. c .exit .1 .1 .1 .1 .1 .1 .1 .0 .now;
+      arrayAfter = λ c. c .exit .1 .1 .1 .1 .1 .1 .1 .1 .0 .now;
     }
 
 -- `fuzzy_read`, of a phrase in a reading
@@ -98,7 +103,7 @@ place k = k / 65536 % 65536
 abbrev pub size : ℕ → ℕ
 size k = k / 4294967296
 
--- two answers are alike: the same number, with 0 the same six numbers, and with any other nothing written
+-- two answers are alike: the same number, with 0 the same seven numbers, and with any other nothing written
 pub record Alike (q : ℕ) (phone phone′ : List ℕ) (r : ℕ) (hub hub′ : List ℕ) : Type 0 where
   pub number-same : q ≡ r
   pub moment-same : r ≡ 0 → phone′ ≡ hub′
@@ -106,5 +111,18 @@ pub record Alike (q : ℕ) (phone phone′ : List ℕ) (r : ℕ) (hub hub′ : L
 
 -- what an answer is: 0 and a moment of the calendar; or a refusal of `low` to 13 whose part lies within `room` bytes, and nothing written
 pub data Answered (low room : ℕ) (array : List ℕ) : ℕ → List ℕ → Type 0 where
-  moment : {t : Moment} → IsMoment t → Answered low room array 0 (six t)
+  moment : {t : Moment} → IsMoment t → Answered low room array 0 (seven t)
   refusal : {k : ℕ} → low ≤ number k → number k ≤ 13 → place k + size k ≤ room → Answered low room array k array
+
+-- `fuzzy_find_word` may answer k for a word in a reading, and leave `array′` in an array that held `array`
+pub record FindWord (reading : ℕ) (word array : List ℕ) (k : ℕ) (array′ : List ℕ) : Type 0 where
+  pub call : Call find'.Post
+  pub reading-is : call .given .0 ≡ reading
+  pub word-is : call .given .1 .0 .now ≡ word
+  pub array-is : call .given .1 .1 .0 .now ≡ array
+  pub answer-is : call .result ≡ k
+  pub array′-is : call .exit .1 .1 .0 .now ≡ array′
+
+-- what is found of a word: 0, and a code or 0, and "at most 8 comparisons with table words"
+pub data Counted : ℕ → List ℕ → Type 0 where
+  counted : {code count : ℕ} → count ≤ 8 → Counted 0 (code ∷ count ∷ [])
