@@ -34,6 +34,9 @@ extern "C" {
 /* The room that any stamp's text needs, in bytes; one with offset zero needs 24, and one with millisecond 0 needs four less. */
 #define FUZZY_STAMP_SIZE 29
 
+/* What is found of a word: its lexeme's code or 0, and the comparisons made. */
+#define FUZZY_FOUND_NUMBERS 2
+
 /* The two readings of a phrase; the first is the Rust library's. They differ in what "in" behind a weekday means: at Wednesday, 11 February 2026,
  * "tuesday in two weeks" is 27 January in the first and 3 March in the second; and in what the year behind month and day is: any number in the first,
  * so that "march 3 5 pm" is refused, and four digits in the second, in which it is 17:00 on 3 March. The second also takes "24th" with any ending,
@@ -87,6 +90,11 @@ uint64_t fuzzy_read_stamp(const uint8_t *text, size_t text_length, uint32_t stam
  * 14 for a west above 1 or an offset above 1439, 17 for a text too short, in this order. */
 uint64_t fuzzy_write_stamp(uint32_t year, uint32_t month, uint32_t day, uint32_t hour, uint32_t minute, uint32_t second,
                            uint32_t millisecond, uint32_t west, uint32_t offset, uint8_t *text, size_t text_length);
+
+/* A word of a phrase while it is typed: whether it is one of the words of a reading. 0: found[0] is its lexeme's code, the same for words that mean
+ * the same, or 0 where the reading has no such word; found[1] is how many words of the reading's table it was compared with, never more than 8.
+ * Letters in either case; an empty word, and one with bytes that are no letters, is absent, and counted like any other. Else 15. */
+uint64_t fuzzy_find_word(uint32_t reading, const uint8_t *word, size_t word_length, uint32_t found[FUZZY_FOUND_NUMBERS]);
 
 /* Which refusal an answer is; 0 where it is none. */
 static inline unsigned fuzzy_number(uint64_t answer) { return (unsigned)(answer & 0xffffu); }

@@ -27,6 +27,7 @@ struct lent {
         uint8_t ready[FUZZY_READY_SIZE];
         uint32_t stamp[FUZZY_STAMP_NUMBERS];
         uint8_t text[2 * FUZZY_STAMP_SIZE];
+        uint32_t found[FUZZY_FOUND_NUMBERS];
     } in;
     uint8_t after[GUARD];
 };
@@ -206,6 +207,38 @@ static void stamps(void) {
     unwritten(2, 0, 0, 1, 0, FUZZY_NO_ROOM);
 }
 
+/* a word in one reading: its code or 0, and the comparisons made */
+static void found_as(uint32_t reading, const char *word, size_t n, uint32_t code, uint32_t comparisons) {
+    const uint32_t wanted[FUZZY_FOUND_NUMBERS] = {code, comparisons};
+    struct lent l = fresh();
+    expect(fuzzy_find_word(reading, (const uint8_t *)word, n, l.in.found) == 0, "a word that is looked up");
+    expect(memcmp(l.in.found, wanted, sizeof wanted) == 0, "its code and the comparisons");
+    expect(kept_from(&l, sizeof wanted), "nothing written but the two numbers");
+}
+
+/* a reading that is none, and nothing written */
+static void unfound(uint32_t reading) {
+    struct lent l = fresh();
+    expect(fuzzy_find_word(reading, (const uint8_t *)"now", 3, l.in.found) == FUZZY_NO_READING, "a word in no reading");
+    expect(kept_from(&l, 0), "nothing written for a word in no reading");
+}
+
+static void words(const char *many, size_t n) {
+    found_as(FUZZY_FIRST, "Friday", 6, 123, 7);
+    found_as(FUZZY_FIRST, "zERO", 4, 151, 8);
+    found_as(FUZZY_FIRST, "th", 2, 159, 7);
+    found_as(FUZZY_SECOND, "th", 2, 160, 4);
+    found_as(FUZZY_FIRST, "forty", 5, 0, 7);
+    found_as(FUZZY_SECOND, "FORTY", 5, 40, 5);
+    found_as(FUZZY_FIRST, "", 0, 0, 7);
+    found_as(FUZZY_SECOND, "fri\xff", 4, 0, 7);
+    found_as(FUZZY_SECOND, "fr\0day", 6, 0, 7);
+    found_as(FUZZY_FIRST, many, n, 0, 7);
+    unfound(0);
+    unfound(3);
+    unfound(UINT32_MAX);
+}
+
 int main(void) {
     static char many[4096];
     struct lent l = fresh();
@@ -263,6 +296,7 @@ int main(void) {
     expect(fuzzy_run((const uint8_t *)many, 400, NOW, l.in.moment) == FUZZY_NO_SENSE, "25 records");
     expect(kept_from(&l, 0), "nothing written by any of these");
     stamps();
+    words(many, sizeof many);
 
     printf(failed ? "some calls failed\n" : "every call answered as it should\n");
     return failed;

@@ -1,4 +1,4 @@
-/* Reads phrases at one now, a ready phrase at two, one phrase in both readings, and stamps. Copy what you need. */
+/* Reads phrases at one now, a ready phrase at two, one phrase in both readings, and stamps, and looks words up. Copy what you need. */
 #include "fuzzy.h"
 
 #include <stdio.h>
@@ -33,6 +33,16 @@ static void show_stamp(const char *text) {
         return;
     }
     printf("%s: %s\n", text, fuzzy_word(fuzzy_number(answer)));
+}
+
+/* Says of a word, as it is typed, whether a phrase may have it. */
+static void show_word(const char *word) {
+    uint32_t found[FUZZY_FOUND_NUMBERS];
+    uint32_t reading;
+    for (reading = FUZZY_FIRST; reading <= FUZZY_SECOND; reading++) {
+        if (fuzzy_find_word(reading, (const uint8_t *)word, strlen(word), found) != 0) return;
+        printf("%s: %s in reading %u, after %u comparisons\n", word, found[0] == 0 ? "no word" : "a word", (unsigned)reading, (unsigned)found[1]);
+    }
 }
 
 int main(void) {
@@ -74,5 +84,9 @@ int main(void) {
     show_stamp("2026-02-11T09:30:15.5Z");
     show_stamp("2026-02-11T09:30:15.05-05:00");
     show_stamp("2026-02-11T09:30:15.0005Z");
+
+    show_word("Friday");
+    show_word("fort");
+    show_word("forty");
     return 0;
 }

@@ -36,6 +36,15 @@
 //! let refusal = "2026-02-30T09:30:15Z".parse::<Stamp>().unwrap_err();
 //! assert_eq!(refusal.to_string(), "this is no RFC 3339 date and time");
 //! ```
+//!
+//! Words can be looked up while they are typed, with at most 8 comparisons each:
+//!
+//! ```
+//! use fuzzydate::{find_word, Reading};
+//!
+//! assert!(find_word(Reading::First, "Friday").code.is_some());
+//! assert!(find_word(Reading::First, "Frid").code.is_none());
+//! ```
 use std::fmt;
 use std::str::FromStr;
 
@@ -80,6 +89,7 @@ extern "C" {
         text: *mut u8,
         text_length: usize,
     ) -> u64;
+    fn fuzzy_find_word(reading: u32, word: *const u8, word_length: usize, found: *mut u32) -> u64;
 }
 
 /// The most bytes that a ready phrase has.
@@ -509,4 +519,34 @@ impl FromStr for Stamp {
             _ => Err(Refusal::of(answer, &[])),
         }
     }
+}
+
+/// What looking a word up says.
+#[derive(Clone, Copy, Debug, PartialEq, Eq, Hash)]
+pub struct FoundWord {
+    /// The code of the word's lexeme, the same for words that mean the same; none where the reading has no such word.
+    pub code: Option<u32>,
+    /// How many words of the reading's table it was compared with: at most 8.
+    pub comparisons: u32,
+}
+
+/// Looks a word up in one of the two readings, with letters in either case. An empty word, and one with bytes that are no letters, is absent, and
+/// its comparisons are counted like any other's.
+///
+/// ```
+/// # use fuzzydate::{find_word, Reading};
+/// let days = find_word(Reading::First, "Days");
+/// assert_eq!(days.code, find_word(Reading::First, "day").code);
+/// assert!(days.comparisons <= 8);
+///
+/// assert_eq!(find_word(Reading::First, "forty").code, None);
+/// assert_eq!(find_word(Reading::Second, "forty").code, find_word(Reading::Second, "fourty").code);
+/// ```
+pub fn find_word<W: AsRef<[u8]> + ?Sized>(reading: Reading, word: &W) -> FoundWord {
+    let bytes = word.as_ref();
+    let mut found = [0; 2];
+    // SAFETY: the pointers are those of a slice and of an array of the size that the function writes. A `Reading` is never refused.
+    unsafe { fuzzy_find_word(reading as u32, bytes.as_ptr(), bytes.len(), found.as_mut_ptr()) };
+    let [code, comparisons] = found;
+    FoundWord { code: (code != 0).then_some(code), comparisons }
 }

@@ -1,5 +1,5 @@
 //! Every function with good, damaged and empty input.
-use fuzzydate::{read, Moment, Offset, Reading, Ready, Reason, Stamp};
+use fuzzydate::{find_word, read, FoundWord, Moment, Offset, Reading, Ready, Reason, Stamp};
 
 const NOW: Moment = Moment { year: 2026, month: 2, day: 11, hour: 9, minute: 30, second: 15, millisecond: 0 };
 const LEAP_DAY: Moment = Moment { year: 2024, month: 2, day: 29, hour: 12, minute: 0, second: 0, millisecond: 0 };
@@ -193,4 +193,23 @@ fn refuses_what_is_no_stamp() {
     assert_eq!(Stamp { moment: NO_NOW, offset: Offset::East(1440) }.text().unwrap_err().reason(), Reason::NoNow);
     assert_eq!(Stamp { moment: NOW, offset: Offset::West(1440) }.text().unwrap_err().reason(), Reason::NoStamp);
     assert_eq!(Stamp { moment: NO_NOW, offset: Offset::East(0) }.to_string(), "the moment given is no date and time of the years 1 to 9999");
+}
+
+#[test]
+fn finds_words() {
+    let cases: [(Reading, &[u8], Option<u32>, u32); 9] = [
+        (Reading::First, b"Friday", Some(123), 7),
+        (Reading::First, b"zERO", Some(151), 8),
+        (Reading::First, b"th", Some(159), 7),
+        (Reading::Second, b"th", Some(160), 4),
+        (Reading::First, b"forty", None, 7),
+        (Reading::Second, b"FORTY", Some(40), 5),
+        (Reading::First, b"", None, 7),
+        (Reading::Second, b"fri\xff", None, 7),
+        (Reading::Second, b"fr\0day", None, 7),
+    ];
+    for (reading, word, code, comparisons) in cases {
+        assert_eq!(find_word(reading, word), FoundWord { code, comparisons }, "{}", word.escape_ascii());
+    }
+    assert_eq!(find_word(Reading::First, &vec![b'a'; 4096]).code, None);
 }
