@@ -3,14 +3,16 @@
 use mathlib.Core.Path.{_≡_, refl, sym, ap, _∙_}
 use mathlib.Core.Bool.{Bool, true, false, cond}
 use mathlib.Core.List.{List, [], _∷_, _++_}
-use Prim.Native.Nat.{ℕ, zero, suc, _+_, _*_, _-_, _≤_, _<_}
+use Prim.Native.Nat.{ℕ, zero, suc, _+_, _*_, _-_, _/_, _^_, _≤_, _<_}
 use native.Mathlib.Nat.{not-suc-le-zero}
 use native.Mathlib.Omega.{arith}
 use lib.Dec.{eqb}
 use lib.ListN.{length, getD, drop, length-drop, length-append}
 use lib.Seq.{drop-drop, getD-drop, take-at, drop-at}
 use borrow.Author.Tests.{eq-eqb, ne-eqb, eqb-true, lt-ltb, le-ltb, le-leb}
-use Rattle.digits.specs.Digits.{valueFrom}
+use Rattle.digits.specs.Digits.{valueFrom, digitOf, digitsOf}
+use Rattle.digits.proofs.Says.{digits-say, digit-is}
+use Rattle.digits.proofs.Widths.{digits-length}
 use Rattle.refusals.specs.Answers.{given, between}
 use Rattle.lexer.specs.Lexemes.{NUM}
 use Rattle.lexer.specs.Words.{Word, meaning, folded}
@@ -18,7 +20,7 @@ use Rattle.lexer.specs.Classes.{Gap, Letter, Digit, Mark, classOf, markO
 use Rattle.lexer.specs.Lex.{run, runEnd, saidDigits, wordAt, numberAt, tokenOf, tokenAt, Item, item, ahead, lexFrom, lexed}
 use Rattle.lexer.specs.declared.find.Found.the-variants.{Lexeme}
 use Rattle.lexer.specs.declared.lex.Token.the-variants.{Finish, Taken}
-use Rattle.lexer.proofs.Runs.{run-most}
+use Rattle.lexer.proofs.Runs.{run-most, digit-class}
 use Rattle.lexer.proofs.Lines.{lex-finish, lex-taken}
 
 -- all bytes of w are of class k
@@ -43,8 +45,15 @@ run-on k (b ∷ w) r h =
     let rest : run k (w ++ r) ≡ length w + run k r = run-on k w r (c .1) in
     rw (eq-eqb (classOf b) k (c .0)) (omega arith)
 
-pub all-append : (k : ℕ) (w v : List ℕ) → All k w → All k v → All k (w ++ v)
+all-append : (k : ℕ) (w v : List ℕ) → All k w → All k v → All k (w ++ v)
 all-append k w v h g = record { full = omega (arith, run-on k w v h, length-append w v, g .full) }
+
+-- digits as they are written are digits
+digits-all : (k n : ℕ) → All Digit (digitsOf k n)
+digits-all zero n = record { full = refl }
+digits-all (suc k) n =
+    all-append Digit (digitsOf k (n / 10)) (digitOf n ∷ []) (digits-all k (n / 10))
+    (record { full = rw (digit-class (digitOf n) (digit-is n)) })
 
 -- a rest of a phrase, which begins at a place
 module _ (s : List ℕ) (at : ℕ) where
@@ -168,12 +177,20 @@ module _ (ws : List Word) (room : ℕ) where
         taken-lexes (length (b ∷ w)) l (b ∷ w ++ r) (λ s at e. (word-token s at ws b w r l e h z m, dropped s at (b ∷ w) r e)) rest
 
     -- digits in front of what is no digit are the literal of their count and value
-    pub number-lexes : (w : List ℕ) (v : ℕ) → 0 < length w → All Digit w → run Digit r ≡ 0 → valueFrom 0 w ≡ v → v ≤ 4294967295
+    number-lexes : (w : List ℕ) (v : ℕ) → 0 < length w → All Digit w → run Digit r ≡ 0 → valueFrom 0 w ≡ v → v ≤ 4294967295
         → Lexes ws room r items → Lexes ws (suc room) (w ++ r) (λ at. item (NUM * saidDigits (length w) + v) at ∷ items (at + length w))
     number-lexes [] v p h z e m rest = absurd (not-suc-le-zero p)
     number-lexes (b ∷ w) v p h z q m rest =
         taken-lexes (length (b ∷ w)) (NUM * saidDigits (length (b ∷ w)) + v) (b ∷ w ++ r)
         (λ s at e. (rw (← q) (number-token s at ws b w r e h z (rw q m)), dropped s at (b ∷ w) r e)) rest
+
+    -- k digits of a number that has no more, in front of what is no digit
+    pub digits-lexes : (k n : ℕ) → 0 < k → k ≤ 256 → n < 10 ^ k → n ≤ 4294967295 → run Digit r ≡ 0
+        → Lexes ws room r items → Lexes ws (suc room) (digitsOf k n ++ r) (λ at. item (NUM * k + n) at ∷ items (at + k))
+    digits-lexes k n some few fits most z rest =
+        let size = digits-length k n in
+        let said : saidDigits k ≡ k = omega arith in
+        rw (size, said) at (number-lexes (digitsOf k n) n (omega arith) (digits-all k n) z (digits-say k n fits) most rest)
 
 -- a phrase that is lexed whole from its beginning
 pub lexed-whole : (ws : List Word) (s : List ℕ) (items : ℕ → List Item) → length s ≤ 256 → Lexes ws 64 s items → lexed ws s ≡ given (items 0)
