@@ -191,17 +191,37 @@ expr-leads (weekdayRelative w s u) t v = tested (isWeek u) _ _ (λ _. week-leads
 expr-leads (weekday w) t v = on-day-leads t v _
 expr-leads empty t v = leads v
 
-stated-time-leads : (b : Bool) (h m : ℕ) (t : Moment) → IsMoment t → Leads IsMoment (statedTime b h m t)
+-- a moment of the calendar with a second and a millisecond
+pub record AtSecond (s ms : ℕ) (t : Moment) : Type 0 where
+  pub valid : IsMoment t
+  pub second : t .second ≡ s
+  pub millisecond : t .millisecond ≡ ms
+
+stated-time-leads : (b : Bool) (h m : ℕ) (t : Moment) → IsMoment t → Leads (AtSecond 0 0) (statedTime b h m t)
 stated-time-leads b h m t v =
-    tested (b && isTime h m 0) _ _
-    (λ e. leads (record { date = v .date; time = test-time h m 0 (and-eq-true-iff b _ .0 e .1) })) (refuses refl)
+    tested (b && isTime h m 0 0) _ _
+    (λ e.
+    let time = test-time h m 0 0 (and-eq-true-iff b _ .0 e .1) in
+    leads (record { valid = record { date = v .date; time = time }; second = refl; millisecond = refl }))
+    (refuses refl)
+
+at-moment : {s ms : ℕ} {o : Outcome} → Leads (AtSecond s ms) o → Leads IsMoment o
+at-moment (leads h) = leads (h .valid)
+at-moment (refuses e) = refuses e
+
+-- where a stated time of day leads
+clock-leads : (x : Time) (n t : Moment) → (x ≡ NoTime → ⊥) → IsMoment t → Leads (AtSecond 0 0) (timeAt x n t)
+clock-leads NoTime n t stated v = absurd (stated refl)
+clock-leads (HourMin h m) n t stated v = stated-time-leads true h m t v
+clock-leads (HourMinAM h m) n t stated v = stated-time-leads (inRange h 1 12) (h % 12) m t v
+clock-leads (HourMinPM h m) n t stated v = stated-time-leads (inRange h 1 12) (h % 12 + 12) m t v
 
 -- where a time of day leads
 pub time-leads : (x : Time) (n t : Moment) → IsMoment n → IsMoment t → Leads IsMoment (timeAt x n t)
 time-leads NoTime n t w v = leads (record { date = v .date; time = w .time })
-time-leads (HourMin h m) n t w v = stated-time-leads true h m t v
-time-leads (HourMinAM h m) n t w v = stated-time-leads (inRange h 1 12) (h % 12) m t v
-time-leads (HourMinPM h m) n t w v = stated-time-leads (inRange h 1 12) (h % 12 + 12) m t v
+time-leads (HourMin h m) n t w v = at-moment (stated-time-leads true h m t v)
+time-leads (HourMinAM h m) n t w v = at-moment (stated-time-leads (inRange h 1 12) (h % 12) m t v)
+time-leads (HourMinPM h m) n t w v = at-moment (stated-time-leads (inRange h 1 12) (h % 12 + 12) m t v)
 
 -- the time that a reading states
 abbrev pub timeOf : DateTime → Time
@@ -219,43 +239,46 @@ hasSubDaily (durationAfter d x) = isSubDaily d || hasSubDaily x
 hasSubDaily (durationBefore d x) = isSubDaily d || hasSubDaily x
 hasSubDaily now = false
 
-module _ {M : Moment → Type 0} {sub : Bool} (kept : Kept M sub) (n : Moment) (own : M n) where
-  -- a reading leads to what its time of day gives and its durations keep
+module _ {M : Moment → Type 0} {sub : Bool} (kept : Kept M sub) (n : Moment) (v : IsMoment n) where
+  -- a reading leads to what now and its time of day give and its durations keep
   tree-leads :
-      (x : DateTime) → ((u : Moment) → IsMoment u → Leads M (timeAt (timeOf x) n u)) → (hasSubDaily x ≡ true → sub ≡ true) →
-      Leads M (evaluate x n)
+      (x : DateTime) → (timeOf x ≡ NoTime → M n) → ((u : Moment) → IsMoment u → Leads M (timeAt (timeOf x) n u)) →
+      (hasSubDaily x ≡ true → sub ≡ true) → Leads M (evaluate x n)
   unfolding evaluate
-  tree-leads (dateTime e t) timed s = behind (timeAt t n) (expr-leads e n (kept .valid n own)) timed
-  tree-leads (timeDate t e) timed s = behind (timeAt t n) (expr-leads e n (kept .valid n own)) timed
-  tree-leads (durationAfter d x) timed s =
-      behind (durationStep false d) (tree-leads x timed (λ e. s (or-right (isSubDaily d) e)))
+  tree-leads (dateTime e t) own timed s = behind (timeAt t n) (expr-leads e n v) timed
+  tree-leads (timeDate t e) own timed s = behind (timeAt t n) (expr-leads e n v) timed
+  tree-leads (durationAfter d x) own timed s =
+      behind (durationStep false d) (tree-leads x own timed (λ e. s (or-right (isSubDaily d) e)))
       (λ u h. duration-leads kept false d u (λ e. s (rw e)) h)
-  tree-leads (durationBefore d x) timed s =
-      behind (durationStep true d) (tree-leads x timed (λ e. s (or-right (isSubDaily d) e)))
+  tree-leads (durationBefore d x) own timed s =
+      behind (durationStep true d) (tree-leads x own timed (λ e. s (or-right (isSubDaily d) e)))
       (λ u h. duration-leads kept true d u (λ e. s (rw e)) h)
-  tree-leads now timed s = leads own
+  tree-leads now own timed s = leads (own refl)
 
 -- a moment of the calendar, or a refusal
 pub valid-leads : (x : DateTime) (n : Moment) → IsMoment n → Leads IsMoment (evaluate x n)
-valid-leads x n v = tree-leads kept-moment n v x (λ u h. time-leads (timeOf x) n u v h) (λ e. refl)
+valid-leads x n v = tree-leads kept-moment n v x (λ e. v) (λ u h. time-leads (timeOf x) n u v h) (λ e. refl)
 
--- a moment of the calendar with the second of n
-pub record SameSecond (n t : Moment) : Type 0 where
-  pub valid : IsMoment t
-  pub second : t .second ≡ n .second
-
-kept-second : (n : Moment) → Kept (SameSecond n) true
-kept-second n = record {
+-- second and millisecond are kept
+kept-second : (s ms : ℕ) → Kept (AtSecond s ms) true
+kept-second s ms = record {
   valid = λ t h. h .valid;
-  dated = λ t y m d h w. record { valid = record { date = w; time = h .valid .time }; second = h .second };
-  minute = λ t k h below s. record { valid = at-minute-moment k t below (h .valid); second = h .second };
+  dated =
+      λ t y m d h w. record { valid = record { date = w; time = h .valid .time }; second = h .second; millisecond = h .millisecond };
+  minute =
+      λ t k h below s. record { valid = at-minute-moment k t below (h .valid); second = h .second; millisecond = h .millisecond };
 }
 
--- without a stated time
-pub second-leads : (x : DateTime) (n : Moment) → IsMoment n → timeOf x ≡ NoTime → Leads (SameSecond n) (evaluate x n)
+-- without a stated time: now's
+pub second-leads : (x : DateTime) (n : Moment) → IsMoment n → timeOf x ≡ NoTime → Leads (AtSecond (n .second) (n .millisecond)) (evaluate x n)
 second-leads x n v e =
-    tree-leads (kept-second n) n (record { valid = v; second = refl }) x
-    (λ u h. rw e (leads (record { valid = record { date = h .date; time = v .time }; second = refl }))) (λ e. refl)
+    tree-leads (kept-second _ _) n v x (λ e. record { valid = v; second = refl; millisecond = refl })
+    (λ u h. rw e (leads (record { valid = record { date = h .date; time = v .time }; second = refl; millisecond = refl }))) (λ e. refl)
+
+-- with one: 0
+pub clocked-leads : (x : DateTime) (n : Moment) → IsMoment n → (timeOf x ≡ NoTime → ⊥) → Leads (AtSecond 0 0) (evaluate x n)
+clocked-leads x n v stated =
+    tree-leads (kept-second 0 0) n v x (λ e. absurd (stated e)) (λ u h. clock-leads (timeOf x) n u stated h) (λ e. refl)
 
 -- a moment of the calendar with the time of day of n
 pub record SameTime (n t : Moment) : Type 0 where
@@ -263,6 +286,7 @@ pub record SameTime (n t : Moment) : Type 0 where
   pub hour : t .hour ≡ n .hour
   pub minute : t .minute ≡ n .minute
   pub second : t .second ≡ n .second
+  pub millisecond : t .millisecond ≡ n .millisecond
 
 -- the minutes of a day are its hour and minute
 of-day : (a h m k : ℕ) → h < 24 → m < 60 → k % 1440 ≡ (1440 * a + 60 * h + m) % 1440 → (k % 1440 / 60 ≡ h) × (k % 60 ≡ m)
@@ -272,7 +296,13 @@ kept-time : (n : Moment) → Kept (SameTime n) false
 kept-time n = record {
   valid = λ t h. h .valid;
   dated =
-      λ t y m d h w. record { valid = record { date = w; time = h .valid .time }; hour = h .hour; minute = h .minute; second = h .second };
+      λ t y m d h w. record {
+        valid = record { date = w; time = h .valid .time };
+        hour = h .hour;
+        minute = h .minute;
+        second = h .second;
+        millisecond = h .millisecond;
+      };
   minute =
       λ t k h below s.
       let time = h .valid .time in
@@ -282,6 +312,7 @@ kept-time n = record {
         hour = day .0 ∙ h .hour;
         minute = day .1 ∙ h .minute;
         second = h .second;
+        millisecond = h .millisecond;
       };
 }
 
@@ -289,6 +320,7 @@ kept-time n = record {
 pub time-of-day-leads :
     (x : DateTime) (n : Moment) → IsMoment n → timeOf x ≡ NoTime → hasSubDaily x ≡ false → Leads (SameTime n) (evaluate x n)
 time-of-day-leads x n v e f =
-    tree-leads (kept-time n) n (record { valid = v; hour = refl; minute = refl; second = refl }) x
-    (λ u h. rw e (leads (record { valid = record { date = h .date; time = v .time }; hour = refl; minute = refl; second = refl })))
-    (λ g. sym f ∙ g)
+    tree-leads (kept-time n) n v x (λ _. same v) (λ u h. rw e (leads (same (record { date = h .date; time = v .time })))) (λ g. sym f ∙ g)
+  where
+    same : {y m d : ℕ} → IsMoment (withDate y m d n) → SameTime n (withDate y m d n)
+    same w = record { valid = w; hour = refl; minute = refl; second = refl; millisecond = refl }

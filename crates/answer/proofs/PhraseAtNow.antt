@@ -19,8 +19,8 @@ use Rattle.phrase.specs.Read.{TreeRead, ReadPhrase, readOf}
 use Rattle.phrase.proofs.Phrases.{ReadWhole, read-holds}
 use Rattle.evaluation.specs.Evaluate.{evaluate}
 use Rattle.answer.specs.Answer.{placed, readingAt, answerOf}
-use Rattle.answer.proofs.Leads.{Leads, leads, refuses, timeOf, hasSubDaily, SameTime}
-use Rattle.answer.proofs.Leads.{valid-leads, second-leads, time-of-day-leads}
+use Rattle.answer.proofs.Leads.{Leads, leads, refuses, timeOf, hasSubDaily, AtSecond, SameTime}
+use Rattle.answer.proofs.Leads.{valid-leads, second-leads, clocked-leads, time-of-day-leads}
 
 module _ (reading : Reading) (s : List ℕ) {x : TreeRead} (read : readOf reading (wordsIn reading) s ≡ given x) where
   -- a phrase that is read is answered by its reading
@@ -109,15 +109,24 @@ eight-only reading s n {r} answer eight = go (readOf reading (wordsIn reading) s
         let same : q .number ≡ r .number = cc in
         absurd (omega arith)
 
-module _ (reading : Reading) (s : List ℕ) {x : TreeRead} (read : readOf reading (wordsIn reading) s ≡ given x) (untimed : timeOf (x .tree) ≡ NoTime) where
+module _ (reading : Reading) (s : List ℕ) {x : TreeRead} (read : readOf reading (wordsIn reading) s ≡ given x) where
   answered :
-      {M : Moment → Type 0} (n : Moment) {t : Moment} → (IsMoment n → Leads M (evaluate (x .tree) n)) → answerOf reading (wordsIn reading) s n ≡ given t → M t
+      {M : Moment → Type 0} (n : Moment) {t : Moment} → (IsMoment n → Leads M (evaluate (x .tree) n)) →
+      answerOf reading (wordsIn reading) s n ≡ given t → M t
   answered n leading answer = given-holds (reading-holds {m = 0} x n leading) (sym (by-reading reading s read n) ∙ answer)
 
-  -- without a stated time the answer keeps now's second
-  pub keeps-second : (n : Moment) {t : Moment} → answerOf reading (wordsIn reading) s n ≡ given t → t .second ≡ n .second
-  keeps-second n answer = answered n (λ v. second-leads (x .tree) n v untimed) answer .second
+  -- "a stated time sets them to 0", second and millisecond
+  pub stated-second :
+      (timeOf (x .tree) ≡ NoTime → ⊥) → (n : Moment) {t : Moment} → answerOf reading (wordsIn reading) s n ≡ given t → AtSecond 0 0 t
+  stated-second stated n answer = answered n (λ v. clocked-leads (x .tree) n v stated) answer
 
-  -- and without hours or minutes in the durations around its date the whole time of day
-  pub keeps-time : hasSubDaily (x .tree) ≡ false → (n : Moment) {t : Moment} → answerOf reading (wordsIn reading) s n ≡ given t → SameTime n t
-  keeps-time none n answer = answered n (λ v. time-of-day-leads (x .tree) n v untimed none) answer
+  module _ (untimed : timeOf (x .tree) ≡ NoTime) where
+    -- without one "Now keeps them through every step"
+    pub keeps-second :
+        (n : Moment) {t : Moment} → answerOf reading (wordsIn reading) s n ≡ given t → AtSecond (n .second) (n .millisecond) t
+    keeps-second n answer = answered n (λ v. second-leads (x .tree) n v untimed) answer
+
+    -- and without hours or minutes in the durations around its date the whole time of day
+    pub keeps-time :
+        hasSubDaily (x .tree) ≡ false → (n : Moment) {t : Moment} → answerOf reading (wordsIn reading) s n ≡ given t → SameTime n t
+    keeps-time none n answer = answered n (λ v. time-of-day-leads (x .tree) n v untimed none) answer

@@ -26,7 +26,7 @@ use Rattle.phrase.specs.DateTimes.{dateTimeStep, dateTimeOf}
 use Rattle.phrase.specs.Read.{readOf}
 use Rattle.calendar.specs.Gregorian.{leapYear, monthLength, daysBeforeMonth, daysOfYears, dayNumber}
 use Rattle.calendar.specs.Gregorian.{yearsBefore, yearOf, dayOfYear, monthOf, monthOfDay, dayOf}
-use Rattle.calendar.specs.Moments.{isDate, isTime, isMoment, withDate, withTime}
+use Rattle.calendar.specs.Moments.{isDate, isTime, isMoment, momentOf, withDate}
 use Rattle.calendar.specs.Moments.{onDay, minutesStep, monthsStep, yearsStep}
 use Rattle.calendar.specs.declared.moments.Moment.{Moment}
 use Rattle.evaluation.specs.Weekdays.{daysBack}
@@ -50,7 +50,7 @@ day y m d = given (withDate y m d A)
 
 -- a date at A with a stated time
 abbrev clock : ℕ → ℕ → ℕ → ℕ → Answer Moment
-clock y m d h = given (withTime h 0 0 (withDate y m d A))
+clock y m d h = given (momentOf y m d h 0 0 0)
 
 -- the table; a refusal has its number, its place and the end of its part
 unfoldable pub starred : List Starred

@@ -27,8 +27,8 @@ pub mark : (s : List ℕ) (i k : ℕ) → k < 65 → eqb (capitalOf (getD s i 0)
 mark s i k l e = capital-other (getD s i 0) k l (eqb-true _ _ e)
 
 -- whatever follows
-pub moment-again : (m : ℕ) (s rest : List ℕ) → ofForm (momentForm m) s ≡ true → momentText (getD s 10 0) (momentIn (s ++ rest)) ≡ s
-moment-again m s rest h =
+pub moment-again : (m ms : ℕ) (s rest : List ℕ) → ofForm (momentForm m) s ≡ true → momentText (getD s 10 0) (momentIn ms (s ++ rest)) ≡ s
+moment-again m ms s rest h =
     let fits = form-at (momentForm m) s h in
     let century = pair s 0 (fits 0 (omega arith)) (fits 1 (omega arith)) in
     let single = pair s 2 (fits 2 (omega arith)) (fits 3 (omega arith)) in
@@ -65,8 +65,8 @@ moment-again m s rest h =
     ))
 
 -- its year has four digits
-pub year-most : (m : ℕ) (s rest : List ℕ) → ofForm (momentForm m) s ≡ true → momentIn (s ++ rest) .year ≤ 9999
-year-most m s rest h =
+pub year-most : (m ms : ℕ) (s rest : List ℕ) → ofForm (momentForm m) s ≡ true → momentIn ms (s ++ rest) .year ≤ 9999
+year-most m ms s rest h =
     let fits = form-at (momentForm m) s h in
     let century = pair s 0 (fits 0 (omega arith)) (fits 1 (omega arith)) in
     let single = pair s 2 (fits 2 (omega arith)) (fits 3 (omega arith)) in

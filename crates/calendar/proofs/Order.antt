@@ -20,8 +20,9 @@ use Rattle.calendar.proofs.Places.{minute-below, minute-at, at-own-minu
 pub one-instant : (t u : Moment) → IsMoment t → IsMoment u → instantOf t ≡ instantOf u → t ≡ u
 one-instant t u v w e =
     let minute : minuteNumber t ≡ minuteNumber u = omega (arith, v .time, w .time) in
-    let second : t .second ≡ u .second = omega arith in
-    sym (at-own-minute t v) ∙ rw (minute, second) (at-own-minute u w)
+    let second : t .second ≡ u .second = omega (arith, v .time, w .time) in
+    let millisecond : t .millisecond ≡ u .millisecond = omega arith in
+    sym (at-own-minute t v) ∙ rw (minute, second, millisecond) (at-own-minute u w)
 
 -- where a step may lead: back to no later moment, on to no earlier one
 abbrev pub Ordered : Bool → Moment → Moment → Type 0

@@ -17,7 +17,7 @@ pub date-valid : {t : Moment} {y m d : ℕ} → IsMoment t → IsDate y m d → 
 date-valid v w = moment-valid (record { date = w; time = v .time })
 
 -- a time of day on a moment's date
-pub time-valid : {t : Moment} {h m s : ℕ} → IsMoment t → IsTime h m s → Valid (moment (withTime h m s t))
+pub time-valid : {t : Moment} {h m s ms : ℕ} → IsMoment t → IsTime h m s ms → Valid (moment (withTime h m s ms t))
 time-valid v w = moment-valid (record { date = v .date; time = w })
 
 -- a refusal

@@ -25,7 +25,7 @@ minute-below t v = omega (arith, in-days (v .date))
 pub at-minute-moment : (n : ℕ) (t : Moment) → n < minutes → IsMoment t → IsMoment (atMinute n t)
 at-minute-moment n t h v = record {
   date = is-date (n / 1440) (omega arith);
-  time = record { hour = omega arith; minute = omega arith; second = v .time .second };
+  time = record { hour = omega arith; minute = omega arith; second = v .time .second; millisecond = v .time .millisecond };
 }
 
 -- of that minute

@@ -18,7 +18,7 @@ pub moment-fits : (m : ℕ) (t : Moment) → ofForm (momentForm m) (momentText m
 moment-fits m t = simp (digit-is, own-place m)
 
 -- and reads back, whatever follows
-pub moment-back : (m : ℕ) (t : Moment) (rest : List ℕ) → IsMoment t → momentIn (momentText m t ++ rest) ≡ t
+pub moment-back : (m : ℕ) (t : Moment) (rest : List ℕ) → IsMoment t → momentIn (t .millisecond) (momentText m t ++ rest) ≡ t
 moment-back m t rest h =
     let date = h .date in
     let time = h .time in

@@ -31,21 +31,28 @@ test-date y m d e =
     }
 
 -- what passes as a time of day is one
-pub test-time : (h m s : ℕ) → isTime h m s ≡ true → IsTime h m s
+pub test-time : (h m s ms : ℕ) → isTime h m s ms ≡ true → IsTime h m s ms
 unfolding isTime
-test-time h m s e =
+test-time h m s ms e =
     let a = and-eq-true-iff (ltb h 24) _ .0 e in
     let b = and-eq-true-iff (ltb m 60) _ .0 (a .1) in
-    record { hour = ltb-true _ _ (a .0); minute = ltb-true _ _ (b .0); second = ltb-true _ _ (b .1) }
+    let d = and-eq-true-iff (ltb s 60) _ .0 (b .1) in
+    record {
+      hour = ltb-true _ _ (a .0);
+      minute = ltb-true _ _ (b .0);
+      second = ltb-true _ _ (d .0);
+      millisecond = ltb-true _ _ (d .1);
+    }
 
 -- the day of a date passes, and so do a time of day and a moment
 pub day-passes : {y m d : ℕ} → IsDate y m d → isDayOfMonth y m d ≡ true
 day-passes h =
     rw (le-leb _ _ (h .month-low), le-leb _ _ (h .month-high), le-leb _ _ (h .day-low), le-leb _ _ (h .day-high))
 
-pub time-passes : {h m s : ℕ} → IsTime h m s → isTime h m s ≡ true
+pub time-passes : {h m s ms : ℕ} → IsTime h m s ms → isTime h m s ms ≡ true
 unfolding isTime
-time-passes t = rw (lt-ltb _ _ (t .hour), lt-ltb _ _ (t .minute), lt-ltb _ _ (t .second))
+time-passes t =
+    rw (lt-ltb _ _ (t .hour), lt-ltb _ _ (t .minute), lt-ltb _ _ (t .second), lt-ltb _ _ (t .millisecond))
 
 pub moment-passes : {t : Moment} → IsMoment t → isMoment t ≡ true
 unfolding isMoment isDate
@@ -57,7 +64,7 @@ pub test-moment : (t : Moment) → isMoment t ≡ true → IsMoment t
 unfolding isMoment
 test-moment t e =
     let a = and-eq-true-iff (isDate (t .year) (t .month) (t .day)) _ .0 e in
-    record { date = test-date _ _ _ (a .0); time = test-time _ _ _ (a .1) }
+    record { date = test-date _ _ _ (a .0); time = test-time _ _ _ _ (a .1) }
 
 -- the first moment is one
 pub first-moment : IsMoment firstMoment

@@ -22,9 +22,9 @@ timeText m t = marked m (t .hour) ++ marked (code ":") (t .minute) ++ marked (co
 abbrev pub momentText : ℕ → Moment → List ℕ
 momentText m t = dateText t ++ timeText m t
 
--- the six numbers at their places in the form
-abbrev pub momentIn : List ℕ → Moment
-momentIn s =
+-- the six numbers at their places in the form, and so many milliseconds, for which the form has no place
+abbrev pub momentIn : ℕ → List ℕ → Moment
+momentIn ms s =
     record {
       year = 100 * twoAt s 0 + twoAt s 2;
       month = twoAt s 5;
@@ -32,4 +32,5 @@ momentIn s =
       hour = twoAt s 11;
       minute = twoAt s 14;
       second = twoAt s 17;
+      millisecond = ms;
     }

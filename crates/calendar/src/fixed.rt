@@ -48,18 +48,18 @@ fn dated(s: &[u8], t: Moment) -> Moment
     t.with_date(100 * two(s, 0) + two(s, 2), two(s, 5), two(s, 8))
 }
 
-// The same date at the time of day behind a date and its mark.
-fn timed(s: &[u8], t: Moment) -> Moment
+// The same date at the time of day behind a date and its mark, with so many milliseconds.
+fn timed(s: &[u8], ms: u32, t: Moment) -> Moment
     requires { ⌜ 19 ≤ length (now s) ⌝ }
-    ensures { λ r. let s = now (s .entry) in ⌜ r ≡ withTime (twoAt s 11) (twoAt s 14) (twoAt s 17) t ⌝ }
+    ensures { λ r. let s = now (s .entry) in ⌜ r ≡ withTime (twoAt s 11) (twoAt s 14) (twoAt s 17) ms t ⌝ }
 {
-    t.with_time(two(s, 11), two(s, 14), two(s, 17))
+    t.with_time(two(s, 11), two(s, 14), two(s, 17), ms)
 }
 
-// The moment at the front: its six numbers, whatever stands between them.
-pub fn moment_in(s: &[u8]) -> Moment
+// The moment at the front: its six numbers, whatever stands between them, and so many milliseconds.
+pub fn moment_in(s: &[u8], ms: u32) -> Moment
     requires { ⌜ 19 ≤ length (now s) ⌝ }
-    ensures { λ r. ⌜ r ≡ momentIn (now (s .entry)) ⌝ }
+    ensures { λ r. ⌜ r ≡ momentIn ms (now (s .entry)) ⌝ }
 {
-    timed(s, dated(s, Moment::first()))
+    timed(s, ms, dated(s, Moment::first()))
 }

@@ -25,6 +25,7 @@ pub struct Moment {
     pub hour: u32,
     pub minute: u32,
     pub second: u32,
+    pub millisecond: u32,
 }
 
 // Where a step or a whole reading leads: to a moment, or to a refusal's number.
@@ -71,8 +72,8 @@ pub fn valid_date(y: u32, m: u32, d: u32) -> bool
 }
 
 // True where the numbers are a time of day.
-pub fn valid_time(h: u32, m: u32, s: u32) -> bool
-    ensures { λ r. ⌜ r ≡ isTime h m s ⌝ }
+pub fn valid_time(h: u32, m: u32, s: u32, ms: u32) -> bool
+    ensures { λ r. ⌜ r ≡ isTime h m s ms ⌝ }
 {
     if h >= 24 {
         return false;
@@ -80,7 +81,10 @@ pub fn valid_time(h: u32, m: u32, s: u32) -> bool
     if m >= 60 {
         return false;
     }
-    s < 60
+    if s >= 60 {
+        return false;
+    }
+    ms < 1000
 }
 
 // Place n of those below a limit, moved by k back or on; the limit itself where that leaves them. The room left is compared, since a
@@ -110,6 +114,7 @@ impl Moment {
         hour: 0,
         minute: 0,
         second: 0,
+        millisecond: 0,
     };
 
     pub const LAST: Moment = Moment {
@@ -119,6 +124,7 @@ impl Moment {
         hour: 23,
         minute: 59,
         second: 59,
+        millisecond: 999,
     };
 
     // The days of 400 years.
@@ -152,7 +158,7 @@ impl Moment {
         ensures { λ r. ⌜ r ≡ isMoment self ⌝ }
     {
         if valid_date(self.year, self.month, self.day) {
-            return valid_time(self.hour, self.minute, self.second);
+            return valid_time(self.hour, self.minute, self.second, self.millisecond);
         }
         false
     }
@@ -168,20 +174,21 @@ impl Moment {
     }
 
     // Another time of day on the same date.
-    pub fn with_time(mut self, h: u32, m: u32, s: u32) -> Moment
-        ensures { λ r. ⌜ r ≡ withTime h m s self ⌝ }
+    pub fn with_time(mut self, h: u32, m: u32, s: u32, ms: u32) -> Moment
+        ensures { λ r. ⌜ r ≡ withTime h m s ms self ⌝ }
     {
         self.hour = h;
         self.minute = m;
         self.second = s;
+        self.millisecond = ms;
         self
     }
 
-    // Another hour and minute of the same date, with the second kept.
+    // Another hour and minute of the same date, with second and millisecond kept.
     fn with_minute(self, h: u32, m: u32) -> Moment
         ensures { λ r. ⌜ r ≡ withMinute h m self ⌝ }
     {
-        self.with_time(h, m, self.second)
+        self.with_time(h, m, self.second, self.millisecond)
     }
 
     // The day number of this date.
@@ -224,7 +231,7 @@ impl Moment {
         1440 * (self.day_number() as u64) + 60 * (self.hour as u64) + (self.minute as u64)
     }
 
-    // Minute n of the calendar, with the second kept.
+    // Minute n of the calendar, with second and millisecond kept.
     fn at_minute(self, n: u64) -> Moment
         requires { ⌜ n < minutes ⌝ }
         ensures { λ r. ⌜ r ≡ atMinute n self ⌝ }

@@ -5,12 +5,12 @@ use mathlib.Core.List.{List, [], _∷_, map}
 use Prim.Native.Nat.{ℕ}
 use Rattle.calendar.specs.Gregorian.{leapYear, monthLength, daysBeforeMonth, daysOfYears, dayNumber}
 use Rattle.calendar.specs.Gregorian.{yearsBefore, yearOf, dayOfYear, monthOf, monthOfDay, dayOf}
-use Rattle.calendar.specs.Moments.{Outcome, moment, refused, andThen, isDate, isTime, firstMoment, lastMoment, withDate, withTime}
+use Rattle.calendar.specs.Moments.{Outcome, moment, refused, andThen, isDate, isTime, momentOf, firstMoment, lastMoment, withDate, withTime}
 use Rattle.calendar.specs.Moments.{onDay, minutesStep, monthsStep, yearsStep}
 use Rattle.calendar.specs.declared.moments.Moment.{Moment}
 use Rattle.dates.specs.Durations.{part, concat}
 use Rattle.dates.specs.declared.duration.Part.the-variants.{Article, Specific}
-use Rattle.dates.specs.declared.units.Unit.the-variants.{Day, Week, Month, Year}
+use Rattle.dates.specs.declared.units.Unit.the-variants.{Hour, Day, Week, Month, Year}
 use Rattle.dates.specs.declared.units.RelativeSpecifier.the-variants.{This, Next, Last}
 use Rattle.dates.specs.declared.date.Date.the-variants.{YearMonthNumDay, MonthNumDay, Today, Tomorrow, Yesterday}
 use Rattle.dates.specs.declared.time.Time.{Time}
@@ -32,11 +32,11 @@ row f t o = record { rule = f; from = t; answer = o }
 
 -- "A is 2026-02-11 09:30:15 (Wednesday)"
 abbrev pub A : Moment
-A = withDate 2026 2 11 (withTime 9 30 15 firstMoment)
+A = momentOf 2026 2 11 9 30 15 0
 
 -- "B is 2024-02-29 12:00:00."
 abbrev pub B : Moment
-B = withDate 2024 2 29 (withTime 12 0 0 firstMoment)
+B = momentOf 2024 2 29 12 0 0 0
 
 -- an answer at the time of day of A
 abbrev day : ℕ → ℕ → ℕ → Outcome
@@ -44,7 +44,7 @@ day y m d = moment (withDate y m d A)
 
 -- an answer on the date of A
 abbrev clock : ℕ → ℕ → Outcome
-clock h m = moment (withTime h m 0 A)
+clock h m = moment (withTime h m 0 0 A)
 
 -- a time of day at A
 abbrev time : Time → Outcome → Case
@@ -101,6 +101,12 @@ cases =
     ∷ time (HourMinPM 12 30) (clock 12 30)
     ∷ time (HourMinPM 11 30) (clock 23 30)
     ∷ time (HourMinPM 13 30) (refused 11)
+    -- milliseconds: "Now keeps them through every step; a stated time sets them to 0"
+    ∷ row (unitStep true 1 Hour) lastMoment (moment (withTime 22 59 59 999 lastMoment))
+    ∷ row (unitStep true 1 Month) lastMoment (moment (withDate 9999 11 30 lastMoment))
+    ∷ row (unitStep true 1 Year) lastMoment (moment (withDate 9998 12 31 lastMoment))
+    ∷ row (λ t. timeAt Empty t t) lastMoment (moment lastMoment)
+    ∷ row (λ t. timeAt (HourMin 12 0) t t) lastMoment (moment (withTime 12 0 0 0 lastMoment))
     -- durations: a year is not twelve months, and parts act first to last
     ∷ row (durationStep false (part (Article Year))) B (refused 13)
     ∷ row (durationStep false (part (Specific Month 12))) B (moment (withDate 2025 2 28 B))

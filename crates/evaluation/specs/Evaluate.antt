@@ -5,7 +5,7 @@ use mathlib.Core.Bool.{Bool, true, false, cond, _&&_}
 use mathlib.Core.List.{List, [], _∷_, map}
 use Rattle.calendar.specs.Gregorian.{leapYear, monthLength, daysBeforeMonth, daysOfYears, dayNumber}
 use Rattle.calendar.specs.Gregorian.{yearsBefore, yearOf, dayOfYear, monthOf, monthOfDay, dayOf}
-use Rattle.calendar.specs.Moments.{Outcome, moment, refused, andThen, isDate, isTime, lastMoment, withDate, withTime}
+use Rattle.calendar.specs.Moments.{Outcome, moment, refused, andThen, isDate, isTime, momentOf, lastMoment, withDate}
 use Rattle.calendar.specs.Moments.{onDay, minutesStep, monthsStep, yearsStep}
 use Rattle.calendar.specs.declared.moments.Moment.{Moment}
 use Rattle.dates.specs.Durations.{part, isSubDailyUnit}
@@ -120,7 +120,7 @@ trees =
     ∷ row (evaluate (timeDate (HourMin 25 0) (date (MonthDay 1 31)))) A (refused 11)
     -- then outer durations: 11 where the way would leave the calendar too, and an hour from a stated time
     ∷ row (evaluate (durationAfter (part (Specific Day 4294967295)) (dateTime (date Today) (HourMin 25 0)))) A (refused 11)
-    ∷ row (evaluate (durationAfter (part (Article Hour)) (timeDate (HourMin 23 30) empty))) B (moment (withTime 0 30 0 (withDate 2024 3 1 B)))
+    ∷ row (evaluate (durationAfter (part (Article Hour)) (timeDate (HourMin 23 30) empty))) B (moment (momentOf 2024 3 1 0 30 0 0))
     -- innermost first: the day and then the month
     ∷ row (evaluate (durationBefore (part (Article Month)) (durationAfter (part (Article Day)) now))) B (moment (withDate 2024 2 1 B))
     ∷ row (evaluate (durationAfter (part (Article Month)) (durationAfter (part (Article Day)) now))) B (moment (withDate 2024 4 1 B))

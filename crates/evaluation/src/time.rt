@@ -8,15 +8,15 @@ ghost use mathlib.Core.Path.{_≡_};
 ghost use Rattle.calendar.specs.Moments.{IsMoment, inRange, reachedOf, Valid};
 ghost use Rattle.evaluation.specs.Times.{statedTime, timeAt};
 
-// A stated time has second 0.
+// A stated time has second and millisecond 0.
 fn stated_time(valid: bool, h: u32, m: u32, t: Moment) -> Reached
     requires { ⌜ IsMoment t ⌝ }
     ensures { λ r. ⌜ reachedOf r ≡ statedTime valid h m t ⌝ }
     ensures { λ r. ⌜ Valid (reachedOf r) ⌝ }
 {
     if valid {
-        if valid_time(h, m, 0) {
-            return Reached::At(t.with_time(h, m, 0));
+        if valid_time(h, m, 0, 0) {
+            return Reached::At(t.with_time(h, m, 0, 0));
         }
         return Reached::Refused(NO_TIME);
     }
@@ -37,7 +37,9 @@ pub fn time_at(time: Time, now: Moment, t: Moment) -> Reached
     ensures { λ r. ⌜ Valid (reachedOf r) ⌝ }
 {
     match time {
-        Time::Empty => Reached::At(t.with_time(now.hour, now.minute, now.second)),
+        Time::Empty => {
+            Reached::At(t.with_time(now.hour, now.minute, now.second, now.millisecond))
+        }
         Time::HourMin(h, m) => stated_time(true, h, m, t),
         Time::HourMinAM(h, m) => stated_time(is_half_day_hour(h), h % 12, m, t),
         Time::HourMinPM(h, m) => stated_time(is_half_day_hour(h), h % 12 + 12, m, t),

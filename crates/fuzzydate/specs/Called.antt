@@ -46,13 +46,13 @@ abbrev pub codeOf : {A : Type 0} → Answer A → ℕ
 codeOf (given x) = 0
 codeOf (refused r) = code r
 
--- the six numbers of a moment
-abbrev pub six : Moment → List ℕ
-six t = t .year ∷ t .month ∷ t .day ∷ t .hour ∷ t .minute ∷ t .second ∷ []
+-- the seven numbers of a moment
+abbrev pub seven : Moment → List ℕ
+seven t = t .year ∷ t .month ∷ t .day ∷ t .hour ∷ t .minute ∷ t .second ∷ t .millisecond ∷ []
 
 -- what they are written over; on a refusal it stays
 abbrev pub momentAfter : Answer Moment → List ℕ → List ℕ
-momentAfter (given t) lent = six t
+momentAfter (given t) lent = seven t
 momentAfter (refused r) lent = lent
 
 -- of a ready phrase: 0 for the number and the place, and its length in bytes from bit 32 on
@@ -65,18 +65,18 @@ abbrev pub readyAfter : ReadyPhrase → List ℕ → List ℕ
 readyAfter (given ss) lent = sets lent 0 (encodeOf ss)
 readyAfter (refused r) lent = lent
 
--- the eight numbers of a stamp
-abbrev pub eight : Stamp → List ℕ
-eight st = six (st .moment) ++ (st .offset .west ∷ st .offset .minutes ∷ [])
+-- the nine numbers of a stamp
+abbrev pub nine : Stamp → List ℕ
+nine st = seven (st .moment) ++ (st .offset .west ∷ st .offset .minutes ∷ [])
 
 -- what they are written over; on a refusal it stays
 abbrev pub stampAfter : Answer Stamp → List ℕ → List ℕ
-stampAfter (given st) lent = eight st
+stampAfter (given st) lent = nine st
 stampAfter (refused r) lent = lent
 
--- the stamp of eight numbers
-abbrev pub numbersStamp : ℕ → ℕ → ℕ → ℕ → ℕ → ℕ → ℕ → ℕ → Stamp
-numbersStamp y mo d h mi s west offset = record { moment = momentOf y mo d h mi s; offset = record { west = west; minutes = offset } }
+-- the stamp of nine numbers
+abbrev pub numbersStamp : ℕ → ℕ → ℕ → ℕ → ℕ → ℕ → ℕ → ℕ → ℕ → Stamp
+numbersStamp y mo d h mi s ms west offset = record { moment = momentOf y mo d h mi s ms; offset = record { west = west; minutes = offset } }
 
 -- of a text that is written: 0 for the number and the place, and its length in bytes from bit 32 on
 abbrev pub writtenCode : Answer (List ℕ) → ℕ

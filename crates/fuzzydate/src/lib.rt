@@ -58,7 +58,7 @@ fn code(refusal: Refusal) -> u64
     (refusal.number as u64) + PLACE * (refusal.place as u64) + LENGTH * (part as u64)
 }
 
-// A phrase at a now, in reading 1 or 2: 0 and the moment's six numbers, or a refusal and nothing written.
+// A phrase at a now, in reading 1 or 2: 0 and the moment's seven numbers, or a refusal and nothing written.
 #[no_mangle]
 pub extern "C" fn fuzzy_read(
     reading: u32,
@@ -69,10 +69,11 @@ pub extern "C" fn fuzzy_read(
     hour: u32,
     minute: u32,
     second: u32,
-    moment: &mut [u32; 6],
+    millisecond: u32,
+    moment: &mut [u32; 7],
 ) -> u64
-    ensures { λ r. ⌜ r ≡ codeOf (answerIn reading (now (phrase .entry)) (momentOf year month day hour minute second)) ⌝ }
-    ensures { λ r. ⌜ now (moment .exit) ≡ momentAfter (answerIn reading (now (phrase .entry)) (momentOf year month day hour minute second)) (now (moment .entry)) ⌝ }
+    ensures { λ r. ⌜ r ≡ codeOf (answerIn reading (now (phrase .entry)) (momentOf year month day hour minute second millisecond)) ⌝ }
+    ensures { λ r. ⌜ now (moment .exit) ≡ momentAfter (answerIn reading (now (phrase .entry)) (momentOf year month day hour minute second millisecond)) (now (moment .entry)) ⌝ }
 {
     let Chosen::As(chosen) = choose(reading) else {
         return NO_READING as u64;
@@ -84,10 +85,19 @@ pub extern "C" fn fuzzy_read(
         hour,
         minute,
         second,
+        millisecond,
     };
     match answer(chosen, phrase, now) {
         Answered::At(t) => {
-            *moment = [t.year, t.month, t.day, t.hour, t.minute, t.second];
+            *moment = [
+                t.year,
+                t.month,
+                t.day,
+                t.hour,
+                t.minute,
+                t.second,
+                t.millisecond,
+            ];
             0
         }
         Answered::Refused(refusal) => code(refusal),
@@ -114,7 +124,7 @@ pub extern "C" fn fuzzy_make_ready(reading: u32, phrase: &[u8], ready: &mut [u8;
     code(refusal)
 }
 
-// A ready phrase at a now: 0 and the moment's six numbers, or a refusal of 8 to 13 and nothing written.
+// A ready phrase at a now: 0 and the moment's seven numbers, or a refusal of 8 to 13 and nothing written.
 #[no_mangle]
 pub extern "C" fn fuzzy_run(
     ready: &[u8],
@@ -124,10 +134,11 @@ pub extern "C" fn fuzzy_run(
     hour: u32,
     minute: u32,
     second: u32,
-    moment: &mut [u32; 6],
+    millisecond: u32,
+    moment: &mut [u32; 7],
 ) -> u64
-    ensures { λ r. ⌜ r ≡ codeOf (placed (runOf (decodeOf (now (ready .entry))) (momentOf year month day hour minute second))) ⌝ }
-    ensures { λ r. ⌜ now (moment .exit) ≡ momentAfter (placed (runOf (decodeOf (now (ready .entry))) (momentOf year month day hour minute second))) (now (moment .entry)) ⌝ }
+    ensures { λ r. ⌜ r ≡ codeOf (placed (runOf (decodeOf (now (ready .entry))) (momentOf year month day hour minute second millisecond))) ⌝ }
+    ensures { λ r. ⌜ now (moment .exit) ≡ momentAfter (placed (runOf (decodeOf (now (ready .entry))) (momentOf year month day hour minute second millisecond))) (now (moment .entry)) ⌝ }
 {
     let now = Moment {
         year,
@@ -136,19 +147,28 @@ pub extern "C" fn fuzzy_run(
         hour,
         minute,
         second,
+        millisecond,
     };
     match run_ready(ready, now) {
         Reached::At(t) => {
-            *moment = [t.year, t.month, t.day, t.hour, t.minute, t.second];
+            *moment = [
+                t.year,
+                t.month,
+                t.day,
+                t.hour,
+                t.minute,
+                t.second,
+                t.millisecond,
+            ];
             0
         }
         Reached::Refused(number) => number as u64,
     }
 }
 
-// A text as an RFC 3339 stamp: 0 and the stamp's eight numbers, or 14 or 12 and nothing written.
+// A text as an RFC 3339 stamp: 0 and the stamp's nine numbers, or 14 or 12 and nothing written.
 #[no_mangle]
-pub extern "C" fn fuzzy_read_stamp(text: &[u8], stamp: &mut [u32; 8]) -> u64
+pub extern "C" fn fuzzy_read_stamp(text: &[u8], stamp: &mut [u32; 9]) -> u64
     ensures { λ r. ⌜ r ≡ codeOf (stampOf (now (text .entry))) ⌝ }
     ensures { λ r. ⌜ now (stamp .exit) ≡ stampAfter (stampOf (now (text .entry))) (now (stamp .entry)) ⌝ }
 {
@@ -163,6 +183,7 @@ pub extern "C" fn fuzzy_read_stamp(text: &[u8], stamp: &mut [u32; 8]) -> u64
                 t.hour,
                 t.minute,
                 t.second,
+                t.millisecond,
                 o.west,
                 o.minutes,
             ];
@@ -172,7 +193,7 @@ pub extern "C" fn fuzzy_read_stamp(text: &[u8], stamp: &mut [u32; 8]) -> u64
     }
 }
 
-// A stamp's eight numbers as text at the front of a lent one: its length in bytes, or 8, 14 or 17 and nothing written.
+// A stamp's nine numbers as text at the front of a lent one: its length in bytes, or 8, 14 or 17 and nothing written.
 #[no_mangle]
 pub extern "C" fn fuzzy_write_stamp(
     year: u32,
@@ -181,12 +202,13 @@ pub extern "C" fn fuzzy_write_stamp(
     hour: u32,
     minute: u32,
     second: u32,
+    millisecond: u32,
     west: u32,
     offset: u32,
     text: &mut [u8],
 ) -> u64
-    ensures { λ r. ⌜ r ≡ writtenCode (writtenOf (numbersStamp year month day hour minute second west offset) (length (now (text .entry)))) ⌝ }
-    ensures { λ _. ⌜ now (text .exit) ≡ bufferOf (now (text .entry)) (writtenOf (numbersStamp year month day hour minute second west offset) (length (now (text .entry)))) ⌝ }
+    ensures { λ r. ⌜ r ≡ writtenCode (writtenOf (numbersStamp year month day hour minute second millisecond west offset) (length (now (text .entry)))) ⌝ }
+    ensures { λ _. ⌜ now (text .exit) ≡ bufferOf (now (text .entry)) (writtenOf (numbersStamp year month day hour minute second millisecond west offset) (length (now (text .entry)))) ⌝ }
 {
     let moment = Moment {
         year,
@@ -195,6 +217,7 @@ pub extern "C" fn fuzzy_write_stamp(
         hour,
         minute,
         second,
+        millisecond,
     };
     let offset = Offset {
         west,

@@ -17,7 +17,7 @@ pub other-form : (s : List ℕ) → ofForm nowForm s ≡ false → isMoment (now
 unfolding nowOf isMoment isDate
 other-form s h = rw h
 
--- the text of a moment is a now's line, and says that moment
-pub moment-says : (t : Moment) → IsMoment t → nowOf (textOf (given t)) ≡ t
+-- the text of a moment is a now's line, and says that moment where it has no milliseconds
+pub moment-says : (t : Moment) → IsMoment t → t .millisecond ≡ 0 → nowOf (textOf (given t)) ≡ t
 unfolding nowOf textOf
-moment-says t m = rw (moment-fits (code " ") t) (moment-back (code " ") t [] m)
+moment-says t m none = rw (moment-fits (code " ") t, ← none) (moment-back (code " ") t [] m)

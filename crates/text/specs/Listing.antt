@@ -18,7 +18,7 @@ use Rattle.text.specs.Output.{answerLines, output}
 
 -- the listing's now, and its three phrases
 abbrev A : Moment
-A = momentOf 2026 2 11 9 30 15
+A = momentOf 2026 2 11 9 30 15 0
 
 abbrev phrases : List (List ℕ)
 phrases = bytesOf "next friday" ∷ bytesOf "forty days ago" ∷ bytesOf "5/2" ∷ []
@@ -30,7 +30,7 @@ starred-row :
     ≡ getD (map (λ c. c .answer) starred) i (refuse 0 0 0)
 starred-row i = ap (λ (l : List (Answer Moment)). getD l i (refuse 0 0 0)) (starred-as-listed .0)
 
-next-friday : answerOf First (wordsIn First) (bytesOf "next friday") A ≡ given (momentOf 2026 2 20 9 30 15)
+next-friday : answerOf First (wordsIn First) (bytesOf "next friday") A ≡ given (momentOf 2026 2 20 9 30 15 0)
 unfolding starred
 next-friday = starred-row 1
 
@@ -52,14 +52,14 @@ first-line : nowOf (bytesOf "2026-02-11 09:30:15") ≡ A
 unfolding nowOf
 first-line = refl
 
-answered : answerLines A phrases ≡ answers (given (momentOf 2026 2 20 9 30 15)) (refuse 2 0 5) (refuse 7 1 3)
+answered : answerLines A phrases ≡ answers (given (momentOf 2026 2 20 9 30 15 0)) (refuse 2 0 5) (refuse 7 1 3)
 answered =
     ap (λ (x : Answer Moment). answers x (answerOf First (wordsIn First) (bytesOf "forty days ago") A) (answerOf First (wordsIn First) (bytesOf "5/2") A)) next-friday
-    ∙ ap (λ (y : Answer Moment). answers (given (momentOf 2026 2 20 9 30 15)) y (answerOf First (wordsIn First) (bytesOf "5/2") A)) forty-days-ago
-    ∙ ap (λ (z : Answer Moment). answers (given (momentOf 2026 2 20 9 30 15)) (refuse 2 0 5) z) five-two
+    ∙ ap (λ (y : Answer Moment). answers (given (momentOf 2026 2 20 9 30 15 0)) y (answerOf First (wordsIn First) (bytesOf "5/2") A)) forty-days-ago
+    ∙ ap (λ (z : Answer Moment). answers (given (momentOf 2026 2 20 9 30 15 0)) (refuse 2 0 5) z) five-two
 
 spelled :
-    answers (given (momentOf 2026 2 20 9 30 15)) (refuse 2 0 5) (refuse 7 1 3)
+    answers (given (momentOf 2026 2 20 9 30 15 0)) (refuse 2 0 5) (refuse 7 1 3)
     ≡ bytesOf "2026-02-20 09:30:15\nrefused 2 at 0\nrefused 7 at 1\n"
 unfolding textOf widthOf
 spelled = refl

@@ -12,10 +12,10 @@ use Rattle.text.specs.Answers.{momentOf}
 abbrev pub nowForm : List ℕ
 nowForm = momentForm (code " ")
 
--- "A first line in another form is an invalid now": all six numbers 0
+-- "A first line in another form is an invalid now": all seven numbers 0
 abbrev pub noNow : Moment
-noNow = momentOf 0 0 0 0 0 0
+noNow = momentOf 0 0 0 0 0 0 0
 
--- "a first line with now"
+-- "a first line with now"; "The program `fuzzy` takes no milliseconds"
 unfoldable pub nowOf : List ℕ → Moment
-nowOf s = cond (ofForm nowForm s) (momentIn s) noNow
+nowOf s = cond (ofForm nowForm s) (momentIn 0 s) noNow

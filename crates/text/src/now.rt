@@ -9,7 +9,7 @@ ghost use Rattle.text.specs.Nows.{noNow, nowOf};
 fn no_now() -> Moment
     ensures { λ r. ⌜ r ≡ noNow ⌝ }
 {
-    Moment::first().with_date(0, 0, 0).with_time(0, 0, 0)
+    Moment::first().with_date(0, 0, 0).with_time(0, 0, 0, 0)
 }
 
 // A line `YYYY-MM-DD HH:MM:SS` as a now; one in another form is an invalid now.
@@ -17,7 +17,7 @@ pub fn now_of(line: &[u8]) -> Moment
     ensures { λ r. ⌜ r ≡ nowOf (now (line .entry)) ⌝ }
 {
     if of_form(b"0000-00-00 00:00:00", line) {
-        return moment_in(line);
+        return moment_in(line, 0);
     }
     no_now()
 }

@@ -15,7 +15,7 @@ returns : tie.Need-returns
 returns c =
     let told = c .before .before in
     let time = sym (told .valid-time .ensures) ∙ c .before .if2 .taken in
-    rw (c .with-time .ensures) (rw (told .before .if1 .taken, time), time-valid (told .before .before .pre) (test-time _ _ _ time))
+    rw (c .with-time .ensures) (rw (told .before .if1 .taken, time), time-valid (told .before .before .pre) (test-time _ _ _ _ time))
 
 returns-2 : tie.Need-returns-2
 returns-2 c = (rw (c .before .before .if1 .taken, sym (c .before .valid-time .ensures) ∙ c .if2 .left), refused-valid _)
