@@ -1,4 +1,4 @@
-/* Reads phrases at one now, a ready phrase at two, one phrase in both readings, and stamps. Copy what you need. */
+/* Reads phrases at one now, a ready phrase at two, one phrase in both readings, stamps, and a moment shown as a phrase. Copy what you need. */
 #include "fuzzy.h"
 
 #include <stdio.h>
@@ -29,6 +29,18 @@ static void show_stamp(const char *text) {
         return;
     }
     printf("%s: %s\n", text, fuzzy_word(fuzzy_number(answer)));
+}
+
+/* Shows a moment as a phrase to be edited, or what is wrong. */
+static void show_phrase(uint32_t hour, uint32_t minute, uint32_t second) {
+    uint8_t text[FUZZY_PHRASE_SIZE];
+    uint64_t answer = fuzzy_write_phrase(2026, 3, 4, hour, minute, second, 0, text, sizeof text);
+    printf("2026-03-04 %02u:%02u:%02u: ", (unsigned)hour, (unsigned)minute, (unsigned)second);
+    if (fuzzy_number(answer) == 0) {
+        printf("%.*s\n", (int)fuzzy_length(answer), (const char *)text);
+        return;
+    }
+    printf("%s\n", fuzzy_word(fuzzy_number(answer)));
 }
 
 int main(void) {
@@ -67,5 +79,8 @@ int main(void) {
     show_stamp("2026-02-11t09:30:15+00:00");
     show_stamp("2026-02-11T09:30:15-05:00");
     show_stamp("2026-02-30T09:30:15Z");
+
+    show_phrase(9, 5, 0);
+    show_phrase(9, 5, 30);
     return 0;
 }

@@ -36,6 +36,8 @@
 //! let refusal = "2026-02-30T09:30:15Z".parse::<Stamp>().unwrap_err();
 //! assert_eq!(refusal.to_string(), "this is no RFC 3339 date and time");
 //! ```
+//!
+//! A moment can be shown as a phrase for people to edit, [`Moment::to_phrase`].
 use std::fmt;
 use std::str::FromStr;
 
@@ -77,10 +79,24 @@ extern "C" {
         text: *mut u8,
         text_length: usize,
     ) -> u64;
+    fn fuzzy_write_phrase(
+        year: u32,
+        month: u32,
+        day: u32,
+        hour: u32,
+        minute: u32,
+        second: u32,
+        millisecond: u32,
+        text: *mut u8,
+        text_length: usize,
+    ) -> u64;
 }
 
 /// The most bytes that a ready phrase has.
 pub const READY_SIZE: usize = 384;
+
+/// The most bytes that a moment's phrase has.
+pub const PHRASE_SIZE: usize = 26;
 
 /// A date and time of the years 1 to 9999. Other numbers may stand here too: such a now is refused.
 #[derive(Clone, Copy, Debug, PartialEq, Eq, PartialOrd, Ord, Hash)]
@@ -97,6 +113,40 @@ impl Moment {
     fn of(numbers: [u32; 6]) -> Moment {
         let [year, month, day, hour, minute, second] = numbers;
         Moment { year, month, day, hour, minute, second }
+    }
+
+    /// The moment as a phrase for people to edit, or why there is none: it is no date and time of the years 1 to 9999, or its second or
+    /// millisecond isn't 0. [`read`] gives the moment back at every now: in both readings for the years 1000 to 9999, in
+    /// [`Reading::First`] for the years 1 to 999.
+    ///
+    /// ```
+    /// # use fuzzydate::{read, Moment, Reading, Reason};
+    /// let moment = Moment { year: 2026, month: 3, day: 4, hour: 9, minute: 5, second: 0, millisecond: 0 };
+    /// let phrase = moment.to_phrase().unwrap();
+    /// assert_eq!(phrase, "march 4 2026 at 9:05");
+    ///
+    /// let now = Moment { year: 2026, month: 2, day: 11, hour: 9, minute: 30, second: 15, millisecond: 250 };
+    /// assert_eq!(read(Reading::First, &phrase, now), Ok(moment));
+    /// assert_eq!(read(Reading::Second, &phrase, now), Ok(moment));
+    /// assert_eq!(now.to_phrase().unwrap_err().reason(), Reason::NotWhole);
+    /// ```
+    pub fn to_phrase(self) -> Result<String, Refusal<'static>> {
+        let mut text = [0; PHRASE_SIZE];
+        // SAFETY: the pointer is that of an array, whose size is said.
+        let answer = unsafe {
+            fuzzy_write_phrase(
+                self.year,
+                self.month,
+                self.day,
+                self.hour,
+                self.minute,
+                self.second,
+                self.millisecond,
+                text.as_mut_ptr(),
+                text.len(),
+            )
+        };
+        text_of(answer, &text)
     }
 }
 
@@ -166,13 +216,15 @@ pub enum Reason {
     NoStamp = 14,
     /// A reading other than 1 and 2, which [`Reading`] cannot be.
     NoReading = 15,
+    /// The second or the millisecond isn't 0, which a phrase doesn't show.
+    NotWhole = 16,
     /// The room that was lent is too short for the text.
     NoRoom = 17,
 }
 
 impl Reason {
     /// In the order of their numbers.
-    const ALL: [Reason; 16] = [
+    const ALL: [Reason; 17] = [
         Reason::TooLong,
         Reason::Unknown,
         Reason::LargeDigits,
@@ -188,6 +240,7 @@ impl Reason {
         Reason::NoLeapDay,
         Reason::NoStamp,
         Reason::NoReading,
+        Reason::NotWhole,
         Reason::NoRoom,
     ];
 
@@ -219,6 +272,7 @@ impl Reason {
             Reason::NoLeapDay => "29 February is not in that year",
             Reason::NoStamp => "this is no RFC 3339 date and time",
             Reason::NoReading => "there is no such reading",
+            Reason::NotWhole => "a phrase shows no seconds",
             Reason::NoRoom => "there is no room for the text",
         }
     }
@@ -444,10 +498,15 @@ impl Stamp {
                 text.len(),
             )
         };
-        match answer & 0xffff {
-            0 => Ok(text[..(answer >> 32) as usize].iter().map(|&b| char::from(b)).collect()),
-            _ => Err(Refusal::of(answer, &[])),
-        }
+        text_of(answer, &text)
+    }
+}
+
+/// The text that a writing left at the front of the bytes lent to it, or its refusal.
+fn text_of(answer: u64, lent: &[u8]) -> Result<String, Refusal<'static>> {
+    match answer & 0xffff {
+        0 => Ok(lent[..(answer >> 32) as usize].iter().map(|&b| char::from(b)).collect()),
+        _ => Err(Refusal::of(answer, &[])),
     }
 }
 

@@ -1,5 +1,5 @@
 -- A moment that is shown as a phrase is read back, in either reading and at every now. Assumes nothing.
-use mathlib.Core.Path.{_≡_, refl, sym, ap}
+use mathlib.Core.Path.{_≡_, refl, sym, ap₂}
 use mathlib.Core.Bool.{true}
 use mathlib.Core.List.{List, [], _∷_, _++_}
 use Prim.Native.Char.{code}
@@ -32,7 +32,7 @@ use Rattle.phrase.specs.Tree.{DateTime, dateTime}
 use Rattle.phrase.specs.Read.{reads, readOf}
 use Rattle.evaluation.specs.Evaluate.{evaluate}
 use Rattle.answer.specs.Answer.{answerOf}
-use Rattle.shown.specs.Phrases.{monthName, clockText, phraseText, leastYear}
+use Rattle.shown.specs.Phrases.{monthName, clockText, phraseText, IsWhole, leastYear}
 use Rattle.shown.proofs.Names.{Named, month-named, at-named}
 use Rattle.shown.proofs.Readings.{Numeral, IsNumeral, literal, moment-read}
 
@@ -155,8 +155,8 @@ module _ (t : Moment) (v : IsMoment t) where
               (record { some = omega arith; most = omega arith }) (year-taken reading h),
         )
 
-  -- which evaluates at any now to the moment with second 0
-  tree-evaluates : (n : Moment) → evaluate (treeOf t) n ≡ moment (withTime (t .hour) (t .minute) 0 (withDate (t .year) (t .month) (t .day) n))
+  -- which evaluates at any now to the moment with second and millisecond 0
+  tree-evaluates : (n : Moment) → evaluate (treeOf t) n ≡ moment (withTime (t .hour) (t .minute) 0 0 (withDate (t .year) (t .month) (t .day) n))
   unfolding evaluate isDate
   tree-evaluates n =
       let d = v .date in
@@ -165,12 +165,14 @@ module _ (t : Moment) (v : IsMoment t) where
         le-leb 1 (t .year) (d .year-low),
         le-leb (t .year) 9999 (d .year-high),
         day-passes d,
-        time-passes {h = t .hour} {m = t .minute} {s = 0} (record { hour = c .hour; minute = c .minute; second = omega arith }),
+        time-passes {h = t .hour} {m = t .minute} {s = 0} {ms = 0}
+            (record { hour = c .hour; minute = c .minute; second = omega arith; millisecond = omega arith }),
       )
 
 -- "For years 1000 to 9999 either reading gives that moment back at every valid now; for years 1 to 999 only reading 1 is promised"
-pub read-back : (reading : Reading) (t n : Moment) → IsMoment t → t .second ≡ 0 → leastYear reading ≤ t .year → IsMoment n
+pub read-back : (reading : Reading) (t n : Moment) → IsMoment t → IsWhole t → leastYear reading ≤ t .year → IsMoment n
     → answerOf reading (wordsIn reading) (phraseText t) n ≡ given t
 unfolding answerOf
-read-back reading t n v z h w =
-    rw (phrase-read t v reading h, moment-passes w, tree-evaluates t v n) (ap (λ s. given (withTime (t .hour) (t .minute) s t)) (sym z))
+read-back reading t n v whole h w =
+    rw (phrase-read t v reading h, moment-passes w, tree-evaluates t v n)
+    (ap₂ (λ s ms. given (withTime (t .hour) (t .minute) s ms t)) (sym (whole .second)) (sym (whole .millisecond)))
