@@ -5,7 +5,7 @@ use mathlib.Core.List.{List}
 use lib.ListN.{length}
 use Rattle.calendar.specs.Moments.{IsMoment, momentOf}
 use Rattle.calendar.specs.declared.moments.Moment.{Moment}
-use Rattle.fuzzydate.specs.Called.{six}
+use Rattle.fuzzydate.specs.Called.{seven}
 use Rattle.fuzzydate.proofs.fuzzy_read.Reads as read'
 use Rattle.fuzzydate.proofs.fuzzy_run.Reads as run'
 use Rattle.fuzzydate.proofs.fuzzy_make_ready.Reads as make'
@@ -34,7 +34,7 @@ pub record MakeReady (reading : ℕ) (phrase array : List ℕ) (k : ℕ) (array�
   pub answer-is : call .result ≡ k
   pub array′-is : call .exit .1 .1 .0 .now ≡ array′
 
--- what is seen of a call with bytes, a now's six numbers and an array for a moment: what it is given, answers and leaves
+-- what is seen of a call with bytes, a now's seven numbers and an array for a moment: what it is given, answers and leaves
 pub record Seen (C : Type 0) : Type 0 where
   pub bytesOf : C → List ℕ
   pub nowOf : C → Moment
@@ -61,10 +61,12 @@ abbrev pub readSeen : (reading : ℕ) → Seen (ReadIn reading)
 readSeen reading =
     record {
       bytesOf = λ c. c .call .given .1 .0 .now;
-      nowOf = λ c. let a = c .call .given .1 .1 in momentOf (a .0) (a .1 .0) (a .1 .1 .0) (a .1 .1 .1 .0) (a .1 .1 .1 .1 .0) (a .1 .1 .1 .1 .1 .0);
-      arrayOf = λ c. c .call .given .1 .1 .1 .1 .1 .1 .1 .1 .0 .now;
+      nowOf =
+          λ c. let a = c .call .given .1 .1 in
+          momentOf (a .0) (a .1 .0) (a .1 .1 .0) (a .1 .1 .1 .0) (a .1 .1 .1 .1 .0) (a .1 .1 .1 .1 .1 .0) (a .1 .1 .1 .1 .1 .1 .0);
+      arrayOf = λ c. c .call .given .1 .1 .1 .1 .1 .1 .1 .1 .1 .0 .now;
       resultOf = λ c. c .call .result;
-      arrayAfter = λ c. c .call .exit .1 .1 .1 .1 .1 .1 .1 .1 .0 .now;
+      arrayAfter = λ c. c .call .exit .1 .1 .1 .1 .1 .1 .1 .1 .1 .0 .now;
     }
 
 -- what is seen of a call of `fuzzy_run`
@@ -72,10 +74,12 @@ abbrev pub runSeen : Seen (Call run'.Post)
 runSeen =
     record {
       bytesOf = λ c. c .given .0 .now;
-      nowOf = λ c. let a = c .given .1 in momentOf (a .0) (a .1 .0) (a .1 .1 .0) (a .1 .1 .1 .0) (a .1 .1 .1 .1 .0) (a .1 .1 .1 .1 .1 .0);
-      arrayOf = λ c. c .given .1 .1 .1 .1 .1 .1 .1 .0 .now;
+      nowOf =
+          λ c. let a = c .given .1 in
+          momentOf (a .0) (a .1 .0) (a .1 .1 .0) (a .1 .1 .1 .0) (a .1 .1 .1 .1 .0) (a .1 .1 .1 .1 .1 .0) (a .1 .1 .1 .1 .1 .1 .0);
+      arrayOf = λ c. c .given .1 .1 .1 .1 .1 .1 .1 .1 .0 .now;
       resultOf = λ c. c .result;
-      arrayAfter = λ c. c .exit .1 .1 .1 .1 .1 .1 .1 .0 .now;
+      arrayAfter = λ c. c .exit .1 .1 .1 .1 .1 .1 .1 .1 .0 .now;
     }
 
 -- `fuzzy_read`, of a phrase in a reading
@@ -98,7 +102,7 @@ place k = k / 65536 % 65536
 abbrev pub size : ℕ → ℕ
 size k = k / 4294967296
 
--- two answers are alike: the same number, with 0 the same six numbers, and with any other nothing written
+-- two answers are alike: the same number, with 0 the same seven numbers, and with any other nothing written
 pub record Alike (q : ℕ) (phone phone′ : List ℕ) (r : ℕ) (hub hub′ : List ℕ) : Type 0 where
   pub number-same : q ≡ r
   pub moment-same : r ≡ 0 → phone′ ≡ hub′
@@ -106,5 +110,5 @@ pub record Alike (q : ℕ) (phone phone′ : List ℕ) (r : ℕ) (hub hub′ : L
 
 -- what an answer is: 0 and a moment of the calendar; or a refusal of `low` to 13 whose part lies within `room` bytes, and nothing written
 pub data Answered (low room : ℕ) (array : List ℕ) : ℕ → List ℕ → Type 0 where
-  moment : {t : Moment} → IsMoment t → Answered low room array 0 (six t)
+  moment : {t : Moment} → IsMoment t → Answered low room array 0 (seven t)
   refusal : {k : ℕ} → low ≤ number k → number k ≤ 13 → place k + size k ≤ room → Answered low room array k array

@@ -11,9 +11,9 @@ use Rattle.stamp.specs.declared.write.Wrote.{Wrote}
 use Rattle.stamp.proofs.Writings.{text-short, TextOf, writing}
 use Rattle.fuzzydate.specs.Called.{writtenCode}
 
--- at most 25 bytes, and number and count are the code
+-- at most 29 bytes, and number and count are the code
 pub record Coded (w : Answer (List ℕ)) (r : Wrote) : Type 0 where
-  pub few : r .count ≤ 25
+  pub few : r .count ≤ 29
   pub small : r .number ≤ 17
   pub says : r .number + 4294967296 * r .count ≡ writtenCode w
 

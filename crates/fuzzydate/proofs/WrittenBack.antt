@@ -10,13 +10,13 @@ use Rattle.stamp.specs.Stamps.{stampOf, writtenOf, bufferOf}
 use Rattle.stamp.specs.declared.Stamp.{Stamp}
 use Rattle.stamp.proofs.WrittenReads.{written-reads}
 use Rattle.stamp.proofs.Writings.{writing}
-use Rattle.fuzzydate.specs.Called.{codeOf, eight, stampAfter}
+use Rattle.fuzzydate.specs.Called.{codeOf, nine, stampAfter}
 
--- the bytes that a writing counts are read as 0 and the same eight numbers
+-- the bytes that a writing counts are read as 0 and the same nine numbers
 pub written-back :
     (st : Stamp) (lent array : List ℕ) {text : List ℕ} → writtenOf st (length lent) ≡ given text →
     let read = stampOf (take (length text) (bufferOf lent (writtenOf st (length lent)))) in
-    (codeOf read ≡ 0) × (stampAfter read array ≡ eight st)
+    (codeOf read ≡ 0) × (stampAfter read array ≡ nine st)
 written-back st lent array {text} e =
     let fits = given-holds (writing st (length lent)) e .fits in
     rw (e, sets-taken text lent fits (length text) refl, written-reads st (length lent) text e) (refl, refl)

@@ -6,17 +6,17 @@ use Rattle.fuzzydate.proofs.fuzzy_run.Reads as fuzzy-run'
 use Rattle.fuzzydate.proofs.fuzzy_read_stamp.Reads as fuzzy-read-stamp'
 use Rattle.fuzzydate.proofs.fuzzy_write_stamp.Reads as fuzzy-write-stamp'
 
-pub fuzzy-read : Settled fuzzy-read'.Post × Same fuzzy-read'.Post (λ κs z e. e .1 .1 .1 .1 .1 .1 .1 .1 .0 .now)
+pub fuzzy-read : Settled fuzzy-read'.Post × Same fuzzy-read'.Post (λ κs z e. e .1 .1 .1 .1 .1 .1 .1 .1 .1 .0 .now)
 fuzzy-read = (same fuzzy-read'.Post _ _ (λ κs a z e p. p .0), same fuzzy-read'.Post _ _ (λ κs a z e p. p .1))
 
 pub fuzzy-make-ready : Settled fuzzy-make-ready'.Post × Same fuzzy-make-ready'.Post (λ κs z e. e .1 .1 .0 .now)
 fuzzy-make-ready = (same fuzzy-make-ready'.Post _ _ (λ κs a z e p. p .0), same fuzzy-make-ready'.Post _ _ (λ κs a z e p. p .1))
 
-pub fuzzy-run : Settled fuzzy-run'.Post × Same fuzzy-run'.Post (λ κs z e. e .1 .1 .1 .1 .1 .1 .1 .0 .now)
+pub fuzzy-run : Settled fuzzy-run'.Post × Same fuzzy-run'.Post (λ κs z e. e .1 .1 .1 .1 .1 .1 .1 .1 .0 .now)
 fuzzy-run = (same fuzzy-run'.Post _ _ (λ κs a z e p. p .0), same fuzzy-run'.Post _ _ (λ κs a z e p. p .1))
 
 pub fuzzy-read-stamp : Settled fuzzy-read-stamp'.Post × Same fuzzy-read-stamp'.Post (λ κs z e. e .1 .0 .now)
 fuzzy-read-stamp = (same fuzzy-read-stamp'.Post _ _ (λ κs a z e p. p .0), same fuzzy-read-stamp'.Post _ _ (λ κs a z e p. p .1))
 
-pub fuzzy-write-stamp : Settled fuzzy-write-stamp'.Post × Same fuzzy-write-stamp'.Post (λ κs z e. e .1 .1 .1 .1 .1 .1 .1 .1 .0 .now)
+pub fuzzy-write-stamp : Settled fuzzy-write-stamp'.Post × Same fuzzy-write-stamp'.Post (λ κs z e. e .1 .1 .1 .1 .1 .1 .1 .1 .1 .0 .now)
 fuzzy-write-stamp = (same fuzzy-write-stamp'.Post _ _ (λ κs a z e p. p .0), same fuzzy-write-stamp'.Post _ _ (λ κs a z e p. p .1))

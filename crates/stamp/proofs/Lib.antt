@@ -1,6 +1,7 @@
 pub mod Grammar
 pub mod Offsets
+pub mod Fractions
+pub mod Readings
 pub mod Writings
 pub mod WrittenReads
-pub mod Readings
 pub mod ReadWrites

@@ -1,8 +1,7 @@
 -- Offsets that are written and read. Assumes nothing.
-use Prim.Native.Nat.{_≤_}
-use native.Mathlib.Omega.{arith}
 use mathlib.Core.Path.{_≡_, refl}
 use mathlib.Core.Bool.{Bool, true, false, and-eq-true-iff}
+use mathlib.Core.Logic.{_⊎_, inl, inr}
 use lib.Dec.{leb, ltb}
 use lib.ListN.{length}
 use borrow.Author.Tests.{leb-true, ltb-true, le-leb, lt-ltb}
@@ -19,10 +18,10 @@ test-offset o e =
 pub offset-passes : {o : Offset} → IsOffset o → isOffset o ≡ true
 offset-passes h = rw (le-leb _ _ (h .west), lt-ltb _ _ (h .minutes))
 
--- its text has at most six bytes
-pub offset-short : (o : Offset) → length (offsetText o) ≤ 6
-offset-short o = go (isZulu o) refl
+-- its text has one byte or six
+pub offset-sizes : (o : Offset) → (length (offsetText o) ≡ 1) ⊎ (length (offsetText o) ≡ 6)
+offset-sizes o = go (isZulu o) refl
   where
-    go : (b : Bool) → isZulu o ≡ b → length (offsetText o) ≤ 6
-    go true e = rw e (omega arith)
-    go false e = rw e (omega arith)
+    go : (b : Bool) → isZulu o ≡ b → (length (offsetText o) ≡ 1) ⊎ (length (offsetText o) ≡ 6)
+    go true e = rw e (inl refl)
+    go false e = rw e (inr refl)

@@ -1,4 +1,4 @@
--- What is read can be written, and is the same text up to the letters' case and "+00:00". Assumes nothing.
+-- What is read can be written, and is the same text up to the letters' case, "+00:00" and a fraction's last zeros. Assumes nothing.
 use Prim.Native.Nat.{ℕ, _+_, _*_, _/_, _%_, _≤_, _<_}
 use Prim.Native.Char.{code}
 use native.Mathlib.Omega.{arith}
@@ -21,21 +21,23 @@ use Rattle.calendar.specs.Moments.{IsMoment}
 use Rattle.calendar.specs.Fixed.{momentForm, momentText, momentIn}
 use Rattle.calendar.proofs.Again.{pair, mark, moment-again, moment-capitals}
 use Rattle.calendar.proofs.Valid.{test-time, moment-passes}
-use Rattle.stamp.specs.Stamps.{westOf, offsetIn, offsetExists, stampIn, stampOf, offsetText, stampText, IsOffset, plainOffset, plain, writtenOf}
+use Rattle.stamp.specs.Stamps.{offsetPlace, fractionAt, millisecondIn, westOf, offsetIn, offsetExists, stampIn, stampOf}
+use Rattle.stamp.specs.Stamps.{fractionText, offsetText, stampText, IsOffset, plainFraction, plainOffset, plain, writtenOf}
 use Rattle.stamp.specs.declared.Stamp.{Stamp}
 use Rattle.stamp.proofs.Grammar.{OffsetForm, zulu-form, east-form, west-form, parts}
 use Rattle.stamp.proofs.Offsets.{offset-passes}
+use Rattle.stamp.proofs.Fractions.{fraction-plain}
 use Rattle.stamp.proofs.Readings.{Exists, Reading, stamp, year-zero, no-stamp, one-of-three}
 use Rattle.stamp.proofs.Writings.{text-short}
 
 -- a moment's text in capitals is the moment written
-moment-plain : (t u : List ℕ) → ofForm (momentForm (code "T")) t ≡ true → momentText (code "T") (momentIn (t ++ u)) ≡ map capitalOf t
-moment-plain t u h =
+moment-plain : (ms : ℕ) (t u : List ℕ) → ofForm (momentForm (code "T")) t ≡ true → momentText (code "T") (momentIn ms (t ++ u)) ≡ map capitalOf t
+moment-plain ms t u h =
     let mark : capitalOf (getD t 10 0) ≡ code "T" = eqb-true _ _ (form-at (momentForm (code "T")) t h 10 (omega arith)) in
-    let m = momentIn (t ++ u) in
+    let m = momentIn ms (t ++ u) in
     ap (λ (b : ℕ). momentText b m) (sym mark)
     ∙ sym (moment-capitals (getD t 10 0) m)
-    ∙ ap (map capitalOf) (moment-again (code "T") t u h)
+    ∙ ap (map capitalOf) (moment-again (code "T") ms t u h)
 
 -- the bytes of an offset of hours and minutes
 record Numbers (sign : ℕ) (u : List ℕ) : Type 0 where
@@ -88,45 +90,44 @@ no-minutes u n z =
     let d : getD u 5 0 ≡ 48 = omega (arith, n .minutes) in
     rw (listed u 6 (n .size)) (rw (n .signed, a, b, n .colon, c, d))
 
--- an offset behind a moment, read and written again
-module _ (t : List ℕ) (size : length t ≡ 19) where
-  zulu-plain : (u : List ℕ) → ofForm (bytesOf "Z") u ≡ true → offsetText (offsetIn (t ++ u)) ≡ plainOffset u
-  zulu-plain u h =
-      let letter : capitalOf (getD u 0 0) ≡ code "Z" = eqb-true _ _ (form-at (bytesOf "Z") u h 0 (omega arith)) in
-      rw (listed t 19 size, listed u 1 (form-length (bytesOf "Z") u h), and-false (eqb (getD u 0 0) (code "+")), letter)
+-- an offset, read and written again
+zulu-plain : (u : List ℕ) → ofForm (bytesOf "Z") u ≡ true → offsetText (offsetIn u) ≡ plainOffset u
+zulu-plain u h =
+    let letter : capitalOf (getD u 0 0) ≡ code "Z" = eqb-true _ _ (form-at (bytesOf "Z") u h 0 (omega arith)) in
+    rw (listed u 1 (form-length (bytesOf "Z") u h), and-false (eqb (getD u 0 0) (code "+")), letter)
 
-  module _ (u : List ℕ) (six : length u ≡ 6) where
-    -- its numbers in their places
-    offset-at : offsetIn (t ++ u) ≡ record { west = westOf (getD u 0 0); minutes = minutesIn u }
-    offset-at = rw (listed t 19 size, listed u 6 six)
+module _ (u : List ℕ) (six : length u ≡ 6) where
+  -- its numbers in their places
+  offset-at : offsetIn u ≡ record { west = westOf (getD u 0 0); minutes = minutesIn u }
+  offset-at = rw six
 
-    -- fewer minutes than an hour has
-    few : offsetExists (t ++ u) ≡ true → twoAt u 4 < 60
-    few exists = test-time _ _ _ (rw (listed t 19 size, listed u 6 six) at exists) .minute
+  -- fewer minutes than an hour has
+  few : offsetExists u ≡ true → twoAt u 4 < 60
+  few exists = test-time _ _ _ _ (rw six at exists) .minute
 
-  west-plain : (u : List ℕ) → Numbers (code "-") u → offsetExists (t ++ u) ≡ true → offsetText (offsetIn (t ++ u)) ≡ plainOffset u
-  west-plain u n exists =
-      let other : same u (bytesOf "+00:00") ≡ false = rw (listed u 6 (n .size)) (rw (n .signed)) in
-      ap offsetText (offset-at u (n .size))
-      ∙ rw (n .signed, other) (numbers-plain n (omega arith) (few u (n .size) exists))
+west-plain : (u : List ℕ) → Numbers (code "-") u → offsetExists u ≡ true → offsetText (offsetIn u) ≡ plainOffset u
+west-plain u n exists =
+    let other : same u (bytesOf "+00:00") ≡ false = rw (listed u 6 (n .size)) (rw (n .signed)) in
+    ap offsetText (offset-at u (n .size))
+    ∙ rw (n .signed, other) (numbers-plain n (omega arith) (few u (n .size) exists))
 
-  east-plain :
-      (u : List ℕ) → Numbers (code "+") u → offsetExists (t ++ u) ≡ true → (b : Bool) → same u (bytesOf "+00:00") ≡ b →
-      offsetText (offsetIn (t ++ u)) ≡ plainOffset u
-  east-plain u n exists true e = rw (same-true u (bytesOf "+00:00") e, listed t 19 size)
-  east-plain u n exists false e =
-      let some : eqb (minutesIn u) 0 ≡ false = ne-eqb _ _ (λ none. eqb-false 0 0 (cc (no-minutes u n none)) refl) in
-      ap offsetText (offset-at u (n .size))
-      ∙ rw (n .signed, some, e) (numbers-plain n (omega arith) (few u (n .size) exists))
+east-plain :
+    (u : List ℕ) → Numbers (code "+") u → offsetExists u ≡ true → (b : Bool) → same u (bytesOf "+00:00") ≡ b →
+    offsetText (offsetIn u) ≡ plainOffset u
+east-plain u n exists true e = rw (same-true u (bytesOf "+00:00") e)
+east-plain u n exists false e =
+    let some : eqb (minutesIn u) 0 ≡ false = ne-eqb _ _ (λ none. eqb-false 0 0 (cc (no-minutes u n none)) refl) in
+    ap offsetText (offset-at u (n .size))
+    ∙ rw (n .signed, some, e) (numbers-plain n (omega arith) (few u (n .size) exists))
 
-  offset-plain : (u : List ℕ) → OffsetForm u → offsetExists (t ++ u) ≡ true → offsetText (offsetIn (t ++ u)) ≡ plainOffset u
-  offset-plain u (zulu-form h) exists = zulu-plain u h
-  offset-plain u (east-form h) exists =
-      let plus : getD u 0 0 ≡ code "+" = mark u 0 (code "+") (omega arith) (form-at (bytesOf "+00:00") u h 0 (omega arith)) in
-      east-plain u (numbers (code "+") u h plus) exists (same u (bytesOf "+00:00")) refl
-  offset-plain u (west-form h) exists =
-      let minus : getD u 0 0 ≡ code "-" = mark u 0 (code "-") (omega arith) (form-at (bytesOf "-00:00") u h 0 (omega arith)) in
-      west-plain u (numbers (code "-") u h minus) exists
+offset-plain : {u : List ℕ} → OffsetForm u → offsetExists u ≡ true → offsetText (offsetIn u) ≡ plainOffset u
+offset-plain (zulu-form u h) exists = zulu-plain u h
+offset-plain (east-form u h) exists =
+    let plus : getD u 0 0 ≡ code "+" = mark u 0 (code "+") (omega arith) (form-at (bytesOf "+00:00") u h 0 (omega arith)) in
+    east-plain u (numbers (code "+") u h plus) exists (same u (bytesOf "+00:00")) refl
+offset-plain (west-form u h) exists =
+    let minus : getD u 0 0 ≡ code "-" = mark u 0 (code "-") (omega arith) (form-at (bytesOf "-00:00") u h 0 (omega arith)) in
+    west-plain u (numbers (code "-") u h minus) exists
 
 -- what a reading gives: a moment and an offset that can be written, and their text
 pub record Again (s : List ℕ) (st : Stamp) : Type 0 where
@@ -134,19 +135,19 @@ pub record Again (s : List ℕ) (st : Stamp) : Type 0 where
   pub offset : IsOffset (st .offset)
   pub text : stampText st ≡ plain s
 
--- a text that is read is its stamp's text, but for the case of letters and "+00:00"
+-- a text that is read is its stamp's text, but for the case of letters, "+00:00" and the zeros at the end of a fraction
 pub read-again : (s : List ℕ) (st : Stamp) → stampOf s ≡ given st → Again s st
 read-again s st h = go (one-of-three s)
   where
     text : Exists s → stampText (stampIn s) ≡ plain s
     text there =
         let part = parts s (there .form) in
-        let t = take 19 s in
-        let u = drop 19 s in
-        let whole : t ++ u ≡ s = take-append-drop 19 s in
-        let date = rw whole at (moment-plain t u (part .moment)) in
-        let offset = rw whole at (offset-plain t (form-length (momentForm (code "T")) t (part .moment)) u (part .offset) (rw whole (there .offset))) in
-        ap (λ (a : List ℕ). a ++ offsetText (offsetIn s)) date ∙ ap (λ (b : List ℕ). map capitalOf t ++ b) offset
+        let f = fractionAt (offsetPlace s) s in
+        let u = drop (offsetPlace s) s in
+        let date = rw (take-append-drop 19 s) at (moment-plain (millisecondIn f) (take 19 s) (drop 19 s) (part .moment)) in
+        ap (λ (a : List ℕ). a ++ fractionText (millisecondIn f) ++ offsetText (offsetIn u)) date
+        ∙ ap (λ (b : List ℕ). map capitalOf (take 19 s) ++ b ++ offsetText (offsetIn u)) (fraction-plain (part .fraction))
+        ∙ ap (λ (c : List ℕ). map capitalOf (take 19 s) ++ plainFraction f ++ c) (offset-plain (part .offset) (there .offset))
 
     go : Reading s (stampOf s) → Again s st
     go (stamp there m o e) =
@@ -155,8 +156,8 @@ read-again s st h = go (one-of-three s)
     go (year-zero there z e) = let z : _≡_ {A = ℕ} 0 1 = cc in absurd (omega arith)
     go (no-stamp none e) = let z : _≡_ {A = ℕ} 0 1 = cc in absurd (omega arith)
 
--- so what is read is written as that text where there are 25 bytes of room
-pub read-writes : (s : List ℕ) (st : Stamp) (room : ℕ) → stampOf s ≡ given st → 25 ≤ room → writtenOf st room ≡ given (plain s)
+-- so what is read is written as that text where there are 29 bytes of room
+pub read-writes : (s : List ℕ) (st : Stamp) (room : ℕ) → stampOf s ≡ given st → 29 ≤ room → writtenOf st room ≡ given (plain s)
 unfolding writtenOf
 read-writes s st room h l =
     let again = read-again s st h in

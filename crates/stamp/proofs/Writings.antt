@@ -4,21 +4,28 @@ use native.Mathlib.Omega.{arith}
 use mathlib.Core.Path.{_≡_, refl}
 use mathlib.Core.Bool.{Bool, true, false, cond}
 use mathlib.Core.List.{List}
+use mathlib.Core.Logic.{⊎-elim}
 use lib.Dec.{leb}
-use lib.ListN.{length}
+use lib.ListN.{length, length-append}
 use borrow.Author.Tests.{leb-true}
 use Rattle.refusals.specs.Table.{NoNow, NoStamp, NoRoom}
 use Rattle.refusals.specs.Answers.{given, refuse, refusalAt}
 use Rattle.refusals.proofs.Holds.{Holds, of-given, of-refusal, Bounded}
 use Rattle.calendar.specs.Moments.{IsMoment, isMoment}
 use Rattle.calendar.proofs.Valid.{test-moment}
-use Rattle.stamp.specs.Stamps.{IsOffset, isOffset, stampText, writtenOf}
+use Rattle.stamp.specs.Stamps.{IsOffset, isOffset, offsetText, fractionText, stampText, writtenOf}
 use Rattle.stamp.specs.declared.Stamp.{Stamp}
-use Rattle.stamp.proofs.Offsets.{test-offset, offset-short}
+use Rattle.stamp.proofs.Offsets.{test-offset, offset-sizes}
+use Rattle.stamp.proofs.Fractions.{fraction-short}
 
--- a stamp's text has at most 25 bytes
-pub text-short : (st : Stamp) → length (stampText st) ≤ 25
-text-short st = omega (arith, offset-short (st .offset))
+-- a stamp's text has at most 29 bytes
+pub text-short : (st : Stamp) → length (stampText st) ≤ 29
+text-short st =
+    let f = fractionText (st .moment .millisecond) in
+    let u = offsetText (st .offset) in
+    let sizes = length-append f u in
+    let fraction = fraction-short (st .moment .millisecond) in
+    ⊎-elim (λ one. omega arith) (λ six. omega arith) (offset-sizes (st .offset))
 
 -- the text of a moment and an offset that exist, in the room that there is
 pub record TextOf (st : Stamp) (room : ℕ) (text : List ℕ) : Type 0 where

@@ -29,6 +29,10 @@ inOrder (r ∷ rs) = behind r (inOrder rs)
 abbrev pub either : Rule → Rule → Rule
 either a b = a ++ b
 
+-- "[A]"
+abbrev pub optional : Rule → Rule
+optional r = either (form "") r
+
 -- "date-fullyear = 4DIGIT"
 abbrev pub date-fullyear : Rule
 date-fullyear = form "0000"
@@ -53,6 +57,10 @@ time-minute = form "00"
 abbrev pub time-second : Rule
 time-second = form "00"
 
+-- "time-secfrac = "." 1*DIGIT", of which "one to three" are taken
+abbrev pub time-secfrac : Rule
+time-secfrac = either (form ".0") (either (form ".00") (form ".000"))
+
 -- "time-numoffset = ("+" / "-") time-hour ":" time-minute"
 abbrev pub time-numoffset : Rule
 time-numoffset = inOrder (either (form "+") (form "-") ∷ time-hour ∷ form ":" ∷ time-minute ∷ [])
@@ -61,9 +69,9 @@ time-numoffset = inOrder (either (form "+") (form "-") ∷ time-hour ∷ form ":
 abbrev pub time-offset : Rule
 time-offset = either (form "Z") time-numoffset
 
--- "partial-time = time-hour ":" time-minute ":" time-second [time-secfrac]": a fraction is not taken
+-- "partial-time = time-hour ":" time-minute ":" time-second [time-secfrac]"
 abbrev pub partial-time : Rule
-partial-time = inOrder (time-hour ∷ form ":" ∷ time-minute ∷ form ":" ∷ time-second ∷ [])
+partial-time = inOrder (time-hour ∷ form ":" ∷ time-minute ∷ form ":" ∷ time-second ∷ optional time-secfrac ∷ [])
 
 -- "full-date = date-fullyear "-" date-month "-" date-mday"
 abbrev pub full-date : Rule

@@ -1,15 +1,15 @@
 -- A stamp: a civil moment as written, with its offset; how a text is read as one, and one is written. Assumes nothing.
-use Prim.Native.Nat.{ℕ, _+_, _*_, _/_, _%_, _≤_, _<_}
+use Prim.Native.Nat.{ℕ, _+_, _-_, _*_, _/_, _%_, _≤_, _<_}
 use Prim.Native.Char.{code}
 use mathlib.Core.Bool.{Bool, true, _&&_, cond}
-use mathlib.Core.List.{List, _++_, map}
+use mathlib.Core.List.{List, [], _∷_, _++_, map}
 use lib.Dec.{eqb, leb, ltb}
 use lib.ListN.{length, getD, take, drop}
 use lib.Seq.{sets}
 use Rattle.refusals.specs.Table.{NoNow, Outside, NoStamp, NoRoom}
 use Rattle.refusals.specs.Answers.{Answer, given, refused, refuse}
 use Rattle.digits.specs.Bytes.{bytesOf, capitalOf, same}
-use Rattle.digits.specs.Digits.{marked, twoAt}
+use Rattle.digits.specs.Digits.{digitsOf, marked, twoAt}
 use Rattle.calendar.specs.Moments.{isDayOfMonth, isTime, isMoment}
 use Rattle.calendar.specs.Fixed.{momentText, momentIn}
 use Rattle.calendar.specs.declared.moments.Moment.{Moment}
@@ -24,29 +24,49 @@ use Rattle.stamp.specs.declared.write.Wrote.{Wrote}
 abbrev pub zulu : Offset
 zulu = record { west = 0; minutes = 0 }
 
--- a text of the grammar has 20 bytes with "Z", and 25 with a `time-numoffset`
-abbrev pub hasNumoffset : List ℕ → Bool
-hasNumoffset s = leb 25 (length s)
+-- where `time-offset` begins: a text of the grammar has up to 24 bytes with "Z", the last of them, and from 25 on with a
+-- `time-numoffset`, the last six
+abbrev pub offsetPlace : List ℕ → ℕ
+offsetPlace s = length s - cond (ltb (length s) 25) 1 6
+
+-- `time-secfrac`, if there is one: what stands between the second and the offset, which begins at p
+abbrev pub fractionAt : ℕ → List ℕ → List ℕ
+fractionAt p s = take (p - 19) (drop 19 s)
+
+-- digit i behind the point, 0 where there is none
+abbrev pub fractionDigit : List ℕ → ℕ → ℕ
+fractionDigit f i = cond (ltb i (length f)) (getD f i 0 - code "0") 0
+
+-- tenths, hundredths and thousandths as milliseconds: ".5" is 500, ".05" is 50, and no fraction is 0
+abbrev pub millisecondIn : List ℕ → ℕ
+millisecondIn f = 100 * fractionDigit f 1 + 10 * fractionDigit f 2 + fractionDigit f 3
 
 -- "-" is west
 abbrev pub westOf : ℕ → ℕ
 westOf b = cond (eqb b (code "-")) 1 0
 
--- `time-offset`, from place 19 on: "Z", or a sign, hours and minutes. "-00:00" is (1, 0), apart from "Z" (section 4.3)
-abbrev pub offsetIn : List ℕ → Offset
-offsetIn s = cond (hasNumoffset s) (record { west = westOf (getD s 19 0); minutes = 60 * twoAt s 20 + twoAt s 23 }) zulu
+-- a `time-offset` is "Z", or the six bytes of a `time-numoffset`
+abbrev pub hasNumoffset : List ℕ → Bool
+hasNumoffset u = leb 6 (length u)
 
--- the stamp whose numbers stand in their places
+-- `time-offset`: "Z", or a sign, hours and minutes. "-00:00" is (1, 0), apart from "Z" (section 4.3)
+abbrev pub offsetIn : List ℕ → Offset
+offsetIn u = cond (hasNumoffset u) (record { west = westOf (getD u 0 0); minutes = 60 * twoAt u 1 + twoAt u 4 }) zulu
+
+-- the stamp whose numbers stand in their places, with the offset from p on
+abbrev pub stampAt : ℕ → List ℕ → Stamp
+stampAt p s = record { moment = momentIn (millisecondIn (fractionAt p s)) s; offset = offsetIn (drop p s) }
+
 abbrev pub stampIn : List ℕ → Stamp
-stampIn s = record { moment = momentIn s; offset = offsetIn s }
+stampIn s = stampAt (offsetPlace s) s
 
 -- "time-hour ; 00-23", "time-minute ; 00-59" of the offset; "Z" has none
 abbrev pub offsetExists : List ℕ → Bool
-offsetExists s = cond (hasNumoffset s) (isTime (twoAt s 20) (twoAt s 23) 0) true
+offsetExists u = cond (hasNumoffset u) (isTime (twoAt u 1) (twoAt u 4) 0 0) true
 
 -- section 5.7: the month has the day, by the leap rule, and the time of day exists; "A second of 60 isn't taken"
 abbrev pub momentExists : Moment → Bool
-momentExists t = isDayOfMonth (t .year) (t .month) (t .day) && isTime (t .hour) (t .minute) (t .second)
+momentExists t = isDayOfMonth (t .year) (t .month) (t .day) && isTime (t .hour) (t .minute) (t .second) (t .millisecond)
 
 -- "then 12 for year 0000"
 abbrev pub inYears : Stamp → Answer Stamp
@@ -54,7 +74,8 @@ inYears st = cond (eqb (st .moment .year) 0) (refuse Outside 0 0) (given st)
 
 -- what a text of the grammar says: 14 for "an impossible date, time or offset"
 abbrev pub judged : List ℕ → Answer Stamp
-judged s = cond (momentExists (momentIn s) && offsetExists s) (inYears (stampIn s)) (refuse NoStamp 0 0)
+judged s =
+    cond (momentExists (stampIn s .moment) && offsetExists (drop (offsetPlace s) s)) (inYears (stampIn s)) (refuse NoStamp 0 0)
 
 -- "14 for any other form"
 unfoldable pub stampOf : List ℕ → Answer Stamp
@@ -77,9 +98,13 @@ signOf w = cond (eqb w 0) (code "+") (code "-")
 abbrev pub offsetText : Offset → List ℕ
 offsetText o = cond (isZulu o) (bytesOf "Z") (marked (signOf (o .west)) (o .minutes / 60) ++ marked (code ":") (o .minutes % 60))
 
+-- "writes three, or none for zero"
+abbrev pub fractionText : ℕ → List ℕ
+fractionText ms = cond (eqb ms 0) [] (code "." ∷ digitsOf 3 ms)
+
 -- "The writer uses capitals"
 abbrev pub stampText : Stamp → List ℕ
-stampText st = momentText (code "T") (st .moment) ++ offsetText (st .offset)
+stampText st = momentText (code "T") (st .moment) ++ fractionText (st .moment .millisecond) ++ offsetText (st .offset)
 
 -- "a numeric offset up to 23:59", east or west
 pub record IsOffset (o : Offset) : Type 0 where
@@ -103,9 +128,17 @@ writtenOf st room =
 abbrev pub plainOffset : List ℕ → List ℕ
 plainOffset u = cond (same u (bytesOf "+00:00")) (bytesOf "Z") (map capitalOf u)
 
+-- a fraction filled up to three digits
+abbrev pub filledUp : List ℕ → List ℕ
+filledUp f = f ++ drop (length f) (bytesOf ".000")
+
+-- a fraction's text as the writer has it: three digits, or none for zero
+abbrev pub plainFraction : List ℕ → List ℕ
+plainFraction f = cond (same (filledUp f) (bytesOf ".000")) [] (filledUp f)
+
 -- a stamp's text as the writer has it
 abbrev pub plain : List ℕ → List ℕ
-plain s = map capitalOf (take 19 s) ++ plainOffset (drop 19 s)
+plain s = let p = offsetPlace s in map capitalOf (take 19 s) ++ plainFraction (fractionAt p s) ++ plainOffset (drop p s)
 
 -- the code's answer: number 0 and the text's length, or a refusal's number and no byte
 abbrev pub wroteOf : Answer (List ℕ) → Wrote

@@ -2,6 +2,7 @@
 use super::Offset;
 use super::Stamp;
 use calendar::fixed::put_moment;
+use digits::put::put_digits;
 use digits::put::put_pair;
 use refusals::NO_NOW;
 use refusals::NO_ROOM;
@@ -10,7 +11,7 @@ ghost use mathlib.Core.Path.{_≡_};
 ghost use Prim.Native.Nat.{_+_, _≤_};
 ghost use lib.ListN.{length};
 ghost use lib.Seq.{sets};
-ghost use Rattle.stamp.specs.Stamps.{isZulu, signOf, offsetText, isOffset, writtenOf, wroteOf, bufferOf};
+ghost use Rattle.stamp.specs.Stamps.{isZulu, signOf, offsetText, fractionText, stampText, isOffset, writtenOf, wroteOf, bufferOf};
 
 // How a writing ended: number 0 and the count of bytes, or a refusal's number and count 0.
 pub struct Wrote {
@@ -38,11 +39,18 @@ fn is_zulu(o: Offset) -> bool
     false
 }
 
-// How many bytes a stamp with this offset takes.
-fn size(o: Offset) -> usize
-    ensures { λ r. ⌜ r ≡ 19 + length (offsetText o) ⌝ }
+// How many bytes an offset takes.
+fn offset_size(o: Offset) -> usize
+    ensures { λ r. ⌜ r ≡ length (offsetText o) ⌝ }
 {
-    if is_zulu(o) { 20 } else { 25 }
+    if is_zulu(o) { 1 } else { 6 }
+}
+
+// How many bytes a fraction takes.
+fn fraction_size(ms: u32) -> usize
+    ensures { λ r. ⌜ r ≡ length (fractionText ms) ⌝ }
+{
+    if ms == 0 { 0 } else { 4 }
 }
 
 // The sign of an offset.
@@ -52,17 +60,47 @@ fn sign_of(west: u32) -> u8
     if west == 0 { b'+' } else { b'-' }
 }
 
-// An offset, written behind a moment.
-fn put_offset(out: &mut [u8], o: Offset)
-    requires { ⌜ 19 + length (offsetText o) ≤ length (now out) ⌝ }
-    ensures { λ _. ⌜ now (out .exit) ≡ sets (now (out .entry)) 19 (offsetText o) ⌝ }
+// A fraction, written behind a moment.
+fn put_fraction(out: &mut [u8], ms: u32)
+    requires { ⌜ 19 + length (fractionText ms) ≤ length (now out) ⌝ }
+    ensures { λ _. ⌜ now (out .exit) ≡ sets (now (out .entry)) 19 (fractionText ms) ⌝ }
 {
-    if is_zulu(o) {
-        out[19] = b'Z';
+    if ms == 0 {
         return;
     }
-    put_pair(out, 19, sign_of(o.west), o.minutes / 60);
-    put_pair(out, 22, b':', o.minutes % 60);
+    out[19] = b'.';
+    put_digits(out, 20, 3, ms as u64);
+}
+
+// An offset, written from a place on.
+fn put_offset(out: &mut [u8], at: usize, o: Offset)
+    requires { ⌜ at + length (offsetText o) ≤ length (now out) ⌝ }
+    ensures { λ _. ⌜ now (out .exit) ≡ sets (now (out .entry)) at (offsetText o) ⌝ }
+{
+    if is_zulu(o) {
+        out[at] = b'Z';
+        return;
+    }
+    put_pair(out, at, sign_of(o.west), o.minutes / 60);
+    put_pair(out, at + 3, b':', o.minutes % 60);
+}
+
+// A stamp's text, written at the front.
+fn put_stamp(out: &mut [u8], stamp: Stamp)
+    requires { ⌜ length (stampText stamp) ≤ length (now out) ⌝ }
+    ensures { λ _. ⌜ now (out .exit) ≡ sets (now (out .entry)) 0 (stampText stamp) ⌝ }
+{
+    let at = 19 + fraction_size(stamp.moment.millisecond);
+    put_moment(out, b'T', stamp.moment);
+    put_fraction(out, stamp.moment.millisecond);
+    put_offset(out, at, stamp.offset);
+}
+
+// How many bytes a stamp's text takes.
+fn size(stamp: Stamp) -> usize
+    ensures { λ r. ⌜ r ≡ length (stampText stamp) ⌝ }
+{
+    19 + fraction_size(stamp.moment.millisecond) + offset_size(stamp.offset)
 }
 
 // A stamp as text at the front of a lent buffer: 8 for no moment, 14 for an offset out of range, 17 for a buffer too short.
@@ -72,15 +110,14 @@ pub fn write_stamp(stamp: Stamp, out: &mut [u8]) -> Wrote
 {
     if stamp.moment.valid() {
         if valid_offset(stamp.offset) {
-            let n = size(stamp.offset);
+            let n = size(stamp);
             if out.len() < n {
                 return Wrote {
                     number: NO_ROOM,
                     count: 0,
                 };
             }
-            put_moment(out, b'T', stamp.moment);
-            put_offset(out, stamp.offset);
+            put_stamp(out, stamp);
             return Wrote {
                 number: 0,
                 count: n,

@@ -28,7 +28,7 @@ fn read_back(stamp: Stamp, out: &mut [u8]) {
 
 // A stamp as text, and what that is read as.
 fn there_and_back(stamp: Stamp) {
-    let mut out = [0u8; 25];
+    let mut out = [0u8; 29];
     read_back(stamp, &mut out);
 }
 
@@ -38,7 +38,7 @@ fn day(n: u32) {
     let Reached::At(t) = r else {
         return;
     };
-    let moment = t.with_time(n % 24, n % 60, n % 59);
+    let moment = t.with_time(n % 24, n % 60, n % 59, n % 1000);
     let offset = Offset {
         west: 0,
         minutes: 0,
@@ -59,15 +59,17 @@ fn with_offset(moment: Moment, west: u32, minutes: u32) -> Stamp {
     Stamp { moment, offset }
 }
 
-// The last second of 29 February of a year.
-fn february(year: u32) -> Moment {
-    Moment::last().with_date(year, 2, 29)
+// The last second of 29 February of a year, with so many milliseconds.
+fn february(year: u32, ms: u32) -> Moment {
+    Moment::last()
+        .with_date(year, 2, 29)
+        .with_time(23, 59, 59, ms)
 }
 
-// All offsets to one side.
+// All offsets to one side, and all milliseconds.
 fn offsets(west: u32) {
     for m in 0..1440 {
-        there_and_back(with_offset(february(2024), west, m));
+        there_and_back(with_offset(february(2024, m % 1000), west, m));
     }
 }
 
@@ -84,26 +86,31 @@ fn written_in(stamp: Stamp, out: &mut [u8], room: usize)
 
 // The same in a buffer full of dots.
 fn written(stamp: Stamp, room: usize)
-    requires { ⌜ room ≤ 26 ⌝ }
+    requires { ⌜ room ≤ 30 ⌝ }
 {
-    let mut out = *b"..........................";
+    let mut out = *b"..............................";
     written_in(stamp, &mut out, room);
 }
 
 // Exactly enough room and a byte too few, and which refusal comes first.
 fn rooms() {
-    written(with_offset(february(2024), 0, 0), 26);
-    written(with_offset(february(2024), 0, 0), 20);
-    written(with_offset(february(2024), 0, 0), 19);
-    written(with_offset(february(2024), 0, 1439), 26);
-    written(with_offset(february(2024), 0, 1439), 25);
-    written(with_offset(february(2024), 0, 1439), 24);
-    written(with_offset(february(2024), 1, 0), 25);
-    written(with_offset(february(2024), 1, 0), 24);
-    written(with_offset(february(2024), 0, 1440), 0);
-    written(with_offset(february(2024), 2, 0), 0);
-    written(with_offset(february(2026), 2, 1440), 0);
-    written(with_offset(february(0), 0, 0), 26);
+    written(with_offset(february(2024, 0), 0, 0), 30);
+    written(with_offset(february(2024, 0), 0, 0), 20);
+    written(with_offset(february(2024, 0), 0, 0), 19);
+    written(with_offset(february(2024, 0), 0, 1439), 25);
+    written(with_offset(february(2024, 0), 0, 1439), 24);
+    written(with_offset(february(2024, 0), 1, 0), 25);
+    written(with_offset(february(2024, 0), 1, 0), 24);
+    written(with_offset(february(2024, 1), 0, 0), 24);
+    written(with_offset(february(2024, 1), 0, 0), 23);
+    written(with_offset(february(2024, 999), 1, 1439), 30);
+    written(with_offset(february(2024, 999), 1, 1439), 29);
+    written(with_offset(february(2024, 999), 1, 1439), 28);
+    written(with_offset(february(2024, 999), 0, 1440), 0);
+    written(with_offset(february(2024, 1), 2, 0), 0);
+    written(with_offset(february(2026, 0), 2, 1440), 0);
+    written(with_offset(february(2024, 1000), 2, 1440), 0);
+    written(with_offset(february(0, 0), 0, 0), 30);
 }
 
 // Texts at the edges of the grammar.
@@ -123,8 +130,23 @@ fn edges() {
     line(b"0000-02-30T00:00:00Z");
     line(b"0000-02-29T00:00:00+24:00");
     line(b"2024-02-29 23:59:59Z");
-    line(b"2024-02-29T23:59:59.5Z");
     line(b"2024-02-29T23:59:59");
+    line(b"2024-02-29T23:59:59.5Z");
+    line(b"2024-02-29T23:59:59.05z");
+    line(b"2024-02-29T23:59:59.005Z");
+    line(b"2024-02-29T23:59:59.0005Z");
+    line(b"2024-02-29T23:59:59.000Z");
+    line(b"2024-02-29T23:59:59.Z");
+    line(b"2024-02-29T23:59:59.-01:00");
+    line(b"2024-02-29T23:59:59.9-01:00");
+    line(b"2024-02-29T23:59:59.99+01:00");
+    line(b"2024-02-29T23:59:59.999-00:00");
+    line(b"2024-02-29T23:59:59.9999+01:00");
+    line(b"2024-02-29T23:59:59,5Z");
+    line(b"2024-02-29T23:59:59.5");
+    line(b"2024-02-29T23:59:60.5Z");
+    line(b"0000-02-29T23:59:59.5Z");
+    line(b"2024-02-29T23:59:59.5+24:00");
     line(b"2024-02-29T23:59:59ZZ");
     line(b"2024-02-29T23:59:59+00:000");
     line(b"2024-02-29T23:59:59Z\n");
@@ -141,4 +163,6 @@ fn main() {
     changes(&mut zulu);
     let mut west = *b"2024-02-29T12:34:56-05:30";
     changes(&mut west);
+    let mut fraction = *b"2024-02-29T12:34:56.070+05:30";
+    changes(&mut fraction);
 }

@@ -15,7 +15,7 @@ pub(crate) fn number(n: u64) {
     io::print_decimal(1, n);
 }
 
-// The six numbers of a moment.
+// The seven numbers of a moment.
 fn moment(t: Moment) {
     number(t.year as u64);
     number(t.month as u64);
@@ -23,9 +23,10 @@ fn moment(t: Moment) {
     number(t.hour as u64);
     number(t.minute as u64);
     number(t.second as u64);
+    number(t.millisecond as u64);
 }
 
-// A text that is a stamp, and its eight numbers.
+// A text that is a stamp, and its nine numbers.
 pub(crate) fn stamp_line(s: &[u8], stamp: Stamp) {
     text(s);
     moment(stamp.moment);

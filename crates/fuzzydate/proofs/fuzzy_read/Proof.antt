@@ -13,9 +13,9 @@ use borrow.Author.Needs.{needs}
 use Rattle.fuzzydate.proofs.fuzzy_read.Statement.{statement}
 use Rattle.fuzzydate.proofs.fuzzy_read.Tie as tie
 
--- the now of six numbers
+-- the now of seven numbers
 abbrev nowOf : tie.Start → Moment
-nowOf c = let a = c .args in momentOf (a .year) (a .month) (a .day) (a .hour) (a .minute) (a .second)
+nowOf c = let a = c .args in momentOf (a .year) (a .month) (a .day) (a .hour) (a .minute) (a .second) (a .millisecond)
 
 -- the phrase's answer at it
 abbrev answerAt : tie.Start → Answer Moment

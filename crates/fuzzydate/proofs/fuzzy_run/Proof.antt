@@ -10,9 +10,9 @@ use borrow.Author.Needs.{needs}
 use Rattle.fuzzydate.proofs.fuzzy_run.Statement.{statement}
 use Rattle.fuzzydate.proofs.fuzzy_run.Tie as tie
 
--- the now of six numbers
+-- the now of seven numbers
 abbrev nowOf : tie.Start → Moment
-nowOf c = let a = c .args in momentOf (a .year) (a .month) (a .day) (a .hour) (a .minute) (a .second)
+nowOf c = let a = c .args in momentOf (a .year) (a .month) (a .day) (a .hour) (a .minute) (a .second) (a .millisecond)
 
 -- what the ready phrase gives is what the code's answer stands for
 stands :

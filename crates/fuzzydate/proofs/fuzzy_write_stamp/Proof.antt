@@ -12,8 +12,8 @@ use Rattle.fuzzydate.proofs.fuzzy_write_stamp.Tie as tie
 written :
     (c : tie.After-write-stamp) →
     let a = c .before .before .before .args in
-    Coded (writtenOf (numbersStamp (a .year) (a .month) (a .day) (a .hour) (a .minute) (a .second) (a .west) (a .offset)) (length (now (a .text))))
-    (c .write-stamp .result)
+    let stamp = numbersStamp (a .year) (a .month) (a .day) (a .hour) (a .minute) (a .second) (a .millisecond) (a .west) (a .offset) in
+    Coded (writtenOf stamp (length (now (a .text)))) (c .write-stamp .result)
 written c = coded _ _ (c .write-stamp .ensures .0)
 
 write-stamp-requires : tie.Need-write-stamp-requires

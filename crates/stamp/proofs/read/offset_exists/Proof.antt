@@ -17,7 +17,8 @@ valid-time-requires : tie.Need-valid-time-requires
 valid-time-requires c κs = search needs
 
 returns-2 : tie.Need-returns-2
-returns-2 c = rw (le-leb _ _ (c .before .before .before .if1 .left), c .valid-time .ensures, c .before .two2 .ensures .0, c .before .before .two .ensures .0)
+returns-2 c =
+    rw (le-leb _ _ (c .before .before .before .if1 .left), c .valid-time .ensures, c .before .two2 .ensures .0, c .before .before .two .ensures .0)
 
 pub offset-exists-spec : {M : Type 1} → statement M
 offset-exists-spec =

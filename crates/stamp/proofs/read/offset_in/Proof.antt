@@ -26,7 +26,8 @@ add-t10 : tie.Need-add-t10
 add-t10 c = search needs
 
 returns-2 : tie.Need-returns-2
-returns-2 c = rw (le-leb _ _ (c .before .before .before .before .if1 .left), c .two2 .ensures .0, c .before .two .ensures .0, c .before .before .west-of .ensures)
+returns-2 c =
+    rw (le-leb _ _ (c .before .before .before .before .if1 .left), c .two2 .ensures .0, c .before .two .ensures .0, c .before .before .west-of .ensures)
 
 pub offset-in-spec : {M : Type 1} → statement M
 offset-in-spec =

@@ -2,7 +2,7 @@
 use borrow.Author.Needs.{needs}
 use mathlib.Core.Path.{sym, _∙_}
 use Rattle.stamp.specs.Stamps.{stampOf}
-use Rattle.stamp.proofs.Grammar.{long-enough}
+use Rattle.stamp.proofs.Grammar.{parts}
 use Rattle.stamp.proofs.read.read_stamp.Statement.{statement}
 use Rattle.stamp.proofs.read.read_stamp.Tie as tie
 
@@ -10,7 +10,7 @@ is-date-time-requires : tie.Need-is-date-time-requires
 is-date-time-requires c κs = search needs
 
 judge-requires : tie.Need-judge-requires
-judge-requires c κs = long-enough _ (sym (c .before .is-date-time .ensures) ∙ c .if1 .taken)
+judge-requires c κs = parts _ (sym (c .before .is-date-time .ensures) ∙ c .if1 .taken) .size
 
 returns : tie.Need-returns
 unfolding stampOf

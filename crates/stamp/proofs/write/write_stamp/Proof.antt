@@ -24,20 +24,16 @@ returns c =
     let offset = c .before .before .before in
     let moment = offset .before .before in
     let args = moment .before .before .args in
-    let size : c .before .size .result ≡ length (stampText (args .stamp)) = omega (arith, c .before .size .ensures) in
     rw (
       ← (moment .valid .ensures),
       offset .before .if1 .taken,
       ← (offset .valid-offset .ensures),
       c .before .before .if2 .taken,
-      lt-leb (length (stampText (args .stamp))) (length (now (args .out))) (omega (arith, c .if3 .taken)),
+      lt-leb (length (stampText (args .stamp))) (length (now (args .out))) (omega (arith, c .before .size .ensures, c .if3 .taken)),
     ) (refl, refl)
 
-put-moment-requires : tie.Need-put-moment-requires
-put-moment-requires c κs = search needs
-
-put-offset-requires : tie.Need-put-offset-requires
-put-offset-requires c κs = search needs
+put-stamp-requires : tie.Need-put-stamp-requires
+put-stamp-requires c κs = omega (arith, c .before .before .size .ensures, c .before .if3 .left)
 
 same-length : tie.Need-same-length
 same-length c = search needs
@@ -45,19 +41,17 @@ same-length c = search needs
 returns-2 : tie.Need-returns-2
 unfolding writtenOf
 returns-2 c =
-    let put = c .before .before .before .before .before .before in
-    let room = put .before .before in
+    let room = c .before .before .before .before in
     let offset = room .before .before .before in
     let moment = offset .before .before in
     let args = moment .before .before .args in
-    let size : room .before .size .result ≡ length (stampText (args .stamp)) = omega (arith, room .before .size .ensures) in
     rw (
       ← (moment .valid .ensures),
       offset .before .if1 .taken,
       ← (offset .valid-offset .ensures),
       room .before .before .if2 .taken,
-      le-leb (length (stampText (args .stamp))) (length (now (args .out))) (omega (arith, room .if3 .left)),
-    ) (rw size, rw (c .before .before .put-offset .ensures, put .put-moment .ensures))
+      le-leb (length (stampText (args .stamp))) (length (now (args .out))) (omega (arith, room .before .size .ensures, room .if3 .left)),
+    ) (rw (room .before .size .ensures), c .before .before .put-stamp .ensures)
 
 returns-3 : tie.Need-returns-3
 unfolding writtenOf
@@ -77,8 +71,7 @@ write-stamp-spec =
     valid-offset-requires
     size-requires
     returns
-    put-moment-requires
-    put-offset-requires
+    put-stamp-requires
     same-length
     returns-2
     returns-3

@@ -1,0 +1,14 @@
+-- `stamp::write::fraction_size` meets its contract. Assumes nothing.
+use borrow.Author.Needs.{needs}
+use borrow.Author.Tests.{eq-eqb, ne-eqb}
+use Rattle.stamp.proofs.write.fraction_size.Statement.{statement}
+use Rattle.stamp.proofs.write.fraction_size.Tie as tie
+
+returns : tie.Need-returns
+returns c = rw (eq-eqb _ _ (c .if1 .taken))
+
+returns-2 : tie.Need-returns-2
+returns-2 c = rw (ne-eqb _ _ (c .if1 .left))
+
+pub fraction-size-spec : {M : Type 1} → statement M
+fraction-size-spec = tie.close (tie.spec returns returns-2)
