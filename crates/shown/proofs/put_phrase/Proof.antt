@@ -20,7 +20,7 @@ add-n : tie.Need-add-n
 add-n c = search needs
 
 returns : tie.Need-returns
-returns c = 
+returns c =
     let args = c .before .before .before .before .args in
     let text = now (args .name) ++ restText (args .t) in
     let size = length-append (now (args .name)) (restText (args .t)) in
@@ -36,7 +36,7 @@ same-length : tie.Need-same-length
 same-length c = search needs
 
 returns-2 : tie.Need-returns-2
-returns-2 c = 
+returns-2 c =
     let name = c .before .before .before .before .before .before in
     let room = name .before .before in
     let args = room .before .before .before .before .args in

@@ -19,22 +19,28 @@ put-bytes-requires : tie.Need-put-bytes-requires
 put-bytes-requires c κs = omega (arith, rest-length (c .before .before .before .before .before .before .before .before .before .before .before .args .t))
 
 add-put-number : tie.Need-add-put-number
-add-put-number c = omega (arith, rest-length (c .before .before .before .before .before .before .before .before .before .before .before .before .before .before .before .args .t))
+add-put-number c =
+    let link = c .before .before .before .before .before .before .before in
+    omega (arith, rest-length (link .before .before .before .before .before .before .before .before .args .t))
 
 cast-put-number : tie.Need-cast-put-number
 cast-put-number c = search needs
 
 put-number-requires : tie.Need-put-number-requires
-put-number-requires c κs = omega (arith, rest-length (c .before .before .before .before .before .before .before .before .before .before .before .before .before .before .before .before .args .t))
+put-number-requires c κs =
+    let link = c .before .before .before .before .before .before .before .before in
+    omega (arith, rest-length (link .before .before .before .before .before .before .before .before .args .t))
 
 put-pair-requires : tie.Need-put-pair-requires
-put-pair-requires c κs = omega (arith, rest-length (c .before .before .before .before .before .before .before .before .before .before .before .before .before .before .before .before .before .before .before .before .args .t))
+put-pair-requires c κs =
+    let link = c .before .before .before .before .before .before .before .before .before .before .before .before in
+    omega (arith, rest-length (link .before .before .before .before .before .before .before .before .args .t))
 
 same-length : tie.Need-same-length
 same-length c = search needs
 
 returns : tie.Need-returns
-returns c = 
+returns c =
     let hour = c .before .before .before .before .before .before in
     let link = hour .before .before .before .before .before in
     let year = link .before .before .before .before .before in

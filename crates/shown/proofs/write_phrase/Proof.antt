@@ -19,14 +19,14 @@ same-length c = search needs
 
 returns : tie.Need-returns
 unfolding shownOf
-returns c = 
+returns c =
     let whole = c .before .before .before .before .before in
     let moment = whole .before .before in
     rw (← (moment .valid .ensures), whole .before .if1 .taken, ← (whole .is-whole .ensures), c .before .before .before .before .if2 .taken) (c .before .before .put-named .ensures)
 
 returns-2 : tie.Need-returns-2
 unfolding shownOf
-returns-2 c = 
+returns-2 c =
     rw (← (c .before .before .before .valid .ensures), c .before .before .if1 .taken, ← (c .before .is-whole .ensures), c .if2 .left) (refl, refl)
 
 returns-3 : tie.Need-returns-3
