@@ -21,18 +21,21 @@
 extern "C" {
 #endif
 
-/* A date and time of the years 1 to 9999: year, month 1 to 12, day, hour, minute, second. */
-#define FUZZY_MOMENT_NUMBERS 6
+/* A date and time of the years 1 to 9999: year, month 1 to 12, day, hour, minute, second, millisecond 0 to 999. */
+#define FUZZY_MOMENT_NUMBERS 7
 
 /* The room that any ready phrase needs, in bytes. */
 #define FUZZY_READY_SIZE 384
 
-/* A stamp: a moment's six numbers, then west and offset. The offset is 0 to 1439 minutes, east of UTC where west is 0 and west of it where west
- * is 1. West 1 with offset 0 is "-00:00", the offset that is not known. */
-#define FUZZY_STAMP_NUMBERS 8
+/* A stamp: a moment's seven numbers, then west and offset. The offset is 0 to 1439 minutes, east of UTC where west is 0 and west of it where
+ * west is 1. West 1 with offset 0 is "-00:00", the offset that is not known. */
+#define FUZZY_STAMP_NUMBERS 9
 
-/* The room that any stamp's text needs, in bytes; one with offset zero needs 20. */
-#define FUZZY_STAMP_SIZE 25
+/* The room that any stamp's text needs, in bytes; one with offset zero needs 24, and one with millisecond 0 needs four less. */
+#define FUZZY_STAMP_SIZE 29
+
+/* What is found of a word: its lexeme's code or 0, and the comparisons made. */
+#define FUZZY_FOUND_NUMBERS 2
 
 /* The room that any moment's phrase needs, in bytes. */
 #define FUZZY_PHRASE_SIZE 26
@@ -67,9 +70,10 @@ enum fuzzy_refusal {
     FUZZY_NO_ROOM = 17         /* the lent text is too short */
 };
 
-/* A phrase at a now, in one of the two readings. 0: the moment's six numbers are in `moment`. Else a refusal. */
+/* A phrase at a now, in one of the two readings. 0: the moment's seven numbers are in `moment`. Else a refusal. Where the phrase states a
+ * time, noon and midnight too, second and millisecond are 0; else they are now's. */
 uint64_t fuzzy_read(uint32_t reading, const uint8_t *phrase, size_t phrase_length, uint32_t year, uint32_t month, uint32_t day, uint32_t hour,
-                    uint32_t minute, uint32_t second, uint32_t moment[FUZZY_MOMENT_NUMBERS]);
+                    uint32_t minute, uint32_t second, uint32_t millisecond, uint32_t moment[FUZZY_MOMENT_NUMBERS]);
 
 /* A phrase made ready without a now, to be stored, sent and run later. fuzzy_number 0: the first fuzzy_length bytes of `ready` are the
  * ready phrase. Else a refusal of 1 to 7 or 15, the same that fuzzy_read gives. The ready phrase's steps are those of the reading that it was
@@ -78,17 +82,23 @@ uint64_t fuzzy_make_ready(uint32_t reading, const uint8_t *phrase, size_t phrase
 
 /* A ready phrase at a now: what fuzzy_read gives for its phrase at that now. Bytes that are no ready phrase are refused with 9. */
 uint64_t fuzzy_run(const uint8_t *ready, size_t ready_length, uint32_t year, uint32_t month, uint32_t day, uint32_t hour, uint32_t minute,
-                   uint32_t second, uint32_t moment[FUZZY_MOMENT_NUMBERS]);
+                   uint32_t second, uint32_t millisecond, uint32_t moment[FUZZY_MOMENT_NUMBERS]);
 
-/* A text as an RFC 3339 stamp, all of it: "2026-02-11T09:30:15Z", or with an offset as in "2026-02-11T09:30:15+05:30"; letters in either case,
- * no fraction. 0: its eight numbers are in `stamp`, the civil moment as it is written and the offset. Else 14; or 12 for a stamp of year 0. */
+/* A text as an RFC 3339 stamp, all of it: "2026-02-11T09:30:15Z", or with an offset as in "2026-02-11T09:30:15+05:30"; letters in either
+ * case. Behind the second there may be a "." and one to three digits: ".5" is 500 milliseconds, ".05" is 50. 0: its nine numbers are in
+ * `stamp`, the civil moment as it is written and the offset. Else 14; or 12 for a stamp of year 0. */
 uint64_t fuzzy_read_stamp(const uint8_t *text, size_t text_length, uint32_t stamp[FUZZY_STAMP_NUMBERS]);
 
-/* A stamp as text, in capitals, with "Z" for offset zero, at the front of `text`; what stands behind it stays. fuzzy_number 0: the text has
- * fuzzy_length bytes, and reads back as the same stamp. Else 8 for no moment, 14 for a west above 1 or an offset above 1439, 17 for a text
- * too short, in this order. */
-uint64_t fuzzy_write_stamp(uint32_t year, uint32_t month, uint32_t day, uint32_t hour, uint32_t minute, uint32_t second, uint32_t west,
-                           uint32_t offset, uint8_t *text, size_t text_length);
+/* A stamp as text, in capitals, with a fraction of three digits, or none for millisecond 0, and with "Z" for offset zero, at the front of
+ * `text`; what stands behind it stays. fuzzy_number 0: the text has fuzzy_length bytes, and reads back as the same stamp. Else 8 for no moment,
+ * 14 for a west above 1 or an offset above 1439, 17 for a text too short, in this order. */
+uint64_t fuzzy_write_stamp(uint32_t year, uint32_t month, uint32_t day, uint32_t hour, uint32_t minute, uint32_t second,
+                           uint32_t millisecond, uint32_t west, uint32_t offset, uint8_t *text, size_t text_length);
+
+/* A word of a phrase while it is typed: whether it is one of the words of a reading. 0: found[0] is its lexeme's code, the same for words that mean
+ * the same, or 0 where the reading has no such word; found[1] is how many words of the reading's table it was compared with, never more than 8.
+ * Letters in either case; an empty word, and one with bytes that are no letters, is absent, and counted like any other. Else 15. */
+uint64_t fuzzy_find_word(uint32_t reading, const uint8_t *word, size_t word_length, uint32_t found[FUZZY_FOUND_NUMBERS]);
 
 /* A moment as a phrase for people to edit, "march 4 2026 at 9:05", at the front of `text`; what stands behind it stays. fuzzy_number 0: the
  * phrase has fuzzy_length bytes, 15 to 26, and fuzzy_read gives that moment back at every now, in both readings for the years 1000 to 9999,

@@ -9,6 +9,8 @@
 
 #define MOST_LINES 20000
 #define MOST_TEXT 8192
+#define NUMBERS FUZZY_MOMENT_NUMBERS
+#define MOMENT_SIZE (NUMBERS * sizeof(uint32_t))
 
 static struct field phrases, moments, readies;
 static struct line lines[MOST_LINES];
@@ -28,46 +30,42 @@ static void add_number(uint64_t n) {
     add(&n, sizeof n);
 }
 
-/* xorshift64: the same numbers on every machine. */
-static uint64_t state = 88172645463325252u;
-
-static size_t random_below(size_t n) {
-    state ^= state << 13;
-    state ^= state >> 7;
-    state ^= state << 17;
-    return (size_t)((state >> 11) % n);
-}
-
 /* What was lent may hold a moment where the answer is 0, and else nothing new. */
 static void add_moment(uint64_t answer, const uint8_t *moment) {
-    size_t written = answer == 0 ? 6 * sizeof(uint32_t) : 0;
-    if (!kept_but(moments, moment, 6 * sizeof(uint32_t), written)) stop("something else than the moment was written");
+    size_t written = answer == 0 ? MOMENT_SIZE : 0;
+    if (!kept_but(moments, moment, MOMENT_SIZE, written)) stop("something else than the moment was written");
     add_number(answer);
     add(moment, written);
 }
 
-static uint64_t run_at(const uint8_t *ready, size_t length, const uint32_t now[6], int upper, uint32_t numbers[6]) {
-    uint8_t *moment = lent(moments, 6 * sizeof(uint32_t), upper);
-    uint64_t answer = fuzzy_run(ready, length, now[0], now[1], now[2], now[3], now[4], now[5], (uint32_t *)(void *)moment);
+static uint64_t run_at(const uint8_t *ready, size_t length, const uint32_t now[NUMBERS], int upper, uint32_t numbers[NUMBERS]) {
+    uint8_t *moment = lent(moments, MOMENT_SIZE, upper);
+    uint64_t answer = fuzzy_run(ready, length, now[0], now[1], now[2], now[3], now[4], now[5], now[6], (uint32_t *)(void *)moment);
     add_moment(answer, moment);
-    memcpy(numbers, moment, 6 * sizeof(uint32_t));
+    memcpy(numbers, moment, MOMENT_SIZE);
     return answer;
 }
 
+/* A phrase keeps now's second and millisecond, or it states a time: then both are 0. */
+static int kept_or_stated(const uint32_t now[NUMBERS], const uint32_t m[NUMBERS]) {
+    return (m[5] == now[5] && m[6] == now[6]) || (m[5] == 0 && m[6] == 0);
+}
+
 /* One phrase at one now, by all three functions; its moment's numbers. */
-static uint64_t answered(const uint8_t *bytes, size_t n, const uint32_t now[6], uint32_t numbers[6]) {
+static uint64_t answered(const uint8_t *bytes, size_t n, const uint32_t now[NUMBERS], uint32_t numbers[NUMBERS]) {
     int upper = (int)random_below(2);
     uint8_t *phrase = lent(phrases, n, upper);
-    uint8_t *moment = lent(moments, 6 * sizeof(uint32_t), upper);
-    uint32_t again[6];
+    uint8_t *moment = lent(moments, MOMENT_SIZE, upper);
+    uint32_t again[NUMBERS];
     uint64_t answer, made;
     uint8_t *ready;
     size_t length;
 
     memcpy(phrase, bytes, n);
-    answer = fuzzy_read(reading, phrase, n, now[0], now[1], now[2], now[3], now[4], now[5], (uint32_t *)(void *)moment);
+    answer = fuzzy_read(reading, phrase, n, now[0], now[1], now[2], now[3], now[4], now[5], now[6], (uint32_t *)(void *)moment);
     add_moment(answer, moment);
-    memcpy(numbers, moment, 6 * sizeof(uint32_t));
+    memcpy(numbers, moment, MOMENT_SIZE);
+    if (answer == 0 && !kept_or_stated(now, numbers)) stop("second and millisecond are neither now's nor 0");
 
     ready = lent(readies, FUZZY_READY_SIZE, upper);
     made = fuzzy_make_ready(reading, phrase, n, ready);
@@ -90,8 +88,8 @@ static uint64_t answered(const uint8_t *bytes, size_t n, const uint32_t now[6], 
     return answer;
 }
 
-/* The answer as the replayed list has it, behind the last bar of its line. */
-static void compare(const char *expected, uint64_t answer, const uint32_t m[6]) {
+/* The answer as the replayed list has it, behind the last bar of its line, without milliseconds. */
+static void compare(const char *expected, uint64_t answer, const uint32_t m[NUMBERS]) {
     const char *bar = strrchr(expected, '|');
     char text[64];
     if (answer == 0) {
@@ -109,7 +107,7 @@ static void compare(const char *expected, uint64_t answer, const uint32_t m[6]) 
 static void replay(const char *list, const char *answers) {
     static char text[MOST_TEXT], expected[MOST_TEXT];
     FILE *in = fopen(list, "r"), *out = fopen(answers, "r");
-    uint32_t numbers[6];
+    uint32_t numbers[NUMBERS];
     if (in == NULL || out == NULL) stop("no list");
     while (fgets(text, sizeof text, in) != NULL && fgets(expected, sizeof expected, out) != NULL) {
         struct line *l = &lines[listed++];
@@ -139,22 +137,22 @@ static size_t random_phrase(uint8_t *phrase) {
 }
 
 /* Mostly a moment of the calendar, at times any numbers. */
-static void random_now(uint32_t now[6]) {
-    static const uint32_t most[6] = {9999, 12, 28, 24, 60, 60};
+static void random_now(uint32_t now[NUMBERS]) {
+    static const uint32_t most[NUMBERS] = {9999, 12, 28, 24, 60, 60, 1000};
     size_t i;
-    for (i = 0; i < 6; i++) now[i] = (uint32_t)random_below(most[i]) + (i < 3);
+    for (i = 0; i < NUMBERS; i++) now[i] = (uint32_t)random_below(most[i]) + (i < 3);
     if (random_below(8) == 0) now[2] = (uint32_t)(29 + random_below(3));
-    if (random_below(32) == 0) now[random_below(6)] = (uint32_t)random_below((size_t)1 << 32);
+    if (random_below(32) == 0) now[random_below(NUMBERS)] = (uint32_t)random_below((size_t)1 << 32);
 }
 
 int main(int count, char **arguments) {
     static uint8_t phrase[2 * MOST_PHRASE + 1];
-    uint32_t now[6], numbers[6];
+    uint32_t now[NUMBERS], numbers[NUMBERS];
     unsigned long i, rounds;
     if (count != 5) stop("usage: digest READING LIST ANSWERS COUNT");
     reading = (uint32_t)strtoul(arguments[1], NULL, 10);
     phrases = fenced(sizeof phrase);
-    moments = fenced(6 * sizeof(uint32_t));
+    moments = fenced(MOMENT_SIZE);
     readies = fenced(FUZZY_READY_SIZE);
     replay(arguments[2], arguments[3]);
     rounds = strtoul(arguments[4], NULL, 10);

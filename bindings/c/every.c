@@ -7,6 +7,9 @@
 #define PATTERN 0xa5
 #define GUARD 64
 
+/* 2026-02-11 09:30:15.250 */
+#define NOW 2026, 2, 11, 9, 30, 15, 250
+
 static int failed = 0;
 
 static void expect(int holds, const char *what) {
@@ -24,6 +27,7 @@ struct lent {
         uint8_t ready[FUZZY_READY_SIZE];
         uint32_t stamp[FUZZY_STAMP_NUMBERS];
         uint8_t text[2 * FUZZY_STAMP_SIZE];
+        uint32_t found[FUZZY_FOUND_NUMBERS];
     } in;
     uint8_t after[GUARD];
 };
@@ -48,7 +52,7 @@ static int kept_from(const struct lent *l, size_t from) {
 }
 
 static uint64_t read_at(uint32_t reading, const char *phrase, size_t n, struct lent *l) {
-    return fuzzy_read(reading, (const uint8_t *)phrase, n, 2026, 2, 11, 9, 30, 15, l->in.moment);
+    return fuzzy_read(reading, (const uint8_t *)phrase, n, NOW, l->in.moment);
 }
 
 /* a refusal with its number, place and length, and nothing written: by reading, and by making ready where it is one of 1 to 7 or 15 */
@@ -73,8 +77,9 @@ static void refused(const char *phrase, size_t n, unsigned number, size_t place,
 }
 
 /* a moment, by reading and by running what was made ready; bytes past what was written stay */
-static void given_as(uint32_t reading, const char *phrase, uint32_t y, uint32_t mo, uint32_t d, uint32_t h, uint32_t mi, uint32_t s) {
-    const uint32_t wanted[FUZZY_MOMENT_NUMBERS] = {y, mo, d, h, mi, s};
+static void given_as(uint32_t reading, const char *phrase, uint32_t y, uint32_t mo, uint32_t d, uint32_t h, uint32_t mi, uint32_t s,
+                     uint32_t ms) {
+    const uint32_t wanted[FUZZY_MOMENT_NUMBERS] = {y, mo, d, h, mi, s, ms};
     struct lent l = fresh();
     struct lent m = fresh();
     uint64_t made;
@@ -86,32 +91,46 @@ static void given_as(uint32_t reading, const char *phrase, uint32_t y, uint32_t 
     expect(fuzzy_number(made) == 0 && fuzzy_place(made) == 0, "a phrase that is made ready");
     expect(fuzzy_length(made) >= 16 && fuzzy_length(made) <= FUZZY_READY_SIZE && fuzzy_length(made) % 16 == 0, "its length");
     expect(kept_from(&l, fuzzy_length(made)), "nothing written but the ready phrase");
-    expect(fuzzy_run(l.in.ready, fuzzy_length(made), 2026, 2, 11, 9, 30, 15, m.in.moment) == 0, "a ready phrase that is run");
+    expect(fuzzy_run(l.in.ready, fuzzy_length(made), NOW, m.in.moment) == 0, "a ready phrase that is run");
     expect(memcmp(m.in.moment, wanted, sizeof wanted) == 0, "its moment when run");
     expect(kept_from(&m, sizeof wanted), "nothing written but the moment when run");
     m = fresh();
-    expect(fuzzy_run(l.in.ready, fuzzy_length(made), 2026, 2, 30, 9, 30, 15, m.in.moment) == 8, "an invalid now");
+    expect(fuzzy_run(l.in.ready, fuzzy_length(made), 2026, 2, 30, 9, 30, 15, 250, m.in.moment) == 8, "an invalid now");
     expect(kept_from(&m, 0), "nothing written at an invalid now");
-    expect(fuzzy_run(l.in.ready, fuzzy_length(made) - 1, 2026, 2, 11, 9, 30, 15, m.in.moment) == 9, "a ready phrase cut short");
+    expect(fuzzy_run(l.in.ready, fuzzy_length(made) - 1, NOW, m.in.moment) == 9, "a ready phrase cut short");
     l.in.ready[2] ^= 1;
-    expect(fuzzy_run(l.in.ready, fuzzy_length(made), 2026, 2, 11, 9, 30, 15, m.in.moment) == 9, "a damaged ready phrase");
+    expect(fuzzy_run(l.in.ready, fuzzy_length(made), NOW, m.in.moment) == 9, "a damaged ready phrase");
     expect(kept_from(&m, 0), "nothing written for a damaged ready phrase");
 }
 
 /* the same in both readings */
-static void given(const char *phrase, uint32_t y, uint32_t mo, uint32_t d, uint32_t h, uint32_t mi, uint32_t s) {
-    given_as(FUZZY_FIRST, phrase, y, mo, d, h, mi, s);
-    given_as(FUZZY_SECOND, phrase, y, mo, d, h, mi, s);
+static void given(const char *phrase, uint32_t y, uint32_t mo, uint32_t d, uint32_t h, uint32_t mi, uint32_t s, uint32_t ms) {
+    given_as(FUZZY_FIRST, phrase, y, mo, d, h, mi, s, ms);
+    given_as(FUZZY_SECOND, phrase, y, mo, d, h, mi, s, ms);
+}
+
+/* "an hour ago" at 09:30:15 and so many milliseconds, read and run: they are kept, or the now is none and nothing is written */
+static void at_millisecond(uint32_t ms, unsigned number) {
+    const uint8_t *phrase = (const uint8_t *)"an hour ago";
+    const uint32_t wanted[FUZZY_MOMENT_NUMBERS] = {2026, 2, 11, 8, 30, 15, ms};
+    size_t written = number == 0 ? sizeof wanted : 0;
+    struct lent ready = fresh(), l = fresh();
+    uint64_t made = fuzzy_make_ready(FUZZY_FIRST, phrase, 11, ready.in.ready);
+    expect(fuzzy_read(FUZZY_FIRST, phrase, 11, 2026, 2, 11, 9, 30, 15, ms, l.in.moment) == number, "reading at a millisecond");
+    expect(memcmp(l.in.moment, wanted, written) == 0 && kept_from(&l, written), "what reading writes at a millisecond");
+    l = fresh();
+    expect(fuzzy_run(ready.in.ready, fuzzy_length(made), 2026, 2, 11, 9, 30, 15, ms, l.in.moment) == number, "running at a millisecond");
+    expect(memcmp(l.in.moment, wanted, written) == 0 && kept_from(&l, written), "what running writes at a millisecond");
 }
 
 static uint64_t write_with_room(const uint32_t s[FUZZY_STAMP_NUMBERS], struct lent *l, size_t room) {
-    return fuzzy_write_stamp(s[0], s[1], s[2], s[3], s[4], s[5], s[6], s[7], l->in.text, room);
+    return fuzzy_write_stamp(s[0], s[1], s[2], s[3], s[4], s[5], s[6], s[7], s[8], l->in.text, room);
 }
 
-/* a text with its eight numbers, which are written as `written`: with room for exactly that, and not with a byte less */
-static void stamped(const char *text, const char *written, uint32_t y, uint32_t mo, uint32_t d, uint32_t h, uint32_t mi, uint32_t s, uint32_t west,
-                    uint32_t offset) {
-    const uint32_t wanted[FUZZY_STAMP_NUMBERS] = {y, mo, d, h, mi, s, west, offset};
+/* a text with its nine numbers, which are written as `written`: with room for exactly that, and not with a byte less */
+static void stamped(const char *text, const char *written, uint32_t y, uint32_t mo, uint32_t d, uint32_t h, uint32_t mi, uint32_t s,
+                    uint32_t ms, uint32_t west, uint32_t offset) {
+    const uint32_t wanted[FUZZY_STAMP_NUMBERS] = {y, mo, d, h, mi, s, ms, west, offset};
     size_t n = strlen(written);
     struct lent l = fresh();
     uint64_t answer;
@@ -136,34 +155,88 @@ static void unstamped(const char *text, size_t n, unsigned number) {
 }
 
 /* numbers that are no stamp, and nothing written */
-static void unwritten(uint32_t mo, uint32_t west, uint32_t offset, size_t room, unsigned number) {
-    const uint32_t s[FUZZY_STAMP_NUMBERS] = {2026, mo, 11, 9, 30, 15, west, offset};
+static void unwritten(uint32_t mo, uint32_t ms, uint32_t west, uint32_t offset, size_t room, unsigned number) {
+    const uint32_t s[FUZZY_STAMP_NUMBERS] = {2026, mo, 11, 9, 30, 15, ms, west, offset};
     struct lent l = fresh();
     expect(write_with_room(s, &l, room) == number, "numbers that are no stamp");
     expect(kept_from(&l, 0), "nothing written for numbers that are no stamp");
 }
 
 static void stamps(void) {
-    stamped("2024-02-29t23:59:59z", "2024-02-29T23:59:59Z", 2024, 2, 29, 23, 59, 59, 0, 0);
-    stamped("2026-02-11T09:30:15+00:00", "2026-02-11T09:30:15Z", 2026, 2, 11, 9, 30, 15, 0, 0);
-    stamped("2026-02-11T09:30:15-00:00", "2026-02-11T09:30:15-00:00", 2026, 2, 11, 9, 30, 15, 1, 0);
-    stamped("0001-01-01T00:00:00+23:59", "0001-01-01T00:00:00+23:59", 1, 1, 1, 0, 0, 0, 0, 1439);
-    stamped("9999-12-31T23:59:59-23:59", "9999-12-31T23:59:59-23:59", 9999, 12, 31, 23, 59, 59, 1, 1439);
+    stamped("2024-02-29t23:59:59z", "2024-02-29T23:59:59Z", 2024, 2, 29, 23, 59, 59, 0, 0, 0);
+    stamped("2026-02-11T09:30:15+00:00", "2026-02-11T09:30:15Z", 2026, 2, 11, 9, 30, 15, 0, 0, 0);
+    stamped("2026-02-11T09:30:15-00:00", "2026-02-11T09:30:15-00:00", 2026, 2, 11, 9, 30, 15, 0, 1, 0);
+    stamped("0001-01-01T00:00:00+23:59", "0001-01-01T00:00:00+23:59", 1, 1, 1, 0, 0, 0, 0, 0, 1439);
+    stamped("9999-12-31T23:59:59-23:59", "9999-12-31T23:59:59-23:59", 9999, 12, 31, 23, 59, 59, 0, 1, 1439);
+    stamped("2026-02-11T09:30:15.5Z", "2026-02-11T09:30:15.500Z", 2026, 2, 11, 9, 30, 15, 500, 0, 0);
+    stamped("2026-02-11T09:30:15.05Z", "2026-02-11T09:30:15.050Z", 2026, 2, 11, 9, 30, 15, 50, 0, 0);
+    stamped("2026-02-11t09:30:15.005z", "2026-02-11T09:30:15.005Z", 2026, 2, 11, 9, 30, 15, 5, 0, 0);
+    stamped("2026-02-11T09:30:15.0Z", "2026-02-11T09:30:15Z", 2026, 2, 11, 9, 30, 15, 0, 0, 0);
+    stamped("2026-02-11T09:30:15.00+00:00", "2026-02-11T09:30:15Z", 2026, 2, 11, 9, 30, 15, 0, 0, 0);
+    stamped("2026-02-11T09:30:15.000-00:00", "2026-02-11T09:30:15-00:00", 2026, 2, 11, 9, 30, 15, 0, 1, 0);
+    stamped("2026-02-11T09:30:15.7+05:30", "2026-02-11T09:30:15.700+05:30", 2026, 2, 11, 9, 30, 15, 700, 0, 330);
+    stamped("2026-02-11T09:30:15.25-05:00", "2026-02-11T09:30:15.250-05:00", 2026, 2, 11, 9, 30, 15, 250, 1, 300);
+    stamped("9999-12-31T23:59:59.999-23:59", "9999-12-31T23:59:59.999-23:59", 9999, 12, 31, 23, 59, 59, 999, 1, 1439);
     unstamped("0000-02-29T00:00:00Z", 20, FUZZY_OUTSIDE);
     unstamped("0000-02-30T00:00:00Z", 20, FUZZY_NO_STAMP);
     unstamped("2026-02-29T00:00:00Z", 20, FUZZY_NO_STAMP);
     unstamped("2026-02-11T09:30:60Z", 20, FUZZY_NO_STAMP);
     unstamped("2026-02-11 09:30:15Z", 20, FUZZY_NO_STAMP);
-    unstamped("2026-02-11T09:30:15.5Z", 22, FUZZY_NO_STAMP);
+    unstamped("0000-02-29T00:00:00.5Z", 22, FUZZY_OUTSIDE);
+    unstamped("0000-02-30T00:00:00.5Z", 22, FUZZY_NO_STAMP);
+    unstamped("2026-02-11T09:30:15.Z", 21, FUZZY_NO_STAMP);
+    unstamped("2026-02-11T09:30:15.+05:30", 26, FUZZY_NO_STAMP);
+    unstamped("2026-02-11T09:30:15.5000Z", 25, FUZZY_NO_STAMP);
+    unstamped("2026-02-11T09:30:15.5000+05:30", 30, FUZZY_NO_STAMP);
+    unstamped("2026-02-11T09:30:15,5Z", 22, FUZZY_NO_STAMP);
+    unstamped("2026-02-11T09:30:15,500+05:30", 29, FUZZY_NO_STAMP);
+    unstamped("2026-02-11T09:30:15.5x0Z", 24, FUZZY_NO_STAMP);
+    unstamped("2026-02-11T09:30:15.500", 23, FUZZY_NO_STAMP);
+    unstamped("2026-02-11T09:30:15.5+24:00", 27, FUZZY_NO_STAMP);
     unstamped("2026-02-11T09:30:15+24:00", 25, FUZZY_NO_STAMP);
     unstamped("2026-02-11T09:30:15+23:60", 25, FUZZY_NO_STAMP);
     unstamped("2026-02-11T09:30:15Z\n", 21, FUZZY_NO_STAMP);
     unstamped("2026-02-11T09:30:15", 19, FUZZY_NO_STAMP);
     unstamped("", 0, FUZZY_NO_STAMP);
-    unwritten(13, 2, 1440, 0, FUZZY_NO_NOW);
-    unwritten(2, 2, 0, 0, FUZZY_NO_STAMP);
-    unwritten(2, 0, 1440, 0, FUZZY_NO_STAMP);
-    unwritten(2, 0, 1, 0, FUZZY_NO_ROOM);
+    unwritten(13, 0, 2, 1440, 0, FUZZY_NO_NOW);
+    unwritten(2, 1000, 2, 1440, 0, FUZZY_NO_NOW);
+    unwritten(2, 1000, 0, 0, FUZZY_STAMP_SIZE, FUZZY_NO_NOW);
+    unwritten(2, UINT32_MAX, 0, 0, FUZZY_STAMP_SIZE, FUZZY_NO_NOW);
+    unwritten(2, 0, 2, 0, 0, FUZZY_NO_STAMP);
+    unwritten(2, 0, 0, 1440, 0, FUZZY_NO_STAMP);
+    unwritten(2, 0, 0, 1, 0, FUZZY_NO_ROOM);
+}
+
+/* a word in one reading: its code or 0, and the comparisons made */
+static void found_as(uint32_t reading, const char *word, size_t n, uint32_t code, uint32_t comparisons) {
+    const uint32_t wanted[FUZZY_FOUND_NUMBERS] = {code, comparisons};
+    struct lent l = fresh();
+    expect(fuzzy_find_word(reading, (const uint8_t *)word, n, l.in.found) == 0, "a word that is looked up");
+    expect(memcmp(l.in.found, wanted, sizeof wanted) == 0, "its code and the comparisons");
+    expect(kept_from(&l, sizeof wanted), "nothing written but the two numbers");
+}
+
+/* a reading that is none, and nothing written */
+static void unfound(uint32_t reading) {
+    struct lent l = fresh();
+    expect(fuzzy_find_word(reading, (const uint8_t *)"now", 3, l.in.found) == FUZZY_NO_READING, "a word in no reading");
+    expect(kept_from(&l, 0), "nothing written for a word in no reading");
+}
+
+static void words(const char *many, size_t n) {
+    found_as(FUZZY_FIRST, "Friday", 6, 123, 7);
+    found_as(FUZZY_FIRST, "zERO", 4, 151, 8);
+    found_as(FUZZY_FIRST, "th", 2, 159, 7);
+    found_as(FUZZY_SECOND, "th", 2, 160, 4);
+    found_as(FUZZY_FIRST, "forty", 5, 0, 7);
+    found_as(FUZZY_SECOND, "FORTY", 5, 40, 5);
+    found_as(FUZZY_FIRST, "", 0, 0, 7);
+    found_as(FUZZY_SECOND, "fri\xff", 4, 0, 7);
+    found_as(FUZZY_SECOND, "fr\0day", 6, 0, 7);
+    found_as(FUZZY_FIRST, many, n, 0, 7);
+    unfound(0);
+    unfound(3);
+    unfound(UINT32_MAX);
 }
 
 static uint64_t show_with_room(const uint32_t m[FUZZY_MOMENT_NUMBERS], struct lent *l, size_t room) {
@@ -219,17 +292,25 @@ int main(void) {
     struct lent l = fresh();
     size_t i;
 
-    given("next friday", 2026, 2, 20, 9, 30, 15);
-    given_as(FUZZY_FIRST, "tuesday in two weeks", 2026, 1, 27, 9, 30, 15);
-    given_as(FUZZY_SECOND, "tuesday in two weeks", 2026, 3, 3, 9, 30, 15);
-    given_as(FUZZY_SECOND, "march 3 5 pm", 2026, 3, 3, 17, 0, 0);
-    given_as(FUZZY_SECOND, "march 24th", 2026, 3, 24, 9, 30, 15);
-    given_as(FUZZY_SECOND, "january 1, 2010", 2010, 1, 1, 9, 30, 15);
-    given_as(FUZZY_SECOND, "forty days ago", 2026, 1, 2, 9, 30, 15);
-    given("tuesday two weeks ago", 2026, 1, 27, 9, 30, 15);
-    given("5.2.2022", 2022, 2, 5, 9, 30, 15);
-    given("5/2 at noon", 2026, 5, 2, 12, 0, 0);
-    given("2 months before 3 weeks after tomorrow at 5:00", 2026, 1, 5, 5, 0, 0);
+    given("next friday", 2026, 2, 20, 9, 30, 15, 250);
+    given_as(FUZZY_FIRST, "tuesday in two weeks", 2026, 1, 27, 9, 30, 15, 250);
+    given_as(FUZZY_SECOND, "tuesday in two weeks", 2026, 3, 3, 9, 30, 15, 250);
+    given_as(FUZZY_SECOND, "march 3 5 pm", 2026, 3, 3, 17, 0, 0, 0);
+    given_as(FUZZY_SECOND, "march 24th", 2026, 3, 24, 9, 30, 15, 250);
+    given_as(FUZZY_SECOND, "january 1, 2010", 2010, 1, 1, 9, 30, 15, 250);
+    given_as(FUZZY_SECOND, "forty days ago", 2026, 1, 2, 9, 30, 15, 250);
+    given("tuesday two weeks ago", 2026, 1, 27, 9, 30, 15, 250);
+    given("5.2.2022", 2022, 2, 5, 9, 30, 15, 250);
+    given("an hour ago", 2026, 2, 11, 8, 30, 15, 250);
+    given("friday at midnight", 2026, 2, 13, 0, 0, 0, 0);
+    given("an hour after noon", 2026, 2, 11, 13, 0, 0, 0);
+    given("5/2 at noon", 2026, 5, 2, 12, 0, 0, 0);
+    given("2 months before 3 weeks after tomorrow at 5:00", 2026, 1, 5, 5, 0, 0, 0);
+
+    at_millisecond(0, 0);
+    at_millisecond(999, 0);
+    at_millisecond(1000, FUZZY_NO_NOW);
+    at_millisecond(UINT32_MAX, FUZZY_NO_NOW);
 
     refused_as(0, "forty", 5, FUZZY_NO_READING, 0, 0);
     refused_as(3, "", 0, FUZZY_NO_READING, 0, 0);
@@ -256,13 +337,14 @@ int main(void) {
     refused(many, sizeof many, FUZZY_TOO_LONG, 0, 0);
     refused_as(3, many, sizeof many, FUZZY_NO_READING, 0, 0);
 
-    expect(fuzzy_read(FUZZY_FIRST, (const uint8_t *)"today", 5, 10000, 1, 1, 0, 0, 0, l.in.moment) == FUZZY_NO_NOW, "a now past the calendar");
-    expect(fuzzy_read(3, (const uint8_t *)"today", 5, 10000, 1, 1, 0, 0, 0, l.in.moment) == FUZZY_NO_READING, "no such reading, before the now");
-    expect(fuzzy_read(FUZZY_FIRST, (const uint8_t *)"a year from now", 15, 2024, 2, 29, 12, 0, 0, l.in.moment) == FUZZY_NO_LEAP_DAY, "29 February");
-    expect(fuzzy_run((const uint8_t *)"", 0, 2026, 2, 11, 9, 30, 15, l.in.moment) == FUZZY_NO_SENSE, "no step");
-    expect(fuzzy_run((const uint8_t *)many, 400, 2026, 2, 11, 9, 30, 15, l.in.moment) == FUZZY_NO_SENSE, "25 records");
+    expect(fuzzy_read(FUZZY_FIRST, (const uint8_t *)"today", 5, 10000, 1, 1, 0, 0, 0, 0, l.in.moment) == FUZZY_NO_NOW, "a now past the calendar");
+    expect(fuzzy_read(3, (const uint8_t *)"today", 5, 10000, 1, 1, 0, 0, 0, 0, l.in.moment) == FUZZY_NO_READING, "no such reading, before the now");
+    expect(fuzzy_read(FUZZY_FIRST, (const uint8_t *)"a year from now", 15, 2024, 2, 29, 12, 0, 0, 0, l.in.moment) == FUZZY_NO_LEAP_DAY, "29 February");
+    expect(fuzzy_run((const uint8_t *)"", 0, NOW, l.in.moment) == FUZZY_NO_SENSE, "no step");
+    expect(fuzzy_run((const uint8_t *)many, 400, NOW, l.in.moment) == FUZZY_NO_SENSE, "25 records");
     expect(kept_from(&l, 0), "nothing written by any of these");
     stamps();
+    words(many, sizeof many);
     phrases();
 
     printf(failed ? "some calls failed\n" : "every call answered as it should\n");

@@ -1,14 +1,19 @@
-/* Reads phrases at one now, a ready phrase at two, one phrase in both readings, stamps, and a moment shown as a phrase. Copy what you need. */
+/* Reads phrases at one now, a ready phrase at two, one phrase in both readings, and stamps, looks words up, and shows a moment as a phrase. Copy
+ * what you need. */
 #include "fuzzy.h"
 
 #include <stdio.h>
 #include <string.h>
 
-/* Shows a moment, or what is wrong and where. */
+/* Shows a moment, with its milliseconds where they are not 0, or what is wrong and where. */
 static void show(const char *phrase, uint64_t answer, const uint32_t m[FUZZY_MOMENT_NUMBERS]) {
     if (answer == 0) {
-        printf("%s: %04u-%02u-%02u %02u:%02u:%02u\n", phrase, (unsigned)m[0], (unsigned)m[1], (unsigned)m[2], (unsigned)m[3], (unsigned)m[4],
+        printf("%s: %04u-%02u-%02u %02u:%02u:%02u", phrase, (unsigned)m[0], (unsigned)m[1], (unsigned)m[2], (unsigned)m[3], (unsigned)m[4],
                (unsigned)m[5]);
+        if (m[6] != 0) {
+            printf(".%03u", (unsigned)m[6]);
+        }
+        printf("\n");
         return;
     }
     printf("%s: %s", phrase, fuzzy_word(fuzzy_number(answer)));
@@ -24,11 +29,21 @@ static void show_stamp(const char *text) {
     uint32_t s[FUZZY_STAMP_NUMBERS];
     uint64_t answer = fuzzy_read_stamp((const uint8_t *)text, strlen(text), s);
     if (answer == 0) {
-        answer = fuzzy_write_stamp(s[0], s[1], s[2], s[3], s[4], s[5], s[6], s[7], again, sizeof again);
-        printf("%s: %.*s, %s %u minutes\n", text, (int)fuzzy_length(answer), (const char *)again, s[6] == 0 ? "east" : "west", (unsigned)s[7]);
+        answer = fuzzy_write_stamp(s[0], s[1], s[2], s[3], s[4], s[5], s[6], s[7], s[8], again, sizeof again);
+        printf("%s: %.*s, %s %u minutes\n", text, (int)fuzzy_length(answer), (const char *)again, s[7] == 0 ? "east" : "west", (unsigned)s[8]);
         return;
     }
     printf("%s: %s\n", text, fuzzy_word(fuzzy_number(answer)));
+}
+
+/* Says of a word, as it is typed, whether a phrase may have it. */
+static void show_word(const char *word) {
+    uint32_t found[FUZZY_FOUND_NUMBERS];
+    uint32_t reading;
+    for (reading = FUZZY_FIRST; reading <= FUZZY_SECOND; reading++) {
+        if (fuzzy_find_word(reading, (const uint8_t *)word, strlen(word), found) != 0) return;
+        printf("%s: %s in reading %u, after %u comparisons\n", word, found[0] == 0 ? "no word" : "a word", (unsigned)reading, (unsigned)found[1]);
+    }
 }
 
 /* Shows a moment as a phrase to be edited, or what is wrong. */
@@ -44,15 +59,15 @@ static void show_phrase(uint32_t hour, uint32_t minute, uint32_t second) {
 }
 
 int main(void) {
-    static const char *const phrases[] = {"next friday at 3 pm", "forty days ago", "5/2"};
+    static const char *const phrases[] = {"next friday at 3 pm", "an hour ago", "forty days ago", "5/2"};
     uint8_t ready[FUZZY_READY_SIZE];
     uint32_t moment[FUZZY_MOMENT_NUMBERS];
     size_t i;
 
-    /* the now is 2026-02-11 09:30:15 */
+    /* the now is 2026-02-11 09:30:15.250; a stated time has no milliseconds, and without one now's are kept */
     for (i = 0; i < sizeof phrases / sizeof phrases[0]; i++) {
         const uint8_t *phrase = (const uint8_t *)phrases[i];
-        show(phrases[i], fuzzy_read(FUZZY_FIRST, phrase, strlen(phrases[i]), 2026, 2, 11, 9, 30, 15, moment), moment);
+        show(phrases[i], fuzzy_read(FUZZY_FIRST, phrase, strlen(phrases[i]), 2026, 2, 11, 9, 30, 15, 250, moment), moment);
     }
 
     /* made ready once, run at two nows */
@@ -63,8 +78,8 @@ int main(void) {
             show(phrase, made, moment);
             return 1;
         }
-        show(phrase, fuzzy_run(ready, fuzzy_length(made), 2026, 2, 11, 9, 30, 15, moment), moment);
-        show(phrase, fuzzy_run(ready, fuzzy_length(made), 2024, 2, 29, 12, 0, 0, moment), moment);
+        show(phrase, fuzzy_run(ready, fuzzy_length(made), 2026, 2, 11, 9, 30, 15, 0, moment), moment);
+        show(phrase, fuzzy_run(ready, fuzzy_length(made), 2024, 2, 29, 12, 0, 0, 0, moment), moment);
     }
 
     /* one phrase in both readings */
@@ -72,13 +87,20 @@ int main(void) {
         const char *phrase = "tuesday in two weeks";
         uint32_t reading;
         for (reading = FUZZY_FIRST; reading <= FUZZY_SECOND; reading++) {
-            show(phrase, fuzzy_read(reading, (const uint8_t *)phrase, strlen(phrase), 2026, 2, 11, 9, 30, 15, moment), moment);
+            show(phrase, fuzzy_read(reading, (const uint8_t *)phrase, strlen(phrase), 2026, 2, 11, 9, 30, 15, 0, moment), moment);
         }
     }
 
     show_stamp("2026-02-11t09:30:15+00:00");
     show_stamp("2026-02-11T09:30:15-05:00");
     show_stamp("2026-02-30T09:30:15Z");
+    show_stamp("2026-02-11T09:30:15.5Z");
+    show_stamp("2026-02-11T09:30:15.05-05:00");
+    show_stamp("2026-02-11T09:30:15.0005Z");
+
+    show_word("Friday");
+    show_word("fort");
+    show_word("forty");
 
     show_phrase(9, 5, 0);
     show_phrase(9, 5, 30);

@@ -1,6 +1,9 @@
-/* lent.h: arrays between two fences, pages that nobody may touch, and the lines of the replayed list. Linux only; for the tests. */
+/* lent.h: arrays between two fences, pages that nobody may touch, random numbers, and the lines of the replayed list. Linux only; for the
+ * tests. */
 #ifndef LENT_H
 #define LENT_H
+
+#include "fuzzy.h"
 
 #include <ctype.h>
 #include <stdint.h>
@@ -67,10 +70,21 @@ static inline int kept_but(struct field f, const uint8_t *at, size_t n, size_t w
     return 1;
 }
 
-/* A line of the replayed list: `NOW|PHRASE`, where \xHH in the phrase is one byte. A now of another form stands for zeros, which are none. */
+/* xorshift64: the same numbers on every machine. */
+static uint64_t state = 88172645463325252u;
+
+static inline size_t random_below(size_t n) {
+    state ^= state << 13;
+    state ^= state >> 7;
+    state ^= state << 17;
+    return (size_t)((state >> 11) % n);
+}
+
+/* A line of the replayed list: `NOW|PHRASE`, where \xHH in the phrase is one byte. A now of another form stands for zeros, which are none.
+ * The list has no milliseconds: a now gets random ones. */
 #define MOST_PHRASE 1024
 struct line {
-    uint32_t now[6];
+    uint32_t now[FUZZY_MOMENT_NUMBERS];
     uint8_t phrase[MOST_PHRASE];
     size_t length;
 };
@@ -91,6 +105,7 @@ static inline void take_line(const char *text, struct line *l) {
     if (p == NULL) stop("a line of the list");
     if (is_now(text, (size_t)(p - text))) sscanf(text, "%u-%u-%u %u:%u:%u", &n[0], &n[1], &n[2], &n[3], &n[4], &n[5]);
     for (i = 0; i < 6; i++) l->now[i] = n[i];
+    l->now[6] = (uint32_t)random_below(1000);
     l->length = 0;
     for (p++; *p != '\0' && *p != '\n'; l->length++) {
         if (l->length == MOST_PHRASE) stop("a line of the list is too long");

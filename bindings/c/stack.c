@@ -20,7 +20,7 @@ static void call_nothing(void) {
 
 static void call_read(void) {
     const uint32_t *n = line.now;
-    fuzzy_read(FUZZY_FIRST, line.phrase, line.length, n[0], n[1], n[2], n[3], n[4], n[5], moment);
+    fuzzy_read(FUZZY_FIRST, line.phrase, line.length, n[0], n[1], n[2], n[3], n[4], n[5], n[6], moment);
 }
 
 static void call_make_ready(void) {
@@ -29,7 +29,7 @@ static void call_make_ready(void) {
 
 static void call_run(void) {
     const uint32_t *n = line.now;
-    fuzzy_run(ready, fuzzy_length(made), n[0], n[1], n[2], n[3], n[4], n[5], moment);
+    fuzzy_run(ready, fuzzy_length(made), n[0], n[1], n[2], n[3], n[4], n[5], n[6], moment);
 }
 
 /* The bytes of stack that a call changes, counted from the top down to the lowest one. */

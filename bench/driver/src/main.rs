@@ -13,15 +13,15 @@ use chrono::{DateTime, Datelike, NaiveDate, TimeZone, Timelike, Utc};
 pub use error::Error;
 
 extern "C" {
-    fn fuzzy_read(reading: u32, phrase: *const u8, length: usize, y: u32, mo: u32, d: u32, h: u32, mi: u32, s: u32, moment: *mut u32) -> u64;
+    fn fuzzy_read(reading: u32, phrase: *const u8, length: usize, y: u32, mo: u32, d: u32, h: u32, mi: u32, s: u32, ms: u32, moment: *mut u32) -> u64;
     fn fuzzy_make_ready(reading: u32, phrase: *const u8, length: usize, ready: *mut u8) -> u64;
-    fn fuzzy_run(ready: *const u8, length: usize, y: u32, mo: u32, d: u32, h: u32, mi: u32, s: u32, moment: *mut u32) -> u64;
+    fn fuzzy_run(ready: *const u8, length: usize, y: u32, mo: u32, d: u32, h: u32, mi: u32, s: u32, ms: u32, moment: *mut u32) -> u64;
 }
 
-type Moment = [u32; 6];
+type Moment = [u32; 7];
 
-/// 2026-02-11 09:30:15
-const NOW: Moment = [2026, 2, 11, 9, 30, 15];
+/// 2026-02-11 09:30:15, without milliseconds
+const NOW: Moment = [2026, 2, 11, 9, 30, 15, 0];
 
 /// The three stages of the Rust's `aware_parse`
 fn by_rust(phrase: &str, now: DateTime<Utc>) -> Moment {
@@ -29,14 +29,14 @@ fn by_rust(phrase: &str, now: DateTime<Utc>) -> Moment {
     let (tree, taken) = ast::DateTime::parse(&lexemes).unwrap();
     assert!(taken == lexemes.len());
     let t = tree.to_chrono(now).unwrap();
-    [t.year() as u32, t.month(), t.day(), t.hour(), t.minute(), t.second()]
+    [t.year() as u32, t.month(), t.day(), t.hour(), t.minute(), t.second(), t.timestamp_subsec_millis()]
 }
 
 fn by_ours(phrase: &str) -> Moment {
-    let [y, mo, d, h, mi, s] = NOW;
-    let mut moment = [0; 6];
+    let [y, mo, d, h, mi, s, ms] = NOW;
+    let mut moment = [0; 7];
     // SAFETY: the pointers are those of a slice and of an array of the size that the function writes
-    let answer = unsafe { fuzzy_read(1, phrase.as_ptr(), phrase.len(), y, mo, d, h, mi, s, moment.as_mut_ptr()) };
+    let answer = unsafe { fuzzy_read(1, phrase.as_ptr(), phrase.len(), y, mo, d, h, mi, s, ms, moment.as_mut_ptr()) };
     assert!(answer == 0, "{phrase}");
     moment
 }
@@ -51,10 +51,10 @@ fn made_ready(phrase: &str) -> Vec<u8> {
 }
 
 fn by_ready(ready: &[u8]) -> Moment {
-    let [y, mo, d, h, mi, s] = NOW;
-    let mut moment = [0; 6];
+    let [y, mo, d, h, mi, s, ms] = NOW;
+    let mut moment = [0; 7];
     // SAFETY: the pointers are those of a slice and of an array of the size that the function writes
-    let answer = unsafe { fuzzy_run(ready.as_ptr(), ready.len(), y, mo, d, h, mi, s, moment.as_mut_ptr()) };
+    let answer = unsafe { fuzzy_run(ready.as_ptr(), ready.len(), y, mo, d, h, mi, s, ms, moment.as_mut_ptr()) };
     assert!(answer == 0);
     moment
 }
@@ -72,7 +72,7 @@ fn rounds<P>(phrases: &[P], rounds: usize, read: impl Fn(&P) -> Moment) {
         }
     }
     for m in last {
-        println!("{:04}-{:02}-{:02} {:02}:{:02}:{:02}", m[0], m[1], m[2], m[3], m[4], m[5]);
+        println!("{:04}-{:02}-{:02} {:02}:{:02}:{:02}.{:03}", m[0], m[1], m[2], m[3], m[4], m[5], m[6]);
     }
     eprintln!("sum {sum}");
 }
@@ -82,8 +82,8 @@ fn main() {
     let text = std::fs::read_to_string(&arguments[1]).unwrap();
     let phrases: Vec<&str> = text.lines().collect();
     let count = arguments[3].parse().unwrap();
-    let [y, mo, d, h, mi, s] = NOW;
-    let now = Utc.from_utc_datetime(&NaiveDate::from_ymd_opt(y as i32, mo, d).unwrap().and_hms_opt(h, mi, s).unwrap());
+    let [y, mo, d, h, mi, s, ms] = NOW;
+    let now = Utc.from_utc_datetime(&NaiveDate::from_ymd_opt(y as i32, mo, d).unwrap().and_hms_milli_opt(h, mi, s, ms).unwrap());
     match arguments[2].as_str() {
         "rust" => rounds(&phrases, count, |p| by_rust(p, now)),
         "ours" => rounds(&phrases, count, |p| by_ours(p)),

@@ -3,7 +3,7 @@
 //! ```
 //! use fuzzydate::{read, Moment, Reading};
 //!
-//! let now = Moment { year: 2026, month: 2, day: 11, hour: 9, minute: 30, second: 15 };
+//! let now = Moment { year: 2026, month: 2, day: 11, hour: 9, minute: 30, second: 15, millisecond: 0 };
 //! assert_eq!(read(Reading::First, "next friday at 3 pm", now).unwrap().to_string(), "2026-02-20 15:00:00");
 //!
 //! let refusal = read(Reading::First, "forty days ago", now).unwrap_err();
@@ -19,7 +19,7 @@
 //! let ready = Ready::new(Reading::First, "a year from now").unwrap();
 //! let stored = ready.as_bytes().to_vec();
 //!
-//! let leap_day = Moment { year: 2024, month: 2, day: 29, hour: 12, minute: 0, second: 0 };
+//! let leap_day = Moment { year: 2024, month: 2, day: 29, hour: 12, minute: 0, second: 0, millisecond: 0 };
 //! let refusal = Ready::from_bytes(&stored).unwrap().run(leap_day).unwrap_err();
 //! assert_eq!(refusal.reason(), Reason::NoLeapDay);
 //! ```
@@ -37,6 +37,15 @@
 //! assert_eq!(refusal.to_string(), "this is no RFC 3339 date and time");
 //! ```
 //!
+//! Words can be looked up while they are typed, with at most 8 comparisons each:
+//!
+//! ```
+//! use fuzzydate::{find_word, Reading};
+//!
+//! assert!(find_word(Reading::First, "Friday").code.is_some());
+//! assert!(find_word(Reading::First, "Frid").code.is_none());
+//! ```
+//!
 //! A moment can be shown as a phrase for people to edit, [`Moment::to_phrase`].
 use std::fmt;
 use std::str::FromStr;
@@ -52,6 +61,7 @@ extern "C" {
         hour: u32,
         minute: u32,
         second: u32,
+        millisecond: u32,
         moment: *mut u32,
     ) -> u64;
     fn fuzzy_make_ready(reading: u32, phrase: *const u8, phrase_length: usize, ready: *mut u8) -> u64;
@@ -64,6 +74,7 @@ extern "C" {
         hour: u32,
         minute: u32,
         second: u32,
+        millisecond: u32,
         moment: *mut u32,
     ) -> u64;
     fn fuzzy_read_stamp(text: *const u8, text_length: usize, stamp: *mut u32) -> u64;
@@ -74,11 +85,13 @@ extern "C" {
         hour: u32,
         minute: u32,
         second: u32,
+        millisecond: u32,
         west: u32,
         offset: u32,
         text: *mut u8,
         text_length: usize,
     ) -> u64;
+    fn fuzzy_find_word(reading: u32, word: *const u8, word_length: usize, found: *mut u32) -> u64;
     fn fuzzy_write_phrase(
         year: u32,
         month: u32,
@@ -98,7 +111,18 @@ pub const READY_SIZE: usize = 384;
 /// The most bytes that a moment's phrase has.
 pub const PHRASE_SIZE: usize = 26;
 
-/// A date and time of the years 1 to 9999. Other numbers may stand here too: such a now is refused.
+/// A date and time of the years 1 to 9999, with milliseconds from 0 to 999. Other numbers may stand here too: such a now is refused.
+///
+/// Milliseconds are shown where they are not 0. Where a phrase states a time, noon and midnight too, second and millisecond are 0; else they
+/// are now's:
+///
+/// ```
+/// # use fuzzydate::{read, Moment, Reading};
+/// let now = Moment { year: 2026, month: 2, day: 11, hour: 9, minute: 30, second: 15, millisecond: 250 };
+/// assert_eq!(now.to_string(), "2026-02-11 09:30:15.250");
+/// assert_eq!(read(Reading::First, "an hour ago", now).unwrap().to_string(), "2026-02-11 08:30:15.250");
+/// assert_eq!(read(Reading::First, "5/2 at noon", now).unwrap().to_string(), "2026-05-02 12:00:00");
+/// ```
 #[derive(Clone, Copy, Debug, PartialEq, Eq, PartialOrd, Ord, Hash)]
 pub struct Moment {
     pub year: u32,
@@ -107,12 +131,13 @@ pub struct Moment {
     pub hour: u32,
     pub minute: u32,
     pub second: u32,
+    pub millisecond: u32,
 }
 
 impl Moment {
-    fn of(numbers: [u32; 6]) -> Moment {
-        let [year, month, day, hour, minute, second] = numbers;
-        Moment { year, month, day, hour, minute, second }
+    fn of(numbers: [u32; 7]) -> Moment {
+        let [year, month, day, hour, minute, second, millisecond] = numbers;
+        Moment { year, month, day, hour, minute, second, millisecond }
     }
 
     /// The moment as a phrase for people to edit, or why there is none: it is no date and time of the years 1 to 9999, or its second or
@@ -152,7 +177,11 @@ impl Moment {
 
 impl fmt::Display for Moment {
     fn fmt(&self, f: &mut fmt::Formatter<'_>) -> fmt::Result {
-        write!(f, "{:04}-{:02}-{:02} {:02}:{:02}:{:02}", self.year, self.month, self.day, self.hour, self.minute, self.second)
+        write!(f, "{:04}-{:02}-{:02} {:02}:{:02}:{:02}", self.year, self.month, self.day, self.hour, self.minute, self.second)?;
+        match self.millisecond {
+            0 => Ok(()),
+            millisecond => write!(f, ".{millisecond:03}"),
+        }
     }
 }
 
@@ -161,7 +190,7 @@ impl fmt::Display for Moment {
 ///
 /// ```
 /// # use fuzzydate::{read, Moment, Reading};
-/// let wednesday = Moment { year: 2026, month: 2, day: 11, hour: 9, minute: 30, second: 15 };
+/// let wednesday = Moment { year: 2026, month: 2, day: 11, hour: 9, minute: 30, second: 15, millisecond: 0 };
 /// let due = |reading| read(reading, "tuesday in two weeks", wednesday).unwrap().to_string();
 /// assert_eq!(due(Reading::First), "2026-01-27 09:30:15");
 /// assert_eq!(due(Reading::Second), "2026-03-03 09:30:15");
@@ -325,14 +354,14 @@ impl std::error::Error for Refusal<'_> {}
 ///
 /// ```
 /// # use fuzzydate::{read, Moment, Reading, Reason};
-/// let now = Moment { year: 2024, month: 2, day: 29, hour: 12, minute: 0, second: 0 };
+/// let now = Moment { year: 2024, month: 2, day: 29, hour: 12, minute: 0, second: 0, millisecond: 0 };
 /// assert_eq!(read(Reading::First, "12 months from now", now).unwrap().to_string(), "2025-02-28 12:00:00");
 /// assert_eq!(read(Reading::First, "5/2", now).unwrap_err().part(), b"/2");
 /// assert_eq!(read(Reading::First, "", now).unwrap_err().reason(), Reason::Nothing);
 /// ```
 pub fn read<P: AsRef<[u8]> + ?Sized>(reading: Reading, phrase: &P, now: Moment) -> Result<Moment, Refusal<'_>> {
     let bytes = phrase.as_ref();
-    let mut moment = [0; 6];
+    let mut moment = [0; 7];
     // SAFETY: the pointers are those of a slice and of an array of the size that the function writes.
     let answer = unsafe {
         fuzzy_read(
@@ -345,6 +374,7 @@ pub fn read<P: AsRef<[u8]> + ?Sized>(reading: Reading, phrase: &P, now: Moment) 
             now.hour,
             now.minute,
             now.second,
+            now.millisecond,
             moment.as_mut_ptr(),
         )
     };
@@ -388,7 +418,7 @@ impl Ready {
 
     /// Runs it at a now: what [`read`] gives for its phrase at that now, in the reading that it was made in.
     pub fn run(&self, now: Moment) -> Result<Moment, Refusal<'static>> {
-        let mut moment = [0; 6];
+        let mut moment = [0; 7];
         // SAFETY: the pointers are those of a slice and of an array of the size that the function writes.
         let answer = unsafe {
             fuzzy_run(
@@ -400,6 +430,7 @@ impl Ready {
                 now.hour,
                 now.minute,
                 now.second,
+                now.millisecond,
                 moment.as_mut_ptr(),
             )
         };
@@ -454,16 +485,19 @@ impl Offset {
 }
 
 /// The most bytes that a stamp's text has.
-pub const STAMP_SIZE: usize = 25;
+pub const STAMP_SIZE: usize = 29;
 
-/// A civil moment as RFC 3339 text has it, and its offset.
+/// A civil moment as RFC 3339 text has it, and its offset. Milliseconds are written as a fraction of three digits, and 0 as none.
 ///
 /// ```
 /// # use fuzzydate::{Moment, Offset, Stamp};
-/// let moment = Moment { year: 2026, month: 2, day: 11, hour: 9, minute: 30, second: 15 };
+/// let moment = Moment { year: 2026, month: 2, day: 11, hour: 9, minute: 30, second: 15, millisecond: 0 };
 /// assert_eq!(Stamp { moment, offset: Offset::East(0) }.to_string(), "2026-02-11T09:30:15Z");
 /// assert_eq!(Stamp { moment, offset: Offset::East(330) }.to_string(), "2026-02-11T09:30:15+05:30");
 /// assert_eq!(Stamp { moment, offset: Offset::Unknown }.to_string(), "2026-02-11T09:30:15-00:00");
+///
+/// let moment = Moment { millisecond: 50, ..moment };
+/// assert_eq!(Stamp { moment, offset: Offset::East(0) }.to_string(), "2026-02-11T09:30:15.050Z");
 /// ```
 #[derive(Clone, Copy, Debug, PartialEq, Eq, Hash)]
 pub struct Stamp {
@@ -476,7 +510,7 @@ impl Stamp {
     ///
     /// ```
     /// # use fuzzydate::{Moment, Offset, Reason, Stamp};
-    /// let moment = Moment { year: 2026, month: 2, day: 30, hour: 0, minute: 0, second: 0 };
+    /// let moment = Moment { year: 2026, month: 2, day: 30, hour: 0, minute: 0, second: 0, millisecond: 0 };
     /// assert_eq!(Stamp { moment, offset: Offset::East(0) }.text().unwrap_err().reason(), Reason::NoNow);
     /// ```
     pub fn text(&self) -> Result<String, Refusal<'static>> {
@@ -492,6 +526,7 @@ impl Stamp {
                 m.hour,
                 m.minute,
                 m.second,
+                m.millisecond,
                 west,
                 offset,
                 text.as_mut_ptr(),
@@ -520,18 +555,57 @@ impl fmt::Display for Stamp {
     }
 }
 
-/// All of the text, with letters in either case and no fraction.
+/// All of the text, with letters in either case, and behind the second a fraction of one to three digits or none.
+///
+/// ```
+/// # use fuzzydate::Stamp;
+/// let millisecond = |text: &str| text.parse::<Stamp>().map(|stamp| stamp.moment.millisecond).ok();
+/// assert_eq!(millisecond("2026-02-11T09:30:15Z"), Some(0));
+/// assert_eq!(millisecond("2026-02-11T09:30:15.5Z"), Some(500));
+/// assert_eq!(millisecond("2026-02-11T09:30:15.05-05:00"), Some(50));
+/// assert_eq!(millisecond("2026-02-11T09:30:15.0005Z"), None);
+/// ```
 impl FromStr for Stamp {
     type Err = Refusal<'static>;
 
     fn from_str(text: &str) -> Result<Stamp, Refusal<'static>> {
-        let mut stamp = [0; 8];
+        let mut stamp = [0; 9];
         // SAFETY: the pointers are those of a slice and of an array of the size that the function writes.
         let answer = unsafe { fuzzy_read_stamp(text.as_ptr(), text.len(), stamp.as_mut_ptr()) };
-        let [year, month, day, hour, minute, second, west, minutes] = stamp;
+        let [year, month, day, hour, minute, second, millisecond, west, minutes] = stamp;
         match answer {
-            0 => Ok(Stamp { moment: Moment { year, month, day, hour, minute, second }, offset: Offset::of(west, minutes) }),
+            0 => Ok(Stamp { moment: Moment { year, month, day, hour, minute, second, millisecond }, offset: Offset::of(west, minutes) }),
             _ => Err(Refusal::of(answer, &[])),
         }
     }
+}
+
+/// What looking a word up says.
+#[derive(Clone, Copy, Debug, PartialEq, Eq, Hash)]
+pub struct FoundWord {
+    /// The code of the word's lexeme, the same for words that mean the same; none where the reading has no such word.
+    pub code: Option<u32>,
+    /// How many words of the reading's table it was compared with: at most 8.
+    pub comparisons: u32,
+}
+
+/// Looks a word up in one of the two readings, with letters in either case. An empty word, and one with bytes that are no letters, is absent, and
+/// its comparisons are counted like any other's.
+///
+/// ```
+/// # use fuzzydate::{find_word, Reading};
+/// let days = find_word(Reading::First, "Days");
+/// assert_eq!(days.code, find_word(Reading::First, "day").code);
+/// assert!(days.comparisons <= 8);
+///
+/// assert_eq!(find_word(Reading::First, "forty").code, None);
+/// assert_eq!(find_word(Reading::Second, "forty").code, find_word(Reading::Second, "fourty").code);
+/// ```
+pub fn find_word<W: AsRef<[u8]> + ?Sized>(reading: Reading, word: &W) -> FoundWord {
+    let bytes = word.as_ref();
+    let mut found = [0; 2];
+    // SAFETY: the pointers are those of a slice and of an array of the size that the function writes. A `Reading` is never refused.
+    unsafe { fuzzy_find_word(reading as u32, bytes.as_ptr(), bytes.len(), found.as_mut_ptr()) };
+    let [code, comparisons] = found;
+    FoundWord { code: (code != 0).then_some(code), comparisons }
 }

@@ -1,9 +1,9 @@
 //! Every function with good, damaged and empty input.
-use fuzzydate::{read, Moment, Offset, Reading, Ready, Reason, Stamp};
+use fuzzydate::{find_word, read, FoundWord, Moment, Offset, Reading, Ready, Reason, Stamp};
 
-const NOW: Moment = Moment { year: 2026, month: 2, day: 11, hour: 9, minute: 30, second: 15 };
-const LEAP_DAY: Moment = Moment { year: 2024, month: 2, day: 29, hour: 12, minute: 0, second: 0 };
-const NO_NOW: Moment = Moment { year: 2026, month: 2, day: 30, hour: 0, minute: 0, second: 0 };
+const NOW: Moment = Moment { year: 2026, month: 2, day: 11, hour: 9, minute: 30, second: 15, millisecond: 0 };
+const LEAP_DAY: Moment = Moment { year: 2024, month: 2, day: 29, hour: 12, minute: 0, second: 0, millisecond: 0 };
+const NO_NOW: Moment = Moment { year: 2026, month: 2, day: 30, hour: 0, minute: 0, second: 0, millisecond: 0 };
 
 #[test]
 fn gives_moments() {
@@ -20,6 +20,38 @@ fn gives_moments() {
     for (phrase, moment) in cases {
         assert_eq!(read(Reading::First, phrase, NOW).unwrap().to_string(), moment, "{phrase}");
         assert_eq!(Ready::new(Reading::First, phrase).unwrap().run(NOW).unwrap().to_string(), moment, "{phrase}, made ready");
+    }
+}
+
+#[test]
+fn keeps_milliseconds_unless_a_time_is_stated() {
+    let cases = [
+        ("an hour ago", "2026-02-11 08:30:15.007"),
+        ("next friday", "2026-02-20 09:30:15.007"),
+        ("12 months from now", "2027-02-11 09:30:15.007"),
+        ("5/2 at noon", "2026-05-02 12:00:00"),
+        ("friday at midnight", "2026-02-13 00:00:00"),
+        ("an hour after noon", "2026-02-11 13:00:00"),
+    ];
+    let now = Moment { millisecond: 7, ..NOW };
+    for (phrase, moment) in cases {
+        for reading in [Reading::First, Reading::Second] {
+            assert_eq!(read(reading, phrase, now).unwrap().to_string(), moment, "{phrase}");
+            assert_eq!(Ready::new(reading, phrase).unwrap().run(now).unwrap().to_string(), moment, "{phrase}, made ready");
+        }
+    }
+}
+
+#[test]
+fn takes_999_milliseconds_and_no_more() {
+    let last = Moment { millisecond: 999, ..NOW };
+    let ready = Ready::new(Reading::First, "today").unwrap();
+    assert_eq!((read(Reading::First, "today", last), ready.run(last)), (Ok(last), Ok(last)));
+    for millisecond in [1000, u32::MAX] {
+        let now = Moment { millisecond, ..NOW };
+        assert_eq!(read(Reading::First, "today", now).unwrap_err().reason(), Reason::NoNow);
+        assert_eq!(ready.run(now).unwrap_err().reason(), Reason::NoNow);
+        assert_eq!(Stamp { moment: now, offset: Offset::East(0) }.text().unwrap_err().reason(), Reason::NoNow);
     }
 }
 
@@ -125,12 +157,33 @@ fn reads_and_writes_stamps() {
 }
 
 #[test]
+fn reads_and_writes_fractions() {
+    let cases = [
+        ("2026-02-11T09:30:15.5Z", 500, "2026-02-11T09:30:15.500Z"),
+        ("2026-02-11T09:30:15.05Z", 50, "2026-02-11T09:30:15.050Z"),
+        ("2026-02-11t09:30:15.005z", 5, "2026-02-11T09:30:15.005Z"),
+        ("2026-02-11T09:30:15.0Z", 0, "2026-02-11T09:30:15Z"),
+        ("2026-02-11T09:30:15.000-05:00", 0, "2026-02-11T09:30:15-05:00"),
+        ("2026-02-11T09:30:15.999-23:59", 999, "2026-02-11T09:30:15.999-23:59"),
+    ];
+    for (text, millisecond, written) in cases {
+        let stamp: Stamp = text.parse().unwrap();
+        assert_eq!(stamp.moment, Moment { millisecond, ..NOW }, "{text}");
+        assert_eq!(stamp.to_string(), written);
+    }
+}
+
+#[test]
 fn refuses_what_is_no_stamp() {
     let cases = [
         ("", Reason::NoStamp),
         ("2026-02-11 09:30:15Z", Reason::NoStamp),
         ("2026-02-11T09:30:60Z", Reason::NoStamp),
         ("2026-02-11T09:30:15+24:00", Reason::NoStamp),
+        ("2026-02-11T09:30:15.Z", Reason::NoStamp),
+        ("2026-02-11T09:30:15.5000Z", Reason::NoStamp),
+        ("2026-02-11T09:30:15.5000+05:30", Reason::NoStamp),
+        ("2026-02-11T09:30:15,5Z", Reason::NoStamp),
         ("0000-02-30T00:00:00Z", Reason::NoStamp),
         ("0000-02-29T00:00:00Z", Reason::Outside),
     ];
@@ -140,6 +193,25 @@ fn refuses_what_is_no_stamp() {
     assert_eq!(Stamp { moment: NO_NOW, offset: Offset::East(1440) }.text().unwrap_err().reason(), Reason::NoNow);
     assert_eq!(Stamp { moment: NOW, offset: Offset::West(1440) }.text().unwrap_err().reason(), Reason::NoStamp);
     assert_eq!(Stamp { moment: NO_NOW, offset: Offset::East(0) }.to_string(), "the moment given is no date and time of the years 1 to 9999");
+}
+
+#[test]
+fn finds_words() {
+    let cases: [(Reading, &[u8], Option<u32>, u32); 9] = [
+        (Reading::First, b"Friday", Some(123), 7),
+        (Reading::First, b"zERO", Some(151), 8),
+        (Reading::First, b"th", Some(159), 7),
+        (Reading::Second, b"th", Some(160), 4),
+        (Reading::First, b"forty", None, 7),
+        (Reading::Second, b"FORTY", Some(40), 5),
+        (Reading::First, b"", None, 7),
+        (Reading::Second, b"fri\xff", None, 7),
+        (Reading::Second, b"fr\0day", None, 7),
+    ];
+    for (reading, word, code, comparisons) in cases {
+        assert_eq!(find_word(reading, word), FoundWord { code, comparisons }, "{}", word.escape_ascii());
+    }
+    assert_eq!(find_word(Reading::First, &vec![b'a'; 4096]).code, None);
 }
 
 #[test]

@@ -11,7 +11,10 @@ use Rattle.digits.proofs.Stores.{sets-taken}
 use Rattle.calendar.specs.Moments.{IsMoment}
 use Rattle.calendar.specs.declared.moments.Moment.{Moment}
 use Rattle.answer.specs.Answer.{placed}
+use Rattle.lexer.specs.Words.{folded}
+use Rattle.lexer.specs.declared.find.Looked.{Looked}
 use Rattle.lexer.specs.declared.reading.Reading.the-variants.{First, Second}
+use Rattle.lexer.proofs.Visited.{at-most-eight}
 use Rattle.answer.proofs.PhraseAtNow.{settled}
 use Rattle.steps.specs.Running.{runOf}
 use Rattle.steps.specs.declared.plan.Step.{Step}
@@ -21,8 +24,10 @@ use Rattle.records.specs.Records.{encodeOf, decodeOf}
 use Rattle.records.proofs.Lists.{length-encoded}
 use Rattle.fuzzydate.proofs.Readings.{settled-in, ready-in-answers, made-in, read-back, no-reading}
 use Rattle.fuzzydate.specs.Called.{answerIn, readyIn, codeOf, momentAfter, readyCode, readyAfter}
+use Rattle.fuzzydate.specs.Called.{foundIn, foundAfter}
 use Rattle.agreed.specs.Calls.{IsReading, first, second, MakeReady, Seen, AtNow, readSeen, runSeen, Read, Run, number, size}
 use Rattle.agreed.specs.Calls.{Alike, Answered, moment, refusal}
+use Rattle.agreed.specs.Calls.{FindWord, Counted, counted}
 
 -- what an answer of the definitions becomes in a call
 pub record Says (w : Answer Moment) (array : List ℕ) (k : ℕ) (array′ : List ℕ) : Type 0 where
@@ -198,3 +203,30 @@ none-made reading other phrase c =
 pub run-answers :
     (ready : List ℕ) (n : Moment) {array array′ : List ℕ} {k : ℕ} → Run ready n array k array′ → Answered 8 0 array k array′
 run-answers ready n c = answered {m = 0} (omega arith) (omega arith) (run-settled (decodeOf ready) n) (run-says c)
+
+-- what is found of a word by the definitions becomes this in a call
+record Finds (w : Answer Looked) (array : List ℕ) (k : ℕ) (array′ : List ℕ) : Type 0 where
+  number-is : k ≡ codeOf w
+  array′-is : array′ ≡ foundAfter w array
+
+find-says : {reading : ℕ} {word array array′ : List ℕ} {k : ℕ} → FindWord reading word array k array′ → Finds (foundIn reading word) array k array′
+find-says c =
+    let p = c .call .promised in
+    record {
+      number-is = rw (← (c .reading-is), ← (c .word-is), ← (c .answer-is)) (p .0);
+      array′-is = rw (← (c .reading-is), ← (c .word-is), ← (c .array-is), ← (c .array′-is)) (p .1);
+    }
+
+-- "Finding a word, or that it is absent, takes at most 8 comparisons with table words in either reading": for every byte string, in what is answered
+pub find-answers :
+    {reading : ℕ} → IsReading reading → (word : List ℕ) {array array′ : List ℕ} {k : ℕ} → FindWord reading word array k array′ → Counted k array′
+find-answers first word c = let says = find-says c in rw (says .number-is, says .array′-is) (counted (at-most-eight First (folded word)))
+find-answers second word c = let says = find-says c in rw (says .number-is, says .array′-is) (counted (at-most-eight Second (folded word)))
+
+-- any other reading is 15, and nothing is written
+pub none-found :
+    (reading : ℕ) → (IsReading reading → ⊥) → (word : List ℕ) {array array′ : List ℕ} {k : ℕ} →
+    FindWord reading word array k array′ → (k ≡ 15) × (array′ ≡ array)
+none-found reading other word c =
+    let says = rw (no-reading reading (λ e. other (rw e first)) (λ e. other (rw e second))) at (find-says c) in
+    (says .number-is, says .array′-is)

@@ -1,7 +1,7 @@
 -- What the contracts of the functions that apps call allow, in an app's terms.
 use Prim.Native.Nat.{ℕ, _+_, _/_, _%_, _≤_}
 use mathlib.Core.Path.{_≡_}
-use mathlib.Core.List.{List}
+use mathlib.Core.List.{List, [], _∷_}
 use lib.ListN.{length}
 use Rattle.calendar.specs.Moments.{IsMoment, momentOf}
 use Rattle.calendar.specs.declared.moments.Moment.{Moment}
@@ -9,6 +9,7 @@ use Rattle.fuzzydate.specs.Called.{seven}
 use Rattle.fuzzydate.proofs.fuzzy_read.Reads as read'
 use Rattle.fuzzydate.proofs.fuzzy_run.Reads as run'
 use Rattle.fuzzydate.proofs.fuzzy_make_ready.Reads as make'
+use Rattle.fuzzydate.proofs.fuzzy_find_word.Reads as find'
 use Rattle.fuzzydate.proofs.fuzzy_write_phrase.Reads as show'
 
 -- a call that a contract allows: the lifetimes, the arguments, the result, and the parameters at exit
@@ -128,3 +129,16 @@ pub record Alike (q : ℕ) (phone phone′ : List ℕ) (r : ℕ) (hub hub′ : L
 pub data Answered (low room : ℕ) (array : List ℕ) : ℕ → List ℕ → Type 0 where
   moment : {t : Moment} → IsMoment t → Answered low room array 0 (seven t)
   refusal : {k : ℕ} → low ≤ number k → number k ≤ 13 → place k + size k ≤ room → Answered low room array k array
+
+-- `fuzzy_find_word` may answer k for a word in a reading, and leave `array′` in an array that held `array`
+pub record FindWord (reading : ℕ) (word array : List ℕ) (k : ℕ) (array′ : List ℕ) : Type 0 where
+  pub call : Call find'.Post
+  pub reading-is : call .given .0 ≡ reading
+  pub word-is : call .given .1 .0 .now ≡ word
+  pub array-is : call .given .1 .1 .0 .now ≡ array
+  pub answer-is : call .result ≡ k
+  pub array′-is : call .exit .1 .1 .0 .now ≡ array′
+
+-- what is found of a word: 0, and a code or 0, and "at most 8 comparisons with table words"
+pub data Counted : ℕ → List ℕ → Type 0 where
+  counted : {code count : ℕ} → count ≤ 8 → Counted 0 (code ∷ count ∷ [])

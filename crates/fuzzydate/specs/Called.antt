@@ -11,6 +11,11 @@ use Rattle.refusals.specs.declared.Refusal.{Refusal}
 use Rattle.calendar.specs.Moments.{momentOf}
 use Rattle.calendar.specs.declared.moments.Moment.{Moment}
 use Rattle.lexer.specs.Keywords.{wordsIn}
+use Rattle.lexer.specs.Words.{folded}
+use Rattle.lexer.specs.Visits.{lookedUp}
+use Rattle.lexer.specs.declared.find.Found.{Found}
+use Rattle.lexer.specs.declared.find.Found.the-variants.{Lexeme, Unknown}
+use Rattle.lexer.specs.declared.find.Looked.{Looked}
 use Rattle.lexer.specs.declared.reading.Reading.{Reading}
 use Rattle.lexer.specs.declared.reading.Reading.the-variants.{First, Second}
 use Rattle.answer.specs.Answer.{answerOf}
@@ -82,3 +87,17 @@ numbersStamp y mo d h mi s ms west offset = record { moment = momentOf y mo d h 
 abbrev pub writtenCode : Answer (List ℕ) → ℕ
 writtenCode (given text) = 4294967296 * length text
 writtenCode (refused r) = code r
+
+-- a word looked up in the reading of a number, letters in either case
+abbrev pub foundIn : ℕ → List ℕ → Answer Looked
+foundIn k w = andThen (readingOf k) (λ reading. given (lookedUp (wordsIn reading) (folded w)))
+
+-- a lexeme's code, 0 for a word that is absent
+abbrev pub lexemeCode : Found → ℕ
+lexemeCode (Lexeme l) = l
+lexemeCode Unknown = 0
+
+-- that code and the count of comparisons are written over what was lent; on a refusal it stays
+abbrev pub foundAfter : Answer Looked → List ℕ → List ℕ
+foundAfter (given l) lent = lexemeCode (l .found) ∷ l .count ∷ []
+foundAfter (refused r) lent = lent

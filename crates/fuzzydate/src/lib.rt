@@ -3,6 +3,8 @@ use answer::Answered;
 use answer::answer;
 use calendar::moments::Moment;
 use calendar::moments::Reached;
+use lexer::find::Found;
+use lexer::find::look_up;
 use lexer::reading::Reading;
 use ready::make_ready;
 use records::record::encode;
@@ -28,6 +30,7 @@ ghost use Rattle.stamp.specs.Stamps.{stampOf, writtenOf};
 ghost use Rattle.shown.specs.Phrases.{shownOf};
 ghost use Rattle.fuzzydate.specs.Called.{readingOf, chosenFrom, answerIn, readyIn, code, codeOf, momentAfter, readyCode, readyAfter};
 ghost use Rattle.fuzzydate.specs.Called.{stampAfter, numbersStamp, writtenCode};
+ghost use Rattle.fuzzydate.specs.Called.{foundIn, foundAfter};
 
 // Where the place of a refusal stands in an answer, and where the length of its part does.
 const PLACE: u64 = 65536;
@@ -263,4 +266,27 @@ pub extern "C" fn fuzzy_write_phrase(
         millisecond,
     };
     written(write_phrase(moment, text))
+}
+
+// A word in reading 1 or 2: 0, and its lexeme's code or 0, and how many rows of the table it was compared with; or 15 and nothing written.
+#[no_mangle]
+pub extern "C" fn fuzzy_find_word(reading: u32, word: &[u8], found: &mut [u32; 2]) -> u64
+    ensures { λ r. ⌜ r ≡ codeOf (foundIn reading (now (word .entry))) ⌝ }
+    ensures { λ r. ⌜ now (found .exit) ≡ foundAfter (foundIn reading (now (word .entry))) (now (found .entry)) ⌝ }
+{
+    let Chosen::As(chosen) = choose(reading) else {
+        return NO_READING as u64;
+    };
+    let looked = look_up(chosen, word);
+    let lexeme = looked.found;
+    match lexeme {
+        Found::Lexeme(code) => {
+            *found = [code as u32, looked.count];
+            0
+        }
+        Found::Unknown => {
+            *found = [0, looked.count];
+            0
+        }
+    }
 }

@@ -1,7 +1,7 @@
 -- Words as numbers: the order of two words is that of their first 8 bytes, then of their next 4, each read as a number. Assumes nothing.
 use mathlib.Core.Path.{_≡_, refl, sym, ap, _∙_}
 use mathlib.Core.Bool.{Bool, true, false, cond}
-use mathlib.Core.List.{List, [], _∷_}
+use mathlib.Core.List.{List, [], _∷_, map}
 use Prim.Native.Nat.{ℕ, zero, suc, _+_, _*_, _%_, _≤_, _<_}
 use native.Mathlib.Nat.{not-suc-le-zero, le-of-suc-le-suc}
 use native.Mathlib.Omega.{arith}
@@ -13,9 +13,19 @@ use Rattle.digits.proofs.Order.{Tri, below, equal, above, tri}
 use Rattle.lexer.specs.declared.find.Order.{Order}
 use Rattle.lexer.specs.declared.find.Order.the-variants.{Less, Same, More}
 use Rattle.lexer.specs.Words.{ordered, isSmall, small}
-use Rattle.lexer.specs.Table.{filler, fixed, bytesFrom, headOf, tailOf, byNumber, byKey, Stands}
+use Rattle.lexer.specs.Table.{filler, fixed, bytesFrom, headOf, tailOf, byNumber, byKey, comparedOf, Stands}
 
--- a word of small letters: its first, and the rest
+-- each byte of a word is above the fillers
+abbrev Plain : List ℕ → Type 0
+Plain [] = Unit {0}
+Plain (b ∷ w) = ((46 < b) × (b < 256)) × Plain w
+
+plain-drop : (n : ℕ) (w : List ℕ) → Plain w → Plain (drop n w)
+plain-drop zero w t = t
+plain-drop (suc n) [] t = tt
+plain-drop (suc n) (b ∷ w) t = plain-drop n w (t .1)
+
+-- a letter of a word of small letters, and the letters behind it
 module _ (b : ℕ) (w : List ℕ) (t : T (small (b ∷ w))) where
   first-least : 97 ≤ b
   first-least = leb→le 97 b (and-l (leb 97 b) (leb b 122) (and-l (isSmall b) (small w) t))
@@ -26,12 +36,11 @@ module _ (b : ℕ) (w : List ℕ) (t : T (small (b ∷ w))) where
   rest-small : T (small w)
   rest-small = and-r (isSmall b) (small w) t
 
-small-drop : (n : ℕ) (w : List ℕ) → T (small w) → T (small (drop n w))
-small-drop zero w t = t
-small-drop (suc n) [] t = tt
-small-drop (suc n) (b ∷ w) t = small-drop n w (rest-small b w t)
+small-plain : (w : List ℕ) → T (small w) → Plain w
+small-plain [] t = tt
+small-plain (b ∷ w) t = ((omega (arith, first-least b w t), omega (arith, first-most b w t)), small-plain w (rest-small b w t))
 
--- a filler is below every letter
+-- a filler is below every such byte
 pub filler-most : (n : ℕ) → filler n ≤ 46
 filler-most n = go (eqb (n % 2) 0)
   where
@@ -73,7 +82,7 @@ upTo (suc n) (x ∷ xs) [] o = byNumber x (filler n) (upTo n xs [] o)
 upTo (suc n) (x ∷ xs) (y ∷ ys) o = byNumber x y (upTo n xs ys o)
 
 -- it is the order of the numbers that they say, behind any two numbers
-by-numbers : (n : ℕ) (a w : List ℕ) → T (small a) → T (small w) → (u v : ℕ) (o : Order)
+by-numbers : (n : ℕ) (a w : List ℕ) → Plain a → Plain w → (u v : ℕ) (o : Order)
     → byNumber u v (upTo n a w o) ≡ byNumber (bytesFrom u (fixed n a)) (bytesFrom v (fixed n w)) o
 by-numbers zero a w s t u v o = refl
 by-numbers (suc n) [] [] s t u v o =
@@ -82,15 +91,15 @@ by-numbers (suc n) [] [] s t u v o =
     ∙ by-numbers n [] [] s t (u * 256 + filler n) (v * 256 + filler n) o
 by-numbers (suc n) [] (y ∷ ys) s t u v o =
     let f = filler-most n in
-    bytes-behind u v (filler n) y (upTo n [] ys o) (omega arith) (omega (arith, first-most y ys t))
-    ∙ by-numbers n [] ys s (rest-small y ys t) (u * 256 + filler n) (v * 256 + y) o
+    bytes-behind u v (filler n) y (upTo n [] ys o) (omega arith) (t .0 .1)
+    ∙ by-numbers n [] ys s (t .1) (u * 256 + filler n) (v * 256 + y) o
 by-numbers (suc n) (x ∷ xs) [] s t u v o =
     let f = filler-most n in
-    bytes-behind u v x (filler n) (upTo n xs [] o) (omega (arith, first-most x xs s)) (omega arith)
-    ∙ by-numbers n xs [] (rest-small x xs s) t (u * 256 + x) (v * 256 + filler n) o
+    bytes-behind u v x (filler n) (upTo n xs [] o) (s .0 .1) (omega arith)
+    ∙ by-numbers n xs [] (s .1) t (u * 256 + x) (v * 256 + filler n) o
 by-numbers (suc n) (x ∷ xs) (y ∷ ys) s t u v o =
-    bytes-behind u v x y (upTo n xs ys o) (omega (arith, first-most x xs s)) (omega (arith, first-most y ys t))
-    ∙ by-numbers n xs ys (rest-small x xs s) (rest-small y ys t) (u * 256 + x) (v * 256 + y) o
+    bytes-behind u v x y (upTo n xs ys o) (s .0 .1) (t .0 .1)
+    ∙ by-numbers n xs ys (s .1) (t .1) (u * 256 + x) (v * 256 + y) o
 
 -- two words that have both ended are the same
 ended-same : (n : ℕ) → upTo n [] [] Same ≡ Same
@@ -98,43 +107,72 @@ ended-same zero = refl
 ended-same (suc n) = number-same (filler n) (filler n) (upTo n [] [] Same) refl ∙ ended-same n
 
 -- a word that has ended comes before one that has not
-module _ (n : ℕ) (y : ℕ) (ys : List ℕ) (t : T (small (y ∷ ys))) (o : Order) where
+module _ (n : ℕ) (y : ℕ) (h : 46 < y) (o : Order) where
   ended-less : byNumber (filler n) y o ≡ Less
-  ended-less = number-less (filler n) y o (omega (arith, filler-most n, first-least y ys t))
+  ended-less = number-less (filler n) y o (omega (arith, filler-most n))
 
   ended-more : byNumber y (filler n) o ≡ More
-  ended-more = number-more y (filler n) o (omega (arith, filler-most n, first-least y ys t))
+  ended-more = number-more y (filler n) o (omega (arith, filler-most n))
 
 -- the first n bytes decide, or the rests of both words
-ordered-first : (n : ℕ) (a w : List ℕ) → T (small a) → T (small w) → ordered a w ≡ upTo n a w (ordered (drop n a) (drop n w))
+ordered-first : (n : ℕ) (a w : List ℕ) → Plain a → Plain w → ordered a w ≡ upTo n a w (ordered (drop n a) (drop n w))
 ordered-first zero a w s t = refl
 ordered-first (suc n) [] [] s t = sym (number-same (filler n) (filler n) (upTo n [] [] Same) refl ∙ ended-same n)
-ordered-first (suc n) [] (y ∷ ys) s t = sym (ended-less n y ys t (upTo n [] ys (ordered [] (drop n ys))))
-ordered-first (suc n) (x ∷ xs) [] s t = sym (ended-more n x xs s (upTo n xs [] (ordered (drop n xs) [])))
-ordered-first (suc n) (x ∷ xs) (y ∷ ys) s t = ap (byNumber x y) (ordered-first n xs ys (rest-small x xs s) (rest-small y ys t))
+ordered-first (suc n) [] (y ∷ ys) s t = sym (ended-less n y (t .0 .0) (upTo n [] ys (ordered [] (drop n ys))))
+ordered-first (suc n) (x ∷ xs) [] s t = sym (ended-more n x (s .0 .0) (upTo n xs [] (ordered (drop n xs) [])))
+ordered-first (suc n) (x ∷ xs) (y ∷ ys) s t = ap (byNumber x y) (ordered-first n xs ys (s .1) (t .1))
 
 -- of a word that has fewer than n bytes they decide alone
-ordered-all : (n : ℕ) (a w : List ℕ) → T (small a) → T (small w) → length a < n → ordered a w ≡ upTo n a w Same
+ordered-all : (n : ℕ) (a w : List ℕ) → Plain a → Plain w → length a < n → ordered a w ≡ upTo n a w Same
 ordered-all zero a w s t h = absurd (not-suc-le-zero h)
 ordered-all (suc n) [] [] s t h = sym (number-same (filler n) (filler n) (upTo n [] [] Same) refl ∙ ended-same n)
-ordered-all (suc n) [] (y ∷ ys) s t h = sym (ended-less n y ys t (upTo n [] ys Same))
-ordered-all (suc n) (x ∷ xs) [] s t h = sym (ended-more n x xs s (upTo n xs [] Same))
+ordered-all (suc n) [] (y ∷ ys) s t h = sym (ended-less n y (t .0 .0) (upTo n [] ys Same))
+ordered-all (suc n) (x ∷ xs) [] s t h = sym (ended-more n x (s .0 .0) (upTo n xs [] Same))
 ordered-all (suc n) (x ∷ xs) (y ∷ ys) s t h =
-    ap (byNumber x y) (ordered-all n xs ys (rest-small x xs s) (rest-small y ys t) (le-of-suc-le-suc h))
+    ap (byNumber x y) (ordered-all n xs ys (s .1) (t .1) (le-of-suc-le-suc h))
 
--- the order of a word of at most 11 letters and any word, by the two numbers of both
-key-ordered : (a w : List ℕ) → T (small a) → T (small w) → length a < 12
+-- the order of a word of at most 11 bytes and any word, by the two numbers of both
+key-ordered : (a w : List ℕ) → Plain a → Plain w → length a < 12
     → ordered a w ≡ byKey a (headOf w) (tailOf w)
 unfolding headOf tailOf
 key-ordered a w s t h =
-    let sa = small-drop 8 a s in
-    let tw = small-drop 8 w t in
+    let sa = plain-drop 8 a s in
+    let tw = plain-drop 8 w t in
     let rest = ordered (drop 8 a) (drop 8 w) in
     let tails : rest ≡ byNumber (tailOf a) (tailOf w) Same =
     ordered-all 4 (drop 8 a) (drop 8 w) sa tw (omega (arith, length-drop 8 a)) ∙ by-numbers 4 (drop 8 a) (drop 8 w) sa tw 0 0 Same in
     ordered-first 8 a w s t ∙ by-numbers 8 a w s t 0 0 rest ∙ ap (byNumber (headOf a) (headOf w)) tails
 
--- and so the order of a row's word and the word that two numbers stand for
-pub stands-ordered : (a : List ℕ) → T (small a) → length a < 12 → (head tail : ℕ) (w : List ℕ) → Stands head tail w
-    → ordered a w ≡ byKey a head tail
-stands-ordered a s h head tail w k = rw (← (k .head-is), ← (k .tail-is)) (key-ordered a w s (k .letters) h)
+-- a word of small letters is stood for by its own two numbers
+pub letters-stand : (w : List ℕ) → T (small w) → Stands (headOf w) (tailOf w) w
+letters-stand w t = record { orders = λ a s h. key-ordered a w (small-plain a s) (small-plain w t) h }
+
+-- bytes as they are compared
+compared-plain : (w : List ℕ) → Plain (map comparedOf w)
+compared-plain [] = tt
+compared-plain (b ∷ w) = ((omega arith, omega arith), compared-plain w)
+
+-- have the order of the bytes themselves with letters
+compared-ordered : (a w : List ℕ) → T (small a) → ordered a w ≡ ordered a (map comparedOf w)
+compared-ordered [] [] s = refl
+compared-ordered [] (y ∷ ys) s = refl
+compared-ordered (x ∷ xs) [] s = refl
+compared-ordered (x ∷ xs) (y ∷ ys) s = go (tri x y) (compared-ordered xs ys (rest-small x xs s))
+  where
+    rest : Order
+    rest = ordered xs (map comparedOf ys)
+
+    go : Tri x y → ordered xs ys ≡ rest → byNumber x y (ordered xs ys) ≡ byNumber x (comparedOf y) rest
+    go (below l) rests = let h = first-most x xs s in number-less x y (ordered xs ys) l ∙ sym (number-less x (comparedOf y) rest (omega arith))
+    go (above l) rests = let h = first-least x xs s in number-more x y (ordered xs ys) l ∙ sym (number-more x (comparedOf y) rest (omega arith))
+    go (equal e) rests =
+        let least = first-least x xs s in
+        let most = first-most x xs s in
+        number-same x y (ordered xs ys) e ∙ rests ∙ sym (number-same x (comparedOf y) rest (omega arith))
+
+-- so a word of any bytes is stood for by the two numbers of its bytes as they are compared
+pub bytes-stand : (w : List ℕ) → Stands (headOf (map comparedOf w)) (tailOf (map comparedOf w)) w
+bytes-stand w = record {
+  orders = λ a s h.
+      compared-ordered a w s ∙ key-ordered a (map comparedOf w) (small-plain a s) (compared-plain w) h;
+}

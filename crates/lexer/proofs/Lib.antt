@@ -5,7 +5,9 @@ pub mod Keys
 pub mod Rooms
 pub mod Letters
 pub mod Cells
+pub mod Fixed
 pub mod Rows
+pub mod Visited
 pub mod Runs
 pub mod Lines
 pub mod Places

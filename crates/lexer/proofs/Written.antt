@@ -36,7 +36,7 @@ words-are-words First = refl
 words-are-words Second = refl
 
 -- what a word means is no literal
-abbrev NoLiteral : Found → Type 0
+abbrev pub NoLiteral : Found → Type 0
 NoLiteral (Lexeme l) = l < NUM
 NoLiteral Unknown = Unit {0}
 
@@ -49,6 +49,10 @@ no-literal (x ∷ xs) h w =
     go : (b : Bool) → x .lexeme < NUM → NoLiteral (meaning xs w) → NoLiteral (cond b (Lexeme (x .lexeme)) (meaning xs w))
     go true here on = here
     go false here on = on
+
+-- what any word means in either reading is none: its code is below every literal's
+pub word-below : (reading : Reading) (w : List ℕ) → NoLiteral (meaning (wordsIn reading) w)
+word-below reading = no-literal (wordsIn reading) (words-are-words reading)
 
 -- a mark's code is no literal
 mark-below : (b : ℕ) → markOf b < NUM

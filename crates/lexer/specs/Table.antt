@@ -1,5 +1,5 @@
 -- "The 133 words stand in one table in byte order": a word list as the code holds it. Assumes nothing.
-use Prim.Native.Nat.{ℕ, zero, suc, _+_, _*_, _%_, _^_, _≤_}
+use Prim.Native.Nat.{ℕ, zero, suc, _+_, _*_, _%_, _^_, _≤_, _<_, min, max}
 use Prim.Native.Char.{code}
 use mathlib.Core.Path.{_≡_}
 use mathlib.Core.Bool.{Bool, true, false, cond}
@@ -85,8 +85,10 @@ byNumber x y o = cond (ltb x y) Less (cond (ltb y x) More o)
 abbrev pub byKey : List ℕ → ℕ → ℕ → Order
 byKey w head tail = byNumber (headOf w) head (byNumber (tailOf w) tail Same)
 
--- two numbers that stand for a word of small letters
+-- a byte of a word as it is compared with letters and fillers: above the fillers, and at most just above the letters
+abbrev pub comparedOf : ℕ → ℕ
+comparedOf b = max (code "/") (min b (code "{"))
+
+-- two numbers that stand for a word: every word that a row may hold, of at most 11 small letters, has the same order with both
 pub record Stands (head tail : ℕ) (w : List ℕ) : Type 0 where
-  pub letters : T (small w)
-  pub head-is : headOf w ≡ head
-  pub tail-is : tailOf w ≡ tail
+  pub orders : (a : List ℕ) → T (small a) → length a < 12 → ordered a w ≡ byKey a head tail

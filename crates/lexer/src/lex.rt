@@ -72,8 +72,9 @@ fn word_at(reading: Reading, words: &[u8], s: &[u8], a: usize) -> Token
     ensures { λ r. ⌜ r ≡ wordAt (wordsIn reading) (now (s .entry)) a ⌝ }
 {
     let k = key_at(s, a);
-    let f = find(reading, words, k.head, k.tail);
-    let Found::Lexeme(code) = f else {
+    let looked = find(reading, words, k.head, k.tail);
+    let found = looked.found;
+    let Found::Lexeme(code) = found else {
         return Token::Refused(Refusal {
             number: UNKNOWN,
             place: a,

@@ -1,7 +1,7 @@
 // The lexer: a phrase, as bytes, cut into lexemes.
 
 mod class;
-mod find;
+pub mod find;
 pub mod lex;
 pub mod lexeme;
 pub mod part;

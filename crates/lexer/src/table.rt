@@ -308,7 +308,7 @@ pub(crate) fn count_in(reading: Reading) -> usize
 }
 
 // The n bytes from a place on as one number, the first the greatest.
-fn bytes_at(words: &[u8], p: usize, n: usize) -> u64
+pub(crate) fn bytes_at(words: &[u8], p: usize, n: usize) -> u64
     requires { ⌜ (p + n ≤ length (now words)) × (n ≤ 8) ⌝ }
     ensures { λ r. ⌜ r ≡ bytesFrom 0 (take n (drop p (now (words .entry)))) ⌝ }
 {

@@ -3,9 +3,10 @@ use super::class::LETTER;
 use super::run::run_end;
 ghost use mathlib.Core.Path.{_≡_};
 ghost use Prim.Native.Nat.{_≤_};
-ghost use mathlib.Core.List.{[]};
+ghost use mathlib.Core.List.{[], map};
+ghost use Rattle.lexer.specs.Words.{lowerOf, folded};
 ghost use Rattle.lexer.specs.Classes.{letterOf};
-ghost use Rattle.lexer.specs.Table.{fixed, bytesFrom, weightOf, Room};
+ghost use Rattle.lexer.specs.Table.{fixed, bytesFrom, weightOf, Room, comparedOf};
 ghost use Rattle.lexer.specs.Lex.{letterAt, blockOf, keyOf};
 
 // Letters as one number, filled up, and where they end.
@@ -137,4 +138,40 @@ pub(crate) fn key_at(s: &[u8], a: usize) -> Key
         tail: t.number,
         end: run_end(s, t.end, LETTER),
     }
+}
+
+// A byte of a word as it is compared: a letter's small one; what is not above the fillers counts as the byte above them, what is above the letters
+// as the byte above those, and any other byte as itself.
+fn compared(b: u8) -> u8
+    ensures { λ r. ⌜ r ≡ comparedOf (lowerOf b) ⌝ }
+{
+    if b < b'/' {
+        return b'/';
+    }
+    if b < b'A' {
+        return b;
+    }
+    if b <= b'Z' {
+        return b + 32;
+    }
+    if b < b'{' {
+        return b;
+    }
+    b'{'
+}
+
+// The first 12 bytes of a word as a row has them.
+pub(crate) fn row_of(word: &[u8]) -> [u8; 12]
+    ensures { λ r. ⌜ r ≡ fixed 12 (map comparedOf (folded (now (word .entry)))) ⌝ }
+{
+    let mut row = *b" . . . . . .";
+    let mut i: usize = 0;
+    while i < 12 {
+        if word.len() <= i {
+            return row;
+        }
+        row[i] = compared(word[i]);
+        i += 1;
+    }
+    row
 }

@@ -5,6 +5,7 @@ use Rattle.lexer.proofs.lex.refuse.Reads as refuse'
 use Rattle.lexer.proofs.lex.lex.Reads as lex'
 use Rattle.lexer.proofs.part.part.Reads as part'
 use Rattle.lexer.proofs.part.offending.Reads as offending'
+use Rattle.lexer.proofs.find.look_up.Reads as look-up'
 
 pub token-at : Settled token-at'.Post
 token-at = same token-at'.Post _ _ (λ κs a z e p. p)
@@ -24,3 +25,6 @@ part = (same part'.Post _ _ (λ κs a z e p. p .0), same part'.Post _ _ (λ κs 
 
 pub offending : Same offending'.Post (λ κs z e. z .now) × Same offending'.Post (λ κs z e. z .ptr)
 offending = (same offending'.Post _ _ (λ κs a z e p. p .0), same offending'.Post _ _ (λ κs a z e p. p .1))
+
+pub look-up : Settled look-up'.Post
+look-up = same look-up'.Post _ _ (λ κs a z e p. p .0)

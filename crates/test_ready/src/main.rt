@@ -76,7 +76,7 @@ fn write_line(line: &[u8]) {
     if line.len() <= NOW {
         return;
     }
-    let t = moment_in(line);
+    let t = moment_in(line, 0);
     write_answer(&line[20..], t);
     text(b"|");
     write_ready(&line[20..], t);
