@@ -1,11 +1,11 @@
 -- The months' names are the words of the months in either reading. Assumes nothing.
 use mathlib.Core.Path.{_≡_, refl, sym, ap}
 use mathlib.Core.Bool.{Bool, true, false, _&&_, and-eq-true-iff, true≢false}
-use mathlib.Core.List.{List, [], _∷_}
+use mathlib.Core.List.{List}
 use Prim.Native.Nat.{ℕ, suc, _+_, _-_, _≤_, _<_}
 use native.Mathlib.Omega.{arith}
 use lib.Dec.{eqb, leb, ltb}
-use lib.ListN.{length, getD}
+use lib.ListN.{length}
 use borrow.Author.Tests.{eqb-true, leb-true, ltb-true}
 use Rattle.digits.specs.Bytes.{bytesOf}
 use Rattle.digits.proofs.Tabled.{all-below, each-below}
