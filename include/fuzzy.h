@@ -37,6 +37,9 @@ extern "C" {
 /* What is found of a word: its lexeme's code or 0, and the comparisons made. */
 #define FUZZY_FOUND_NUMBERS 2
 
+/* The room that any moment's phrase needs, in bytes. */
+#define FUZZY_PHRASE_SIZE 26
+
 /* The two readings of a phrase; the first is the Rust library's. They differ in what "in" behind a weekday means: at Wednesday, 11 February 2026,
  * "tuesday in two weeks" is 27 January in the first and 3 March in the second; and in what the year behind month and day is: any number in the first,
  * so that "march 3 5 pm" is refused, and four digits in the second, in which it is 17:00 on 3 March. The second also takes "24th" with any ending,
@@ -63,6 +66,7 @@ enum fuzzy_refusal {
     FUZZY_NO_LEAP_DAY = 13,    /* a year step from 29 February into a common year */
     FUZZY_NO_STAMP = 14,       /* no RFC 3339 stamp: another form, or no such date, time or offset */
     FUZZY_NO_READING = 15,     /* a reading other than 1 and 2 */
+    FUZZY_NOT_WHOLE = 16,      /* second or millisecond of the moment isn't 0, which its phrase would not show */
     FUZZY_NO_ROOM = 17         /* the lent text is too short */
 };
 
@@ -96,13 +100,21 @@ uint64_t fuzzy_write_stamp(uint32_t year, uint32_t month, uint32_t day, uint32_t
  * Letters in either case; an empty word, and one with bytes that are no letters, is absent, and counted like any other. Else 15. */
 uint64_t fuzzy_find_word(uint32_t reading, const uint8_t *word, size_t word_length, uint32_t found[FUZZY_FOUND_NUMBERS]);
 
+/* A moment as a phrase for people to edit, "march 4 2026 at 9:05", at the front of `text`; what stands behind it stays. fuzzy_number 0: the
+ * phrase has fuzzy_length bytes, 15 to 26, and fuzzy_read gives that moment back at every now, in both readings for the years 1000 to 9999,
+ * in the first for the years 1 to 999. Else 8 for no moment, 16 for a second or millisecond other than 0, 17 for a text too short for exactly
+ * that phrase, in this order. */
+uint64_t fuzzy_write_phrase(uint32_t year, uint32_t month, uint32_t day, uint32_t hour, uint32_t minute, uint32_t second, uint32_t millisecond,
+                            uint8_t *text, size_t text_length);
+
 /* Which refusal an answer is; 0 where it is none. */
 static inline unsigned fuzzy_number(uint64_t answer) { return (unsigned)(answer & 0xffffu); }
 
 /* The place of a refusal in its phrase. */
 static inline size_t fuzzy_place(uint64_t answer) { return (size_t)((answer >> 16) & 0xffffu); }
 
-/* The length of a refusal's part; without a refusal, how many bytes fuzzy_make_ready or fuzzy_write_stamp wrote. */
+/* The length of a refusal's part; without a refusal, how many bytes fuzzy_make_ready, fuzzy_write_stamp or fuzzy_write_phrase
+ * wrote. */
 static inline size_t fuzzy_length(uint64_t answer) { return (size_t)(answer >> 32); }
 
 /* A word for each refusal, to be shown to people; "done" for 0. */
@@ -124,6 +136,7 @@ static inline const char *fuzzy_word(unsigned number) {
     case FUZZY_NO_LEAP_DAY: return "29 February is not in that year";
     case FUZZY_NO_STAMP: return "no RFC 3339 date and time";
     case FUZZY_NO_READING: return "no such reading";
+    case FUZZY_NOT_WHOLE: return "a phrase shows no seconds";
     case FUZZY_NO_ROOM: return "no room for the text";
     default: return "no answer of this library";
     }

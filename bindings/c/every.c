@@ -239,6 +239,54 @@ static void words(const char *many, size_t n) {
     unfound(UINT32_MAX);
 }
 
+static uint64_t show_with_room(const uint32_t m[FUZZY_MOMENT_NUMBERS], struct lent *l, size_t room) {
+    return fuzzy_write_phrase(m[0], m[1], m[2], m[3], m[4], m[5], m[6], l->in.text, room);
+}
+
+/* a moment as a phrase, with room for exactly that, and not with a byte less; it is read back in both readings, or, in a year of fewer than four
+ * digits, in the first */
+static void shown(const char *phrase, uint32_t y, uint32_t mo, uint32_t d, uint32_t h, uint32_t mi) {
+    const uint32_t wanted[FUZZY_MOMENT_NUMBERS] = {y, mo, d, h, mi, 0, 0};
+    size_t n = strlen(phrase);
+    struct lent l = fresh();
+    uint64_t answer = show_with_room(wanted, &l, n);
+    uint32_t reading;
+    expect(fuzzy_number(answer) == 0 && fuzzy_place(answer) == 0 && fuzzy_length(answer) == n, "a moment that is shown");
+    expect(memcmp(l.in.text, phrase, n) == 0, "its phrase");
+    expect(kept_from(&l, n), "nothing written but the phrase");
+    l = fresh();
+    expect(show_with_room(wanted, &l, n - 1) == FUZZY_NO_ROOM, "a text too short for a phrase");
+    expect(kept_from(&l, 0), "nothing written where there is no room for a phrase");
+    for (reading = FUZZY_FIRST; reading <= (y < 1000 ? FUZZY_FIRST : FUZZY_SECOND); reading++) {
+        l = fresh();
+        expect(read_at(reading, phrase, n, &l) == 0, "a phrase that was shown");
+        expect(memcmp(l.in.moment, wanted, sizeof wanted) == 0, "the moment that it shows");
+    }
+}
+
+/* numbers that are not shown, and nothing written */
+static void unshown(uint32_t mo, uint32_t s, uint32_t ms, size_t room, unsigned number) {
+    const uint32_t m[FUZZY_MOMENT_NUMBERS] = {2026, mo, 4, 9, 5, s, ms};
+    struct lent l = fresh();
+    expect(show_with_room(m, &l, room) == number, "a moment that is not shown");
+    expect(kept_from(&l, 0), "nothing written for a moment that is not shown");
+}
+
+static void phrases(void) {
+    shown("march 4 2026 at 9:05", 2026, 3, 4, 9, 5);
+    shown("may 1 1 at 0:00", 1, 5, 1, 0, 0);
+    shown("september 30 2026 at 23:59", 2026, 9, 30, 23, 59);
+    shown("june 30 999 at 10:10", 999, 6, 30, 10, 10);
+    shown("february 29 2024 at 12:00", 2024, 2, 29, 12, 0);
+    shown("december 31 9999 at 23:59", 9999, 12, 31, 23, 59);
+    unshown(13, 1, 1, 0, FUZZY_NO_NOW);
+    unshown(3, 60, 0, FUZZY_PHRASE_SIZE, FUZZY_NO_NOW);
+    unshown(3, 0, 1000, FUZZY_PHRASE_SIZE, FUZZY_NO_NOW);
+    unshown(3, 1, 0, 0, FUZZY_NOT_WHOLE);
+    unshown(3, 0, 1, FUZZY_PHRASE_SIZE, FUZZY_NOT_WHOLE);
+    unshown(3, 0, 0, 0, FUZZY_NO_ROOM);
+}
+
 int main(void) {
     static char many[4096];
     struct lent l = fresh();
@@ -297,6 +345,7 @@ int main(void) {
     expect(kept_from(&l, 0), "nothing written by any of these");
     stamps();
     words(many, sizeof many);
+    phrases();
 
     printf(failed ? "some calls failed\n" : "every call answered as it should\n");
     return failed;

@@ -1,4 +1,5 @@
-/* Reads phrases at one now, a ready phrase at two, one phrase in both readings, and stamps, and looks words up. Copy what you need. */
+/* Reads phrases at one now, a ready phrase at two, one phrase in both readings, and stamps, looks words up, and shows a moment as a phrase. Copy
+ * what you need. */
 #include "fuzzy.h"
 
 #include <stdio.h>
@@ -45,6 +46,18 @@ static void show_word(const char *word) {
     }
 }
 
+/* Shows a moment as a phrase to be edited, or what is wrong. */
+static void show_phrase(uint32_t hour, uint32_t minute, uint32_t second) {
+    uint8_t text[FUZZY_PHRASE_SIZE];
+    uint64_t answer = fuzzy_write_phrase(2026, 3, 4, hour, minute, second, 0, text, sizeof text);
+    printf("2026-03-04 %02u:%02u:%02u: ", (unsigned)hour, (unsigned)minute, (unsigned)second);
+    if (fuzzy_number(answer) == 0) {
+        printf("%.*s\n", (int)fuzzy_length(answer), (const char *)text);
+        return;
+    }
+    printf("%s\n", fuzzy_word(fuzzy_number(answer)));
+}
+
 int main(void) {
     static const char *const phrases[] = {"next friday at 3 pm", "an hour ago", "forty days ago", "5/2"};
     uint8_t ready[FUZZY_READY_SIZE];
@@ -88,5 +101,8 @@ int main(void) {
     show_word("Friday");
     show_word("fort");
     show_word("forty");
+
+    show_phrase(9, 5, 0);
+    show_phrase(9, 5, 30);
     return 0;
 }

@@ -45,6 +45,8 @@
 //! assert!(find_word(Reading::First, "Friday").code.is_some());
 //! assert!(find_word(Reading::First, "Frid").code.is_none());
 //! ```
+//!
+//! A moment can be shown as a phrase for people to edit, [`Moment::to_phrase`].
 use std::fmt;
 use std::str::FromStr;
 
@@ -90,10 +92,24 @@ extern "C" {
         text_length: usize,
     ) -> u64;
     fn fuzzy_find_word(reading: u32, word: *const u8, word_length: usize, found: *mut u32) -> u64;
+    fn fuzzy_write_phrase(
+        year: u32,
+        month: u32,
+        day: u32,
+        hour: u32,
+        minute: u32,
+        second: u32,
+        millisecond: u32,
+        text: *mut u8,
+        text_length: usize,
+    ) -> u64;
 }
 
 /// The most bytes that a ready phrase has.
 pub const READY_SIZE: usize = 384;
+
+/// The most bytes that a moment's phrase has.
+pub const PHRASE_SIZE: usize = 26;
 
 /// A date and time of the years 1 to 9999, with milliseconds from 0 to 999. Other numbers may stand here too: such a now is refused.
 ///
@@ -122,6 +138,40 @@ impl Moment {
     fn of(numbers: [u32; 7]) -> Moment {
         let [year, month, day, hour, minute, second, millisecond] = numbers;
         Moment { year, month, day, hour, minute, second, millisecond }
+    }
+
+    /// The moment as a phrase for people to edit, or why there is none: it is no date and time of the years 1 to 9999, or its second or
+    /// millisecond isn't 0. [`read`] gives the moment back at every now: in both readings for the years 1000 to 9999, in
+    /// [`Reading::First`] for the years 1 to 999.
+    ///
+    /// ```
+    /// # use fuzzydate::{read, Moment, Reading, Reason};
+    /// let moment = Moment { year: 2026, month: 3, day: 4, hour: 9, minute: 5, second: 0, millisecond: 0 };
+    /// let phrase = moment.to_phrase().unwrap();
+    /// assert_eq!(phrase, "march 4 2026 at 9:05");
+    ///
+    /// let now = Moment { year: 2026, month: 2, day: 11, hour: 9, minute: 30, second: 15, millisecond: 250 };
+    /// assert_eq!(read(Reading::First, &phrase, now), Ok(moment));
+    /// assert_eq!(read(Reading::Second, &phrase, now), Ok(moment));
+    /// assert_eq!(now.to_phrase().unwrap_err().reason(), Reason::NotWhole);
+    /// ```
+    pub fn to_phrase(self) -> Result<String, Refusal<'static>> {
+        let mut text = [0; PHRASE_SIZE];
+        // SAFETY: the pointer is that of an array, whose size is said.
+        let answer = unsafe {
+            fuzzy_write_phrase(
+                self.year,
+                self.month,
+                self.day,
+                self.hour,
+                self.minute,
+                self.second,
+                self.millisecond,
+                text.as_mut_ptr(),
+                text.len(),
+            )
+        };
+        text_of(answer, &text)
     }
 }
 
@@ -195,13 +245,15 @@ pub enum Reason {
     NoStamp = 14,
     /// A reading other than 1 and 2, which [`Reading`] cannot be.
     NoReading = 15,
+    /// The second or the millisecond isn't 0, which a phrase doesn't show.
+    NotWhole = 16,
     /// The room that was lent is too short for the text.
     NoRoom = 17,
 }
 
 impl Reason {
     /// In the order of their numbers.
-    const ALL: [Reason; 16] = [
+    const ALL: [Reason; 17] = [
         Reason::TooLong,
         Reason::Unknown,
         Reason::LargeDigits,
@@ -217,6 +269,7 @@ impl Reason {
         Reason::NoLeapDay,
         Reason::NoStamp,
         Reason::NoReading,
+        Reason::NotWhole,
         Reason::NoRoom,
     ];
 
@@ -248,6 +301,7 @@ impl Reason {
             Reason::NoLeapDay => "29 February is not in that year",
             Reason::NoStamp => "this is no RFC 3339 date and time",
             Reason::NoReading => "there is no such reading",
+            Reason::NotWhole => "a phrase shows no seconds",
             Reason::NoRoom => "there is no room for the text",
         }
     }
@@ -479,10 +533,15 @@ impl Stamp {
                 text.len(),
             )
         };
-        match answer & 0xffff {
-            0 => Ok(text[..(answer >> 32) as usize].iter().map(|&b| char::from(b)).collect()),
-            _ => Err(Refusal::of(answer, &[])),
-        }
+        text_of(answer, &text)
+    }
+}
+
+/// The text that a writing left at the front of the bytes lent to it, or its refusal.
+fn text_of(answer: u64, lent: &[u8]) -> Result<String, Refusal<'static>> {
+    match answer & 0xffff {
+        0 => Ok(lent[..(answer >> 32) as usize].iter().map(|&b| char::from(b)).collect()),
+        _ => Err(Refusal::of(answer, &[])),
     }
 }
 

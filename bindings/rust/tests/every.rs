@@ -213,3 +213,24 @@ fn finds_words() {
     }
     assert_eq!(find_word(Reading::First, &vec![b'a'; 4096]).code, None);
 }
+
+#[test]
+fn shows_moments_as_phrases() {
+    let whole = |year, month, day, hour, minute| Moment { year, month, day, hour, minute, second: 0, millisecond: 0 };
+    let cases = [
+        (whole(2026, 3, 4, 9, 5), "march 4 2026 at 9:05"),
+        (whole(1, 5, 1, 0, 0), "may 1 1 at 0:00"),
+        (whole(2026, 9, 30, 23, 59), "september 30 2026 at 23:59"),
+        (whole(999, 12, 31, 10, 10), "december 31 999 at 10:10"),
+        (whole(1000, 1, 1, 0, 1), "january 1 1000 at 0:01"),
+    ];
+    for (moment, phrase) in cases {
+        assert_eq!(moment.to_phrase().unwrap(), phrase);
+        assert_eq!(read(Reading::First, phrase, NOW), Ok(moment), "{phrase}");
+        assert_eq!(read(Reading::Second, phrase, NOW) == Ok(moment), moment.year >= 1000, "{phrase}");
+    }
+    assert_eq!(NO_NOW.to_phrase().unwrap_err().reason(), Reason::NoNow);
+    assert_eq!(Moment { millisecond: 1000, ..whole(2026, 3, 4, 9, 5) }.to_phrase().unwrap_err().reason(), Reason::NoNow);
+    assert_eq!(Moment { millisecond: 1, ..whole(2026, 3, 4, 9, 5) }.to_phrase().unwrap_err().reason(), Reason::NotWhole);
+    assert_eq!(Moment { second: 1, ..whole(2026, 3, 4, 9, 5) }.to_phrase().unwrap_err().reason(), Reason::NotWhole);
+}

@@ -30,9 +30,9 @@ use Rattle.agreed.specs.Calls.{Alike, Answered, moment, refusal}
 use Rattle.agreed.specs.Calls.{FindWord, Counted, counted}
 
 -- what an answer of the definitions becomes in a call
-record Says (w : Answer Moment) (array : List ℕ) (k : ℕ) (array′ : List ℕ) : Type 0 where
-  number-is : k ≡ codeOf w
-  array′-is : array′ ≡ momentAfter w array
+pub record Says (w : Answer Moment) (array : List ℕ) (k : ℕ) (array′ : List ℕ) : Type 0 where
+  pub number-is : k ≡ codeOf w
+  pub array′-is : array′ ≡ momentAfter w array
 
 -- a promise that gives the answer of a definition
 module _ {C : Type 0} (seen : Seen C) (defined : List ℕ → Moment → Answer Moment)
@@ -47,7 +47,7 @@ module _ {C : Type 0} (seen : Seen C) (defined : List ℕ → Moment → Answer 
       }
 
 module _ {bytes : List ℕ} {n : Moment} {array : List ℕ} {k : ℕ} {array′ : List ℕ} where
-  read-says : (reading : ℕ) → Read reading bytes n array k array′ → Says (answerIn reading bytes n) array k array′
+  pub read-says : (reading : ℕ) → Read reading bytes n array k array′ → Says (answerIn reading bytes n) array k array′
   read-says reading =
       says (readSeen reading) (answerIn reading)
       (λ c. rw (← (c .reading-is)) (c .call .promised .0))

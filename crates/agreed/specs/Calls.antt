@@ -10,6 +10,7 @@ use Rattle.fuzzydate.proofs.fuzzy_read.Reads as read'
 use Rattle.fuzzydate.proofs.fuzzy_run.Reads as run'
 use Rattle.fuzzydate.proofs.fuzzy_make_ready.Reads as make'
 use Rattle.fuzzydate.proofs.fuzzy_find_word.Reads as find'
+use Rattle.fuzzydate.proofs.fuzzy_write_phrase.Reads as show'
 
 -- a call that a contract allows: the lifetimes, the arguments, the result, and the parameters at exit
 module _ {K : Type 0} {A R E : K → Type 0} (Post : (κs : K) → A κs → R κs → E κs → Type 0) where
@@ -34,6 +35,21 @@ pub record MakeReady (reading : ℕ) (phrase array : List ℕ) (k : ℕ) (array�
   pub array-is : call .given .1 .1 .0 .now ≡ array
   pub answer-is : call .result ≡ k
   pub array′-is : call .exit .1 .1 .0 .now ≡ array′
+
+-- `fuzzy_write_phrase` may answer k for a moment, and leave `text′` in a text that held `text`
+pub record WritePhrase (t : Moment) (text : List ℕ) (k : ℕ) (text′ : List ℕ) : Type 0 where
+  pub call : Call show'.Post
+  pub moment-is :
+      let a = call .given in
+      momentOf (a .0) (a .1 .0) (a .1 .1 .0) (a .1 .1 .1 .0) (a .1 .1 .1 .1 .0) (a .1 .1 .1 .1 .1 .0) (a .1 .1 .1 .1 .1 .1 .0) ≡ t
+  pub text-is : call .given .1 .1 .1 .1 .1 .1 .1 .0 .now ≡ text
+  pub answer-is : call .result ≡ k
+  pub text′-is : call .exit .1 .1 .1 .1 .1 .1 .1 .0 .now ≡ text′
+
+-- the readings that give a moment of a year back from its phrase: both, or the first alone before year 1000
+pub data Shows (year : ℕ) : ℕ → Type 0 where
+  in-first : Shows year 1
+  in-second : 1000 ≤ year → Shows year 2
 
 -- what is seen of a call with bytes, a now's seven numbers and an array for a moment: what it is given, answers and leaves
 pub record Seen (C : Type 0) : Type 0 where
@@ -99,7 +115,7 @@ number k = k % 65536
 abbrev pub place : ℕ → ℕ
 place k = k / 65536 % 65536
 
--- and the length of its part, or of a ready phrase
+-- and the length of its part, of a ready phrase, or of a phrase that was written
 abbrev pub size : ℕ → ℕ
 size k = k / 4294967296
 

@@ -42,7 +42,7 @@ digits-say (suc k) n h =
     rw one-more (omega arith)
 
 -- a number has no more digits than are counted
-wide-enough : (k n : ℕ) → n < 10 ^ suc k → n < 10 ^ widthIn k n
+pub wide-enough : (k n : ℕ) → n < 10 ^ suc k → n < 10 ^ widthIn k n
 wide-enough zero n h = h
 wide-enough (suc k) n h = go (ltb n 10) refl (wide-enough k (n / 10))
   where

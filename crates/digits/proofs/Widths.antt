@@ -1,6 +1,6 @@
 -- A number's digits: how many there are, and one digit more in front. Assumes nothing.
-use Prim.Native.Nat.{ℕ, zero, suc, _+_, _-_, _/_, _≤_, _<_}
-use native.Mathlib.Nat.{not-suc-le-zero}
+use Prim.Native.Nat.{ℕ, zero, suc, _+_, _*_, _-_, _/_, _^_, _≤_, _<_}
+use native.Mathlib.Nat.{not-suc-le-zero, one-le-pow, pow-succ'}
 use native.Mathlib.Omega.{arith}
 use mathlib.Core.Path.{_≡_, refl}
 use mathlib.Core.Bool.{Bool, true, false, cond}
@@ -51,3 +51,34 @@ width-most (suc k) n = go (ltb n 10) (width-most k (n / 10))
 pub width-limit : (n : ℕ) → widthOf n ≤ 20
 unfolding widthOf
 width-limit n = width-most 19 n
+
+-- and at least one
+pub width-some : (k n : ℕ) → 0 < widthIn k n
+width-some zero n = omega arith
+width-some (suc k) n = go (ltb n 10)
+  where
+    go : (b : Bool) → 0 < cond b 1 (suc (widthIn k (n / 10)))
+    go true = omega arith
+    go false = omega arith
+
+-- a number below a power of ten has no more digits than zeros stand behind the power's one
+pub width-fits : (k j n : ℕ) → n < 10 ^ suc j → widthIn k n ≤ suc j
+width-fits zero j n h = omega arith
+width-fits (suc k) zero n h = rw (lt-ltb n 10 h) (omega arith)
+width-fits (suc k) (suc j) n h =
+    let all : n < 10 * 10 ^ suc j = rw (pow-succ' 10 (suc j)) at h in
+    go (ltb n 10) (width-fits k j (n / 10) (omega arith))
+  where
+    go : (b : Bool) → widthIn k (n / 10) ≤ suc j → cond b 1 (suc (widthIn k (n / 10))) ≤ suc (suc j)
+    go true e = omega arith
+    go false e = omega arith
+
+-- one that is not below it has more
+pub width-exceeds : (k j n : ℕ) → j ≤ k → 10 ^ j ≤ n → j < widthIn k n
+width-exceeds k zero n l h = width-some k n
+width-exceeds zero (suc j) n l h = absurd (omega arith)
+width-exceeds (suc k) (suc j) n l h =
+    let all : 10 * 10 ^ j ≤ n = rw (pow-succ' 10 j) at h in
+    let many : 10 ≤ n = omega (arith, one-le-pow j 10 (omega arith)) in
+    let less : j < widthIn k (n / 10) = width-exceeds k j (n / 10) (omega arith) (omega arith) in
+    rw (le-ltb n 10 many) (omega arith)

@@ -1,4 +1,4 @@
 pub mod ReadyNumbers
 pub mod Readings
 pub mod WrittenBack
-pub mod StampNumbers
+pub mod WrittenNumbers

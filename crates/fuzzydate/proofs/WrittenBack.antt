@@ -6,7 +6,8 @@ use lib.ListN.{length, take}
 use Rattle.digits.proofs.Stores.{sets-taken}
 use Rattle.refusals.specs.Answers.{given}
 use Rattle.refusals.proofs.Holds.{given-holds}
-use Rattle.stamp.specs.Stamps.{stampOf, writtenOf, bufferOf}
+use Rattle.refusals.specs.Writings.{bufferOf}
+use Rattle.stamp.specs.Stamps.{stampOf, writtenOf}
 use Rattle.stamp.specs.declared.Stamp.{Stamp}
 use Rattle.stamp.proofs.WrittenReads.{written-reads}
 use Rattle.stamp.proofs.Writings.{writing}

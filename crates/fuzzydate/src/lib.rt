@@ -1,4 +1,4 @@
-// What apps call: phrases, nows, ready phrases and stamps as numbers and byte slices.
+// What apps call: phrases, nows, ready phrases, stamps and moments as numbers and byte slices.
 use answer::Answered;
 use answer::answer;
 use calendar::moments::Moment;
@@ -11,19 +11,23 @@ use records::record::encode;
 use records::run::run_ready;
 use refusals::NO_READING;
 use refusals::Refusal;
+use refusals::Wrote;
+use shown::write_phrase;
 use stamp::Offset;
 use stamp::Stamp;
 use stamp::read::StampRead;
 use stamp::read::read_stamp;
 use stamp::write::write_stamp;
 ghost use mathlib.Core.Path.{_≡_};
-ghost use Prim.Native.Nat.{_≤_};
+ghost use Prim.Native.Nat.{_+_, _*_, _≤_};
 ghost use lib.ListN.{length};
 ghost use Rattle.calendar.specs.Moments.{momentOf};
 ghost use Rattle.answer.specs.Answer.{placed};
 ghost use Rattle.steps.specs.Running.{runOf};
 ghost use Rattle.records.specs.Records.{decodeOf};
-ghost use Rattle.stamp.specs.Stamps.{stampOf, writtenOf, bufferOf};
+ghost use Rattle.refusals.specs.Writings.{bufferOf};
+ghost use Rattle.stamp.specs.Stamps.{stampOf, writtenOf};
+ghost use Rattle.shown.specs.Phrases.{shownOf};
 ghost use Rattle.fuzzydate.specs.Called.{readingOf, chosenFrom, answerIn, readyIn, code, codeOf, momentAfter, readyCode, readyAfter};
 ghost use Rattle.fuzzydate.specs.Called.{stampAfter, numbersStamp, writtenCode};
 ghost use Rattle.fuzzydate.specs.Called.{foundIn, foundAfter};
@@ -59,6 +63,14 @@ fn code(refusal: Refusal) -> u64
 {
     let part = refusal.end - refusal.place;
     (refusal.number as u64) + PLACE * (refusal.place as u64) + LENGTH * (part as u64)
+}
+
+// How a writing ended as one number: a refusal's number, or the length of the text in bytes.
+fn written(wrote: Wrote) -> u64
+    requires { ⌜ wrote .count ≤ 29 ⌝ }
+    ensures { λ r. ⌜ r ≡ wrote .number + 4294967296 * wrote .count ⌝ }
+{
+    (wrote.number as u64) + LENGTH * (wrote.count as u64)
 }
 
 // A phrase at a now, in reading 1 or 2: 0 and the moment's seven numbers, or a refusal and nothing written.
@@ -226,8 +238,34 @@ pub extern "C" fn fuzzy_write_stamp(
         west,
         minutes: offset,
     };
-    let wrote = write_stamp(Stamp { moment, offset }, text);
-    (wrote.number as u64) + LENGTH * (wrote.count as u64)
+    written(write_stamp(Stamp { moment, offset }, text))
+}
+
+// A moment's seven numbers as a phrase at the front of a lent text: its length in bytes, or 8, 16 or 17 and nothing written.
+#[no_mangle]
+pub extern "C" fn fuzzy_write_phrase(
+    year: u32,
+    month: u32,
+    day: u32,
+    hour: u32,
+    minute: u32,
+    second: u32,
+    millisecond: u32,
+    text: &mut [u8],
+) -> u64
+    ensures { λ r. ⌜ r ≡ writtenCode (shownOf (momentOf year month day hour minute second millisecond) (length (now (text .entry)))) ⌝ }
+    ensures { λ _. ⌜ now (text .exit) ≡ bufferOf (now (text .entry)) (shownOf (momentOf year month day hour minute second millisecond) (length (now (text .entry)))) ⌝ }
+{
+    let moment = Moment {
+        year,
+        month,
+        day,
+        hour,
+        minute,
+        second,
+        millisecond,
+    };
+    written(write_phrase(moment, text))
 }
 
 // A word in reading 1 or 2: 0, and its lexeme's code or 0, and how many rows of the table it was compared with; or 15 and nothing written.

@@ -12,4 +12,5 @@ pub mod Runs
 pub mod Lines
 pub mod Places
 pub mod Written
+pub mod Pieces
 pub mod Examples

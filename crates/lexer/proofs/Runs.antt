@@ -41,7 +41,7 @@ run-within k s a h = omega (arith, run-most k (drop a s), length-drop a s)
 
 -- a digit is of the class of digits, and no other byte is
 module _ (b : ℕ) where
-  digit-class : isDigit b ≡ true → classOf b ≡ Digit
+  pub digit-class : isDigit b ≡ true → classOf b ≡ Digit
   unfolding classOf markOf
   digit-class h = let d = test-digit b h in steady classOf 48 10 Digit refl b (d .low) (omega (arith, d .high))
 

@@ -1,9 +1,9 @@
 -- A literal, or a word up to nineteen, with nothing behind it that could belong to it: all alternatives that read it agree.
 use mathlib.Core.Path.{_≡_, refl, sym}
 use mathlib.Core.Bool.{Bool, true, false, _&&_}
-use mathlib.Core.List.{List}
+use mathlib.Core.List.{List, _∷_}
 use mathlib.Core.Logic.{_⊎_, inl, inr, ⊎-elim}
-use Prim.Native.Nat.{ℕ, _≤_, _<_}
+use Prim.Native.Nat.{ℕ, _+_, _*_, _≤_, _<_}
 use native.Mathlib.Omega.{arith}
 use lib.Dec.{leb}
 use lib.ListN.{drop}
@@ -204,3 +204,13 @@ alone reading l none =
     let b = literal-bounds 0 x MAX e in
     num-alone reading l _ refl (λ h. absurd (omega arith)) (λ h. refl) (λ h k. omega arith) apart (inr (b .0))))
     .same
+
+-- so a literal of d digits in front of what joins no number is its value, of one lexeme
+pub literal-num : (reading : Reading) (d v : ℕ) (r : List ℕ) → 0 < d → v ≤ MAX → within Hundred (get r 0) TH ≡ false
+    → numOf reading ((NUM * d + v) ∷ r) ≡ written v d 1
+unfolding get
+literal-num reading d v r some most none =
+    let value : valueOf (NUM * d + v) ≡ v = omega arith in
+    let digits : digitsOf (NUM * d + v) ≡ d = omega arith in
+    num-alone reading ((NUM * d + v) ∷ r) (record { value = v; digits = d; taken = 1 }) refl
+    (λ h. absurd (omega arith)) (λ h. rw (value, digits)) (λ h k. omega arith) (outside Hundred (get r 0) TH none) (inr (omega arith))

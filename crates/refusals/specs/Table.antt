@@ -61,6 +61,10 @@ NoStamp = 14
 abbrev pub NoReading : ℕ
 NoReading = 15
 
+-- "16 when second or millisecond isn't 0"
+abbrev pub NotWhole : ℕ
+NotWhole = 16
+
 -- "a buffer too short"
 abbrev pub NoRoom : ℕ
 NoRoom = 17

@@ -7,6 +7,12 @@ pub struct Refusal {
     pub end: usize,
 }
 
+// How a writing ended: number 0 and the count of bytes, or a refusal's number and count 0.
+pub struct Wrote {
+    pub number: u8,
+    pub count: usize,
+}
+
 // Nothing is refused.
 pub const NONE: Refusal = Refusal {
     number: 0,
@@ -58,6 +64,9 @@ pub const NO_STAMP: u8 = 14;
 
 // The reading that is asked for is neither 1 nor 2; tested before all the others.
 pub const NO_READING: u8 = 15;
+
+// The second or the millisecond isn't 0, which a phrase doesn't show.
+pub const NOT_WHOLE: u8 = 16;
 
 // The buffer is too short.
 pub const NO_ROOM: u8 = 17;

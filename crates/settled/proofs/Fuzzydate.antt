@@ -6,6 +6,7 @@ use Rattle.fuzzydate.proofs.fuzzy_run.Reads as fuzzy-run'
 use Rattle.fuzzydate.proofs.fuzzy_read_stamp.Reads as fuzzy-read-stamp'
 use Rattle.fuzzydate.proofs.fuzzy_write_stamp.Reads as fuzzy-write-stamp'
 use Rattle.fuzzydate.proofs.fuzzy_find_word.Reads as fuzzy-find-word'
+use Rattle.fuzzydate.proofs.fuzzy_write_phrase.Reads as fuzzy-write-phrase'
 
 pub fuzzy-read : Settled fuzzy-read'.Post × Same fuzzy-read'.Post (λ κs z e. e .1 .1 .1 .1 .1 .1 .1 .1 .1 .0 .now)
 fuzzy-read = (same fuzzy-read'.Post _ _ (λ κs a z e p. p .0), same fuzzy-read'.Post _ _ (λ κs a z e p. p .1))
@@ -24,3 +25,6 @@ fuzzy-write-stamp = (same fuzzy-write-stamp'.Post _ _ (λ κs a z e p. p .0), sa
 
 pub fuzzy-find-word : Settled fuzzy-find-word'.Post × Same fuzzy-find-word'.Post (λ κs z e. e .1 .1 .0 .now)
 fuzzy-find-word = (same fuzzy-find-word'.Post _ _ (λ κs a z e p. p .0), same fuzzy-find-word'.Post _ _ (λ κs a z e p. p .1))
+
+pub fuzzy-write-phrase : Settled fuzzy-write-phrase'.Post × Same fuzzy-write-phrase'.Post (λ κs z e. e .1 .1 .1 .1 .1 .1 .1 .0 .now)
+fuzzy-write-phrase = (same fuzzy-write-phrase'.Post _ _ (λ κs a z e p. p .0), same fuzzy-write-phrase'.Post _ _ (λ κs a z e p. p .1))

@@ -14,5 +14,6 @@ pub mod Steps
 pub mod Ready
 pub mod Records
 pub mod Stamp
+pub mod Shown
 pub mod Fuzzydate
 pub mod Text

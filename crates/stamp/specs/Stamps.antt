@@ -5,9 +5,9 @@ use mathlib.Core.Bool.{Bool, true, _&&_, cond}
 use mathlib.Core.List.{List, [], _∷_, _++_, map}
 use lib.Dec.{eqb, leb, ltb}
 use lib.ListN.{length, getD, take, drop}
-use lib.Seq.{sets}
-use Rattle.refusals.specs.Table.{NoNow, Outside, NoStamp, NoRoom}
-use Rattle.refusals.specs.Answers.{Answer, given, refused, refuse}
+use Rattle.refusals.specs.Table.{NoNow, Outside, NoStamp}
+use Rattle.refusals.specs.Answers.{Answer, given, refuse}
+use Rattle.refusals.specs.Writings.{fitted}
 use Rattle.digits.specs.Bytes.{bytesOf, capitalOf, same}
 use Rattle.digits.specs.Digits.{digitsOf, marked, twoAt}
 use Rattle.calendar.specs.Moments.{isDayOfMonth, isTime, isMoment}
@@ -18,7 +18,6 @@ use Rattle.stamp.specs.declared.Offset.{Offset}
 use Rattle.stamp.specs.declared.Stamp.{Stamp}
 use Rattle.stamp.specs.declared.read.StampRead.{StampRead}
 use Rattle.stamp.specs.declared.read.StampRead.the-variants.{Is, Refused}
-use Rattle.stamp.specs.declared.write.Wrote.{Wrote}
 
 -- "Z" and "+00:00": the offset is zero
 abbrev pub zulu : Offset
@@ -118,10 +117,7 @@ isOffset o = leb (o .west) 1 && ltb (o .minutes) 1440
 -- "8 for no moment, 14 for an offset out of range, 17 for a buffer too short"
 unfoldable pub writtenOf : Stamp → ℕ → Answer (List ℕ)
 writtenOf st room =
-    cond (isMoment (st .moment))
-    (cond (isOffset (st .offset))
-    (cond (leb (length (stampText st)) room) (given (stampText st)) (refuse NoRoom 0 0))
-    (refuse NoStamp 0 0))
+    cond (isMoment (st .moment)) (cond (isOffset (st .offset)) (fitted (stampText st) room) (refuse NoStamp 0 0))
     (refuse NoNow 0 0)
 
 -- an offset's text as the writer has it: "Z" for "+00:00", and capitals
@@ -139,13 +135,3 @@ plainFraction f = cond (same (filledUp f) (bytesOf ".000")) [] (filledUp f)
 -- a stamp's text as the writer has it
 abbrev pub plain : List ℕ → List ℕ
 plain s = let p = offsetPlace s in map capitalOf (take 19 s) ++ plainFraction (fractionAt p s) ++ plainOffset (drop p s)
-
--- the code's answer: number 0 and the text's length, or a refusal's number and no byte
-abbrev pub wroteOf : Answer (List ℕ) → Wrote
-wroteOf (given text) = record { number = 0; count = length text }
-wroteOf (refused r) = record { number = r .number; count = 0 }
-
--- the lent buffer: the text at its front and all else as before, or, refused, "nothing written"
-abbrev pub bufferOf : List ℕ → Answer (List ℕ) → List ℕ
-bufferOf before (given text) = sets before 0 text
-bufferOf before (refused r) = before

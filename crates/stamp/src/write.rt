@@ -7,17 +7,13 @@ use digits::put::put_pair;
 use refusals::NO_NOW;
 use refusals::NO_ROOM;
 use refusals::NO_STAMP;
+use refusals::Wrote;
 ghost use mathlib.Core.Path.{_≡_};
 ghost use Prim.Native.Nat.{_+_, _≤_};
 ghost use lib.ListN.{length};
 ghost use lib.Seq.{sets};
-ghost use Rattle.stamp.specs.Stamps.{isZulu, signOf, offsetText, fractionText, stampText, isOffset, writtenOf, wroteOf, bufferOf};
-
-// How a writing ended: number 0 and the count of bytes, or a refusal's number and count 0.
-pub struct Wrote {
-    pub number: u8,
-    pub count: usize,
-}
+ghost use Rattle.refusals.specs.Writings.{wroteOf, bufferOf};
+ghost use Rattle.stamp.specs.Stamps.{isZulu, signOf, offsetText, fractionText, stampText, isOffset, writtenOf};
 
 // True for an offset up to 23:59, east or west.
 fn valid_offset(o: Offset) -> bool
