@@ -1,19 +1,17 @@
 // Dates and day numbers: proleptic Gregorian, years 1 to 9999. Day 0 is 0001-01-01, a Monday.
 use super::moments::Moment;
+use super::starts::year_start;
 ghost use mathlib.Core.Path.{_≡_};
 ghost use Prim.Native.Nat.{_≤_, _<_, _+_, min};
 ghost use Rattle.calendar.specs.Gregorian.{leapYear, leapDay, monthLength, daysBeforeMonth, daysOfYears, dayNumber, days, IsDate};
 ghost use Rattle.calendar.specs.Gregorian.{yearsBefore, monthOf, InYear, InMonth};
 
-// True where y divides by 4 and not by 100, or by 400.
+// True where y divides by 4 and not by 100, or by 400: a hundredth divides by 400 exactly if by 16.
 pub(crate) fn leap_year(y: u32) -> bool
     ensures { λ r. ⌜ r ≡ leapYear y ⌝ }
 {
-    if y % 400 == 0 {
-        return true;
-    }
     if y % 100 == 0 {
-        return false;
+        return y % 16 == 0;
     }
     y % 4 == 0
 }
@@ -50,12 +48,12 @@ pub(crate) fn days_before_month(leap: bool, m: u32) -> u32
     }
 }
 
-// The days of the first x years.
+// The days of the first x years: whole cycles, and the start of a year of the next.
 pub(crate) fn days_of_years(x: u32) -> u32
     requires { ⌜ x ≤ 9999 ⌝ }
     ensures { λ r. ⌜ (r ≡ daysOfYears x) × (r ≤ days) ⌝ }
 {
-    365 * x + x / 4 - x / 100 + x / 400
+    Moment::CYCLE * (x / 400) + year_start(x % 400)
 }
 
 // The day number of a date.
@@ -73,16 +71,14 @@ pub(crate) fn least(a: u32, b: u32) -> u32
     if a < b { a } else { b }
 }
 
-// The whole years before day n: cycles of 400 years, centuries, fours and single years.
+// The whole years before day n. 22967 / 8388608 is a little less than a day's part of a year, so x is that number or one less, and the
+// start of the next year says which.
 pub(crate) fn years_before(n: u32) -> u32
     requires { ⌜ n < days ⌝ }
     ensures { λ r. ⌜ (r ≡ yearsBefore n) × (r < 9999) × InYear n r ⌝ }
 {
-    let r = n % Moment::CYCLE;
-    let c = least(r / 36524, 3);
-    let s = r - 36524 * c;
-    let a = least(s % 1461 / 365, 3);
-    400 * (n / Moment::CYCLE) + (100 * c + (4 * (s / 1461) + a))
+    let x = n / 32 * 22967 / 262144;
+    if n < days_of_years(x + 1) { x } else { x + 1 }
 }
 
 // The month of day k of a year, counted from 0: the line of `days_before_month` the other way.

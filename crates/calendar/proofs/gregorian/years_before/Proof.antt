@@ -1,66 +1,41 @@
 use borrow.Author.Needs.{needs}
-use native.Mathlib.Omega.{arith}
-use Prim.Native.Nat.{ℕ, _+_, _*_, _≤_, _<_, _^_}
-use Rattle.calendar.specs.Gregorian.{yearsBefore, days, InYear}
-use Rattle.calendar.proofs.Years.{year-of}
-use Rattle.calendar.proofs.Dates.{years-below}
 use mathlib.Core.Path.{_≡_}
+use Prim.Native.Nat.{ℕ, _<_}
+use native.Mathlib.Omega.{arith}
+use Rattle.calendar.specs.Gregorian.{yearsBefore, days, InYear}
+use Rattle.calendar.proofs.Years.{not-late, not-early}
+use Rattle.calendar.proofs.Dates.{between, the-year, years-below}
 use Rattle.calendar.proofs.gregorian.years_before.Statement.{statement}
 use Rattle.calendar.proofs.gregorian.years_before.Tie as tie
 
-small : (q c f a : ℕ) → q ≤ 24 → c ≤ 3 → f ≤ 100 → a ≤ 3 → 400 * q + (100 * c + (4 * f + a)) < 2 ^ 32
-small q c f a h i j k = omega arith
+mul-x : tie.Need-mul-x
+mul-x c = search needs
 
-least-requires : tie.Need-least-requires
-least-requires c κs = search needs
+add-days-of-years : tie.Need-add-days-of-years
+add-days-of-years c = search needs
 
-mul-s : tie.Need-mul-s
-mul-s c = search needs
-
-sub-s : tie.Need-sub-s
-sub-s c = search needs
-
-least-requires-2 : tie.Need-least-requires-2
-least-requires-2 c κs = search needs
-
-mul-result : tie.Need-mul-result
-mul-result c = search needs
-
-mul-result-2 : tie.Need-mul-result-2
-mul-result-2 c = search needs
-
-mul-result-3 : tie.Need-mul-result-3
-mul-result-3 c = search needs
+days-of-years-requires : tie.Need-days-of-years-requires
+days-of-years-requires c κs = search needs
 
 add-result : tie.Need-add-result
 add-result c = search needs
 
-add-result-2 : tie.Need-add-result-2
-add-result-2 c = search needs
-
-add-result-3 : tie.Need-add-result-3
-add-result-3 c = record { fits = small _ _ _ _ (omega arith) (omega arith) (omega arith) (omega arith) }
-
--- the answer by its definition has what laws say of it
-told : (n r : ℕ) → n < days → r ≡ yearsBefore n → (r ≡ yearsBefore n) × (r < 9999) × InYear n r
-told n r h e = (e, omega (arith, years-below n h), rw e (year-of n))
+-- the year that day n falls in has what is promised of it
+told : (n r : ℕ) → n < days → InYear n r → (r ≡ yearsBefore n) × (r < 9999) × InYear n r
+told n r h i = (the-year n r i, omega (arith, the-year n r i, years-below n h), i)
 
 returns : tie.Need-returns
-unfolding yearsBefore
-returns c = told _ _ (c .before .before .pre) (cc)
+returns c =
+    let n = c .before .before .args .n in
+    told n _ (c .before .before .pre) (between n _ (not-late n _ (omega arith)) (omega arith))
+
+returns-2 : tie.Need-returns-2
+returns-2 c =
+    let n = c .before .before .args .n in
+    let h = c .before .before .pre in
+    told n _ h (between n _ (omega arith) (not-early n _ h (omega arith)))
 
 pub years-before-spec : {M : Type 1} → statement M
 years-before-spec =
     tie.close
-    (tie.spec
-    least-requires
-    mul-s
-    sub-s
-    least-requires-2
-    mul-result
-    mul-result-2
-    mul-result-3
-    add-result
-    add-result-2
-    add-result-3
-    returns)
+    (tie.spec mul-x add-days-of-years days-of-years-requires add-result returns returns-2)
