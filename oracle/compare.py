@@ -4,6 +4,7 @@
     compare.py --all COUNT SEED   the fixed lists, all phrases of up to three lexemes, sweeps of nows, and COUNT random phrases
                                   (for reading 2 a fifth of them)
     compare.py --differs          the class of each line of the fixed list at which the recorded answer differs from the model's
+    compare.py --random COUNT SEED  COUNT random lines, the second half as they are made for reading 2
     compare.py --check            the fixed lists, the recorded answers (if the Rust is built), the model's and the classes are as made
 
 A class is one rule by which the Rust differs from document 01. `Like` is the model with some of these rules the Rust's
@@ -403,6 +404,11 @@ def second_random_lines(count, seed):
     return made_lines(count, dice, makers)
 
 
+def mixed_random_lines(count, seed):
+    """Half of each."""
+    return itertools.chain(random_lines(count - count // 2, seed), second_random_lines(count // 2, seed))
+
+
 def made_lines(count, dice, makers):
     for _ in range(count):
         phrase = dice.pick(makers)()
@@ -531,6 +537,9 @@ def main():
             sys.exit(compare(int(count), int(seed)) > 0)
         case ["--differs"]:
             print("\n".join(differs_lines()))
+        case ["--random", count, seed]:
+            for line in mixed_random_lines(int(count), int(seed)):
+                print(line)
         case ["--check"]:
             sys.exit(check() > 0)
         case _:

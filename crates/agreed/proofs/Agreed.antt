@@ -53,7 +53,7 @@ module _ {bytes : List ℕ} {n : Moment} {array : List ℕ} {k : ℕ} {array′ 
       (λ c. rw (← (c .reading-is)) (c .call .promised .0))
       (λ c. rw (← (c .reading-is)) (c .call .promised .1))
 
-  run-says : Run bytes n array k array′ → Says (placed (runOf (decodeOf bytes) n)) array k array′
+  pub run-says : Run bytes n array k array′ → Says (placed (runOf (decodeOf bytes) n)) array k array′
   run-says = says runSeen (λ bytes n. placed (runOf (decodeOf bytes) n)) (λ c. c .promised .0) (λ c. c .promised .1)
 
 -- what a ready phrase of the definitions becomes in a call

@@ -2,7 +2,7 @@
 use Prim.Native.Nat.{ℕ, _+_, _/_, _%_, _≤_}
 use mathlib.Core.Path.{_≡_}
 use mathlib.Core.List.{List, [], _∷_}
-use lib.ListN.{length}
+use lib.ListN.{length, getD}
 use Rattle.calendar.specs.Moments.{IsMoment, momentOf}
 use Rattle.calendar.specs.declared.moments.Moment.{Moment}
 use Rattle.fuzzydate.specs.Called.{seven}
@@ -106,6 +106,10 @@ Read reading phrase n array k array′ = AtNow (readSeen reading) phrase n array
 -- `fuzzy_run`, of a ready phrase
 abbrev pub Run : List ℕ → Moment → List ℕ → ℕ → List ℕ → Type 0
 Run ready n array k array′ = AtNow runSeen ready n array k array′
+
+-- the moment whose numbers a call left in its array
+abbrev pub momentLeft : List ℕ → Moment
+momentLeft a = momentOf (getD a 0 0) (getD a 1 0) (getD a 2 0) (getD a 3 0) (getD a 4 0) (getD a 5 0) (getD a 6 0)
 
 -- an answer's three parts: the number of a refusal, or 0
 abbrev pub number : ℕ → ℕ

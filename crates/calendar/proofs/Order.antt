@@ -2,7 +2,7 @@
 use mathlib.Core.Path.{_≡_, refl, sym, _∙_}
 use mathlib.Core.Bool.{Bool, true, false, cond}
 use mathlib.Core.Logic.{⊎-elim}
-use Prim.Native.Nat.{ℕ, _+_, _-_, _/_, _%_, _≤_, _<_}
+use Prim.Native.Nat.{ℕ, _+_, _-_, _≤_, _<_}
 use native.Mathlib.Omega.{arith}
 use native.Mathlib.Nat.{eq-or-lt-of-le}
 use lib.Dec.{leb}
@@ -13,8 +13,8 @@ use Rattle.calendar.specs.Moments.{minuteNumber, minutes, atMinute, minu
 use Rattle.calendar.specs.Moments.{yearNumber, years, inYear, yearsStep}
 use Rattle.calendar.specs.declared.moments.Moment.{Moment}
 use Rattle.calendar.proofs.Rooms.{below-limit}
-use Rattle.calendar.proofs.Dates.{Before, by-year, by-month, day-order}
-use Rattle.calendar.proofs.Places.{minute-below, minute-at, at-own-minute, month-below, in-month-moment, in-own-month, in-year-date}
+use Rattle.calendar.proofs.DateOrder.{same-date, earlier-month, same-month, in-months}
+use Rattle.calendar.proofs.Places.{minute-below, minute-at, at-own-minute, month-below, in-own-month, in-year-date}
 
 -- two moments of the calendar with one instant are one moment
 pub one-instant : (t u : Moment) → IsMoment t → IsMoment u → instantOf t ≡ instantOf u → t ≡ u
@@ -69,18 +69,10 @@ months-ordered back k t u v e =
     rw (in-own-month t v)
     at (row-ordered (λ n. inMonth n t) (λ n. n < months) in-order back k n h (below-limit back k n months h (w .0)) (w .1))
   where
-    before : (n m d e : ℕ) → n < m → Before (n / 12 + 1) (n % 12 + 1) d (m / 12 + 1) (m % 12 + 1) e
-    before n m d e h =
-        let years : n / 12 ≤ m / 12 = omega arith in
-        ⊎-elim (λ p. by-month (omega arith) (omega arith)) (λ l. by-year (omega arith)) (eq-or-lt-of-le years)
-
     in-order : (n m : ℕ) → n ≤ m → n < months → m < months → NotAfter (inMonth n t) (inMonth m t)
     in-order n m h i j =
-        ⊎-elim (λ p. rw p (omega arith))
-        (λ l. on-dates t _ _ _ _ _ _ (omega (
-          arith,
-          day-order (in-month-moment n t i v .date) (in-month-moment m t j v .date) (before n m _ _ l),
-        ))) (eq-or-lt-of-le h)
+        on-dates t _ _ _ _ _ _
+        (in-months n m v v i j (⊎-elim (λ p. same-month p (omega arith)) earlier-month (eq-or-lt-of-le h)))
 
 -- years: the same month and day
 pub years-ordered : (back : Bool) (k : ℕ) (t u : Moment) → IsMoment t → yearsStep back k t ≡ moment u → Ordered back t u
@@ -97,6 +89,4 @@ years-ordered back k t u v e =
   where
     in-order : (n m : ℕ) → n ≤ m → IsDate (n + 1) (t .month) (t .day) → IsDate (m + 1) (t .month) (t .day) →
         NotAfter (withDate (n + 1) (t .month) (t .day) t) (withDate (m + 1) (t .month) (t .day) t)
-    in-order n m h a b =
-        ⊎-elim (λ p. rw p (omega arith))
-        (λ l. on-dates t _ _ _ _ _ _ (omega (arith, day-order a b (by-year (omega arith))))) (eq-or-lt-of-le h)
+    in-order n m h a b = on-dates t _ _ _ _ _ _ (same-date a b (omega arith))

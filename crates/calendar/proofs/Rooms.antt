@@ -55,6 +55,11 @@ module _ (back : Bool) (k n limit : ℕ) where
       go true p e = absurd (omega (arith, below-limit h p))
       go false p e = refl
 
+-- two places moved alike stay as far apart, where there is room for the first
+pub moved-apart : (back : Bool) (k n m limit : ℕ) → hasRoom back k n limit ≡ true → n ≤ m → moved back k m ≡ moved back k n + (m - n)
+moved-apart true k n m limit e h = let most = leb-true k n e in omega arith
+moved-apart false k n m limit e h = omega arith
+
 -- a and then b is a + b
 pub moved-twice : (back : Bool) (a b n : ℕ) → moved back b (moved back a n) ≡ moved back (a + b) n
 moved-twice true a b n = sym (sub-add-eq n a b)

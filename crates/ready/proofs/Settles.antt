@@ -37,7 +37,7 @@ move-leads (Years back k) t v = years-lead kept-moment back k t v
 move-leads (BackTo d) t v = days-back-lead t v _ _
 move-leads (ForwardTo d) t v = on-day-leads t v _
 
-act-leads : (s : Step) (n t : Moment) → IsMoment n → IsMoment t → Leads IsMoment (actOf s n t)
+pub act-leads : (s : Step) (n t : Moment) → IsMoment n → IsMoment t → Leads IsMoment (actOf s n t)
 act-leads (From s) n t w v = start-leads s t v
 act-leads (By m) n t w v = move-leads m t v
 act-leads (AtTime x) n t w v = time-leads x n t w v
