@@ -1,0 +1,4 @@
+pub mod Held
+pub mod Occurrences
+pub mod Firsts
+pub mod Listing

@@ -1,0 +1,1 @@
+// The occurrences of a rule from its start on.
