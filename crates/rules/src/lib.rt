@@ -1,6 +1,11 @@
 // A repeating rule of RFC 5545, section 3.3.10, as far as it is taken: every so many days, weeks or months.
 use calendar::moments::Moment;
 
+mod cut;
+mod draft;
+mod part;
+pub mod read;
+
 // FREQ.
 pub enum Freq {
     Daily,
