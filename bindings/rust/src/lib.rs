@@ -645,8 +645,15 @@ pub fn find_word<W: AsRef<[u8]> + ?Sized>(reading: Reading, word: &W) -> FoundWo
 /// The days of the calendar: no rule has more occurrences.
 const DAYS: usize = 3_652_059;
 
-/// A repeating rule of RFC 5545, kept as its text: `FREQ=WEEKLY;INTERVAL=2;BYDAY=TU` is every second tuesday. include/fuzzy.h says which parts
-/// are taken.
+/// A repeating rule of RFC 5545, kept as its text: `FREQ=WEEKLY;INTERVAL=2;BYDAY=TU` is every second tuesday. No "RRULE:" and no blanks; letters in
+/// either case, and zeros may stand in front of numbers. First FREQ, which is DAILY, WEEKLY or MONTHLY, then in any order, each at most once:
+///
+/// - INTERVAL: 1 to 999; 1 where there is none.
+/// - COUNT: 1 to 4,294,967,295.
+/// - UNTIL: a date such as 20260301, that day included, or a date-time such as 20260301T093000, without "Z"; not beside COUNT.
+/// - BYDAY, only with WEEKLY: days such as TU,FR, each counted once; the start's own weekday where there is none.
+/// - BYMONTHDAY, only with MONTHLY: a day of 1 to 31, the start's own where there is none. A month without that day is passed over.
+/// - WKST: MO. Weeks begin on Monday.
 #[derive(Clone, Debug, PartialEq, Eq, Hash)]
 pub struct Rule {
     text: String,
