@@ -3,3 +3,4 @@ pub mod Digits
 pub mod Names
 pub mod Orders
 pub mod Letters
+pub mod Ruled

@@ -1,5 +1,5 @@
 -- What a rule's numbers are.
-use Prim.Native.Nat.{ℕ, _≤_, _<_}
+use Prim.Native.Nat.{ℕ, _≤_}
 use Rattle.calendar.specs.Gregorian.{IsDate}
 use Rattle.calendar.specs.Moments.{IsMoment}
 use Rattle.calendar.specs.declared.moments.Moment.{Moment}
@@ -14,10 +14,8 @@ IsBound (Count n) = 1 ≤ n
 IsBound (UntilDay y m d) = IsDate y m d
 IsBound (UntilMoment t) = IsMoment t
 
--- "INTERVAL from 1 to 999"; a set of seven days; "one positive BYMONTHDAY"
+-- what listing asks of a rule: "INTERVAL from 1 to 999", and such a bound
 pub record IsRule (r : Rule) : Type 0 where
   pub least : 1 ≤ r .interval
   pub most : r .interval ≤ 999
   pub bound : IsBound (r .bound)
-  pub days : r .days < 128
-  pub day : r .day ≤ 31
