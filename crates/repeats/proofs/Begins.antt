@@ -74,13 +74,25 @@ counted-is (Count n) l h = refl
 counted-is (UntilDay y m d) l h = sym (take-all days l h)
 counted-is (UntilMoment u) l h = sym (take-all days l h)
 
--- a rule's occurrences are its course's days
-pub same-list : (r : Rule) (t : Moment) → IsRule r → occurrences r t ≡ daysIn (courseOf r t)
-unfolding occurrences
-same-list r t v =
+-- the days below the limit at which a rule holds
+abbrev pub daysBelow : Rule → Moment → List ℕ
+daysBelow r t = between (occursOn r t) (dayOfMoment t) (limitOf (r .bound) t)
+
+-- are no more than the calendar's
+pub days-few : (r : Rule) (t : Moment) → IsRule r → length (daysBelow r t) ≤ days
+days-few r t v =
     let short = held-short (occursOn r t) (dayOfMoment t) (limitOf (r .bound) t - dayOfMoment t) in
-    let room = limit-in (r .bound) t (v .bound) in
-    counted-is (r .bound) (between (occursOn r t) (dayOfMoment t) (limitOf (r .bound) t)) (omega arith)
+    omega (arith, limit-in (r .bound) t (v .bound))
+
+-- a rule's occurrences are the first of them
+pub occurrences-are : (r : Rule) (t : Moment) → IsRule r → occurrences r t ≡ take (countOf (r .bound)) (daysBelow r t)
+unfolding occurrences
+occurrences-are r t v = counted-is (r .bound) (daysBelow r t) (days-few r t v)
+
+-- and its course's days
+same-list : (r : Rule) (t : Moment) → IsRule r → occurrences r t ≡ daysIn (courseOf r t)
+same-list r t v =
+    occurrences-are r t v
     ∙ ap (λ (p : Repeat). take (countOf (r .bound)) (between (holds p (r .interval) (dayOfMoment t)) (dayOfMoment t) (limitOf (r .bound) t)))
     (sym (same-repeat r t))
 

@@ -52,7 +52,7 @@ pub past-limit : (c : Course) (n : ℕ) → c .limit ≤ n → leftFrom c n ≡ 
 past-limit c n h = held-none (holdsIn c) n (c .limit - n) (λ k p q. absurd (omega arith))
 
 -- a row has seven numbers
-rows-length : (t : Moment) (l : List ℕ) → length (rows t l) ≡ 7 * length l
+pub rows-length : (t : Moment) (l : List ℕ) → length (rows t l) ≡ 7 * length l
 rows-length t [] = omega arith
 rows-length t (n ∷ l) = rw (length-append (row (atDay n t)) (rows t l)) (omega (arith, rows-length t l))
 
