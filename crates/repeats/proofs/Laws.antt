@@ -2,7 +2,7 @@
 use Prim.Native.Nat.{ℕ, zero, suc, _+_, _-_, _*_, _/_, _≤_, _<_}
 use native.Mathlib.Nat.{zero-add}
 use native.Mathlib.Omega.{arith}
-use mathlib.Core.Path.{_≡_, refl, sym, _∙_}
+use mathlib.Core.Path.{_≡_, refl}
 use mathlib.Core.Logic.{_⊎_, inl, inr, ⊎-elim}
 use mathlib.Core.Bool.{Bool, true, false, cond, and-eq-true-iff}
 use mathlib.Core.List.{List, [], _∷_, _++_}
@@ -11,7 +11,7 @@ use lib.ListN.{length, take, drop, length-take}
 use lib.Seq.{sets, sets-eq, take-length}
 use borrow.Author.Tests.{leb-true, leb-false, ltb-true}
 use Rattle.refusals.specs.Table.{NoStart}
-use Rattle.refusals.specs.Answers.{Answer, given, refuse, refusalAt, andThen}
+use Rattle.refusals.specs.Answers.{given, refuse, refusalAt, andThen}
 use Rattle.refusals.proofs.Holds.{Holds, of-given, of-refusal, Bounded}
 use Rattle.calendar.specs.Gregorian.{days}
 use Rattle.calendar.specs.Moments.{IsMoment, NotAfter, atDay, dayOfMoment, instantOf}
