@@ -68,7 +68,7 @@ unfolding occurrences
 occurrences-are r t v = counted-is (r .bound) (daysBelow r t) (days-few r t v)
 
 -- and its course's days
-same-list : (r : Rule) (t : Moment) → IsRule r → occurrences r t ≡ daysIn (courseOf r t)
+pub same-list : (r : Rule) (t : Moment) → IsRule r → occurrences r t ≡ daysIn (courseOf r t)
 same-list r t v =
     occurrences-are r t v
     ∙ ap (λ (p : Repeat). take (countOf (r .bound)) (between (holds p (r .interval) (dayOfMoment t)) (dayOfMoment t) (limitOf (r .bound) t)))
