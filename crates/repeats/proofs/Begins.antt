@@ -1,16 +1,16 @@
 -- A rule's course: what it repeats, its days, and that its start is the first of them.
-use Prim.Native.Nat.{ℕ, _-_, _*_, _/_, _%_, _≤_, _<_}
+use Prim.Native.Nat.{ℕ, _-_, _≤_, _<_}
 use native.Mathlib.Omega.{arith}
 use mathlib.Core.Path.{_≡_, refl, ap, sym, _∙_}
 use mathlib.Core.Bool.{Bool, true, false, cond, _&&_, and-eq-true-iff}
 use mathlib.Core.List.{List}
-use lib.Dec.{eqb, leb, ltb}
+use lib.Dec.{leb, ltb}
 use lib.ListN.{length, take}
 use lib.Seq.{take-all}
 use borrow.Author.Tests.{lt-ltb, le-ltb, ltb-true}
 use Rattle.refusals.specs.Table.{NoStart}
 use Rattle.refusals.specs.Answers.{given, refuse}
-use Rattle.calendar.specs.Gregorian.{days, dayOf}
+use Rattle.calendar.specs.Gregorian.{days}
 use Rattle.calendar.specs.Moments.{IsMoment, dayOfMoment, monthNumber}
 use Rattle.calendar.specs.declared.moments.Moment.{Moment}
 use Rattle.calendar.proofs.Dates.{in-days, date-day}
@@ -20,36 +20,14 @@ use Rattle.rules.specs.declared.Freq.the-variants.{Daily, Weekly, Monthly}
 use Rattle.rules.specs.declared.Bound.{Bound}
 use Rattle.rules.specs.declared.Bound.the-variants.{Endless, Count, UntilDay, UntilMoment}
 use Rattle.rules.specs.declared.Rule.{Rule}
-use Rattle.repeats.specs.Held.{between, one}
-use Rattle.repeats.specs.Occurrences.{Repeat, daily, weekly, monthly, divides, monthAt, holds, repeatBy, repeatOf, timeOfDay, limitOf, counted}
+use Rattle.repeats.specs.Held.{between}
+use Rattle.repeats.specs.Occurrences.{Repeat, monthAt, holds, repeatBy, repeatOf, timeOfDay, limitOf, counted}
 use Rattle.repeats.specs.Occurrences.{occursOn, occurrences, startFits, daysOf}
 use Rattle.repeats.specs.Courses.{countOf, courseOf, repeatOn, repeatIn, holdsIn, daysIn, IsCourse, begunOf}
 use Rattle.repeats.specs.declared.courses.Course.{Course}
 use Rattle.repeats.specs.declared.courses.Begun.{Begun}
 use Rattle.repeats.specs.declared.courses.Begun.the-variants.{Refused, From}
-use Rattle.repeats.proofs.Division.{divides-mul}
 use Rattle.repeats.proofs.Held.{held-short, one-most}
-
--- a number is no turn away from itself
-own-turn : (i n : ℕ) → divides i (n - n) ≡ true
-own-turn i n = let e : n - n ≡ i * 0 = omega arith in rw e (divides-mul i 0)
-
-and-true : (b : Bool) → (b && true) ≡ b
-and-true true = refl
-and-true false = refl
-
--- whether a start matches: always, by its weekday, or by its day of the month
-pub daily-own : (i s : ℕ) → holds daily i s s ≡ true
-unfolding holds
-daily-own i s = own-turn i s
-
-pub weekly-own : (w : ℕ → Bool) (i s : ℕ) → holds (weekly w) i s s ≡ w (s % 7)
-unfolding holds
-weekly-own w i s = rw (own-turn i (s / 7)) (and-true (w (s % 7)))
-
-pub monthly-own : (d i s : ℕ) → holds (monthly d) i s s ≡ eqb (dayOf s) d
-unfolding holds
-monthly-own d i s = rw (own-turn i (monthAt s)) (and-true (eqb (dayOf s) d))
 
 -- what a rule's course repeats is what the rule does
 pub same-repeat : (r : Rule) (t : Moment) → repeatIn (courseOf r t) ≡ repeatOf r t
@@ -74,13 +52,25 @@ counted-is (Count n) l h = refl
 counted-is (UntilDay y m d) l h = sym (take-all days l h)
 counted-is (UntilMoment u) l h = sym (take-all days l h)
 
--- a rule's occurrences are its course's days
-pub same-list : (r : Rule) (t : Moment) → IsRule r → occurrences r t ≡ daysIn (courseOf r t)
-unfolding occurrences
-same-list r t v =
+-- the days below the limit at which a rule holds
+abbrev pub daysBelow : Rule → Moment → List ℕ
+daysBelow r t = between (occursOn r t) (dayOfMoment t) (limitOf (r .bound) t)
+
+-- are no more than the calendar's
+pub days-few : (r : Rule) (t : Moment) → IsRule r → length (daysBelow r t) ≤ days
+days-few r t v =
     let short = held-short (occursOn r t) (dayOfMoment t) (limitOf (r .bound) t - dayOfMoment t) in
-    let room = limit-in (r .bound) t (v .bound) in
-    counted-is (r .bound) (between (occursOn r t) (dayOfMoment t) (limitOf (r .bound) t)) (omega arith)
+    omega (arith, limit-in (r .bound) t (v .bound))
+
+-- a rule's occurrences are the first of them
+pub occurrences-are : (r : Rule) (t : Moment) → IsRule r → occurrences r t ≡ take (countOf (r .bound)) (daysBelow r t)
+unfolding occurrences
+occurrences-are r t v = counted-is (r .bound) (daysBelow r t) (days-few r t v)
+
+-- and its course's days
+pub same-list : (r : Rule) (t : Moment) → IsRule r → occurrences r t ≡ daysIn (courseOf r t)
+same-list r t v =
+    occurrences-are r t v
     ∙ ap (λ (p : Repeat). take (countOf (r .bound)) (between (holds p (r .interval) (dayOfMoment t)) (dayOfMoment t) (limitOf (r .bound) t)))
     (sym (same-repeat r t))
 

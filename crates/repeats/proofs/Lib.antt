@@ -9,3 +9,4 @@ pub mod Sixteen
 pub mod Rules
 pub mod Begins
 pub mod Rows
+pub mod Laws

@@ -11,7 +11,7 @@ use Rattle.calendar.specs.Gregorian.{dayOf, days}
 use Rattle.digits.proofs.Order.{le-or-lt}
 use Rattle.calendar.proofs.Dates.{is-date}
 use Rattle.repeats.specs.Firsts.{dayIn, firstMonthly, hasDay, monthFrom, up}
-use Rattle.repeats.specs.Held.{First, one, seek}
+use Rattle.repeats.specs.Held.{First, seek}
 use Rattle.repeats.specs.Occurrences.{divides, holds, monthAt, monthly}
 use Rattle.repeats.proofs.Dates.{DayIn, day-in, earlier, has-day, lengthAt}
 use Rattle.repeats.proofs.Division.{divided, divides-mul, up-bounds}

@@ -4,7 +4,6 @@ use native.Mathlib.Nat.{zero-add}
 use native.Mathlib.Omega.{arith}
 use mathlib.Core.Path.{_≡_, refl, ap, sym, _∙_}
 use mathlib.Core.Logic.{⊎-elim}
-use mathlib.Core.Bool.{Bool, true, false, cond}
 use mathlib.Core.List.{List, [], _∷_, _++_, append-nil, append-assoc}
 use lib.ListN.{length, take, length-append, length-take}
 use lib.Seq.{sets, length-sets, take-all, take-at, take-take}
@@ -18,8 +17,6 @@ use Rattle.repeats.specs.Firsts.{firstFrom}
 use Rattle.repeats.specs.Courses.{repeatIn, holdsIn, daysIn, IsCourse}
 use Rattle.repeats.specs.Listing.{row, rows}
 use Rattle.repeats.specs.declared.courses.Course.{Course}
-use Rattle.repeats.specs.declared.courses.Begun.{Begun}
-use Rattle.repeats.specs.declared.courses.Begun.the-variants.{Refused, From}
 use Rattle.repeats.proofs.Held.{held-none}
 use Rattle.repeats.proofs.Rules.{found, listed, listed-all}
 
@@ -52,7 +49,7 @@ pub past-limit : (c : Course) (n : ℕ) → c .limit ≤ n → leftFrom c n ≡ 
 past-limit c n h = held-none (holdsIn c) n (c .limit - n) (λ k p q. absurd (omega arith))
 
 -- a row has seven numbers
-rows-length : (t : Moment) (l : List ℕ) → length (rows t l) ≡ 7 * length l
+pub rows-length : (t : Moment) (l : List ℕ) → length (rows t l) ≡ 7 * length l
 rows-length t [] = omega arith
 rows-length t (n ∷ l) = rw (length-append (row (atDay n t)) (rows t l)) (omega (arith, rows-length t l))
 

@@ -1,9 +1,8 @@
 -- The closed form of every rule, and the list of its occurrences.
-use mathlib.Core.Path.{_≡_}
-use mathlib.Core.Bool.{Bool, true, and-eq-true-iff}
+use mathlib.Core.Path.{_≡_, refl, sym, _∙_}
+use mathlib.Core.Bool.{Bool, true, false, _&&_}
 use mathlib.Core.Logic.{_⊎_, ⊎-elim}
 use mathlib.Core.List.{_∷_, []}
-use mathlib.Core.Option.{none}
 use lib.ListN.{take}
 use lib.Dec.{eqb}
 use Prim.Native.Nat.{ℕ, suc, _+_, _-_, _*_, _/_, _%_, _≤_, _<_}
@@ -17,20 +16,40 @@ use Rattle.repeats.specs.Firsts.{dayIn, firstFrom, firstMonthly}
 use Rattle.repeats.specs.Held.{First, between}
 use Rattle.repeats.specs.Occurrences.{Repeat, daily, divides, holds, monthAt, monthly, weekly}
 use Rattle.repeats.proofs.Daily.{daily-first}
+use Rattle.repeats.proofs.Division.{divides-mul}
 use Rattle.repeats.proofs.Held.{Each, FirstBelow, Held, In, Increasing, first-head, held-complete, held-cons, held-increasing, held-none, held-sound, take-each, take-increasing}
 use Rattle.repeats.proofs.Monthly.{monthly-end, turnFrom}
 use Rattle.repeats.proofs.Sixteen.{monthly-least}
 use Rattle.repeats.proofs.Weekly.{weekly-first}
 
+-- a number is no turn away from itself
+own-turn : (i n : ℕ) → divides i (n - n) ≡ true
+own-turn i n = let e : n - n ≡ i * 0 = omega arith in rw e (divides-mul i 0)
+
+and-true : (b : Bool) → (b && true) ≡ b
+and-true true = refl
+and-true false = refl
+
+-- whether a start matches: always, by its weekday, or by its day of the month
+pub daily-own : (i s : ℕ) → holds daily i s s ≡ true
+unfolding holds
+daily-own i s = own-turn i s
+
+pub weekly-own : (w : ℕ → Bool) (i s : ℕ) → holds (weekly w) i s s ≡ w (s % 7)
+unfolding holds
+weekly-own w i s = rw (own-turn i (s / 7)) (and-true (w (s % 7)))
+
+pub monthly-own : (d i s : ℕ) → holds (monthly d) i s s ≡ eqb (dayOf s) d
+unfolding holds
+monthly-own d i s = rw (own-turn i (monthAt s)) (and-true (eqb (dayOf s) d))
+
 -- a start that matches is a day of the set
 pub weekly-start : (w : ℕ → Bool) (i s : ℕ) → holds (weekly w) i s s ≡ true → w (s % 7) ≡ true
-unfolding holds
-weekly-start w i s e = and-eq-true-iff (w (s % 7)) (divides i (s / 7 - s / 7)) .0 e .0
+weekly-start w i s e = sym (weekly-own w i s) ∙ e
 
 -- or the day of the month
 pub monthly-start : (d i s : ℕ) → holds (monthly d) i s s ≡ true → dayOf s ≡ d
-unfolding holds
-monthly-start d i s e = eqb-true _ _ (and-eq-true-iff (eqb (dayOf s) d) (divides i (monthAt s - monthAt s)) .0 e .0)
+monthly-start d i s e = eqb-true _ _ (sym (monthly-own d i s) ∙ e)
 
 -- a month past the calendar has no day in it
 pub past : (d k : ℕ) → 119988 ≤ k → days ≤ dayIn d k

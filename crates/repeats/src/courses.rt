@@ -13,7 +13,8 @@ ghost use Rattle.repeats.specs.Held.{one};
 ghost use Rattle.repeats.specs.Occurrences.{weekdaysOf, monthDayOf, timeOfDay, limitOf};
 ghost use Rattle.repeats.specs.Courses.{countOf, courseOf, holdsIn, begunOf};
 
-// The numbers that listing and asking begin from: the start's day and month number, the first day too late, and the most days.
+// The numbers that listing and asking begin from. `start` and `month` are the start's day and month number; `days` is BYDAY's bits, 0 where
+// there is none; `day` is the day of the month; `limit` is the first day too late, and `count` the most days.
 pub struct Course {
     pub freq: Freq,
     pub interval: u32,

@@ -9,7 +9,7 @@ ghost use mathlib.Core.Bool.{true};
 ghost use Prim.Native.Nat.{suc, _+_, _-_, _*_, _/_, _≤_, _<_, min};
 ghost use Rattle.calendar.specs.Gregorian.{days, dayOf};
 ghost use Rattle.calendar.specs.Moments.{months};
-ghost use Rattle.repeats.specs.Held.{seek, one};
+ghost use Rattle.repeats.specs.Held.{seek};
 ghost use Rattle.repeats.specs.Occurrences.{weekdaysOf, monthAt};
 ghost use Rattle.repeats.specs.Courses.{IsCourse, repeatIn};
 ghost use Rattle.repeats.specs.Firsts.{up, hasDay, dayIn, monthFrom, firstDaily, firstWeekly, firstMonthly, firstFrom};

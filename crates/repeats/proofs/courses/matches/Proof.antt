@@ -1,4 +1,4 @@
-use Rattle.repeats.proofs.Begins.{daily-own, weekly-own, monthly-own}
+use Rattle.repeats.proofs.Rules.{daily-own, weekly-own, monthly-own}
 use borrow.Author.Needs.{needs}
 use Rattle.repeats.proofs.courses.matches.Statement.{statement}
 use Rattle.repeats.proofs.courses.matches.Tie as tie

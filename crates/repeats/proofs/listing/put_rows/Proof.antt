@@ -27,31 +27,47 @@ returns c =
     (past-limit (loop .before .before .before .args .c) _ (c .if1 .taken))
 
 first-from-requires : tie.Need-first-from-requires Inv-loop μ-loop
-first-from-requires c κs = let pre = c .before .before .before .before .before .before .pre in (pre, c .before .before .before .loop .inv .low, omega (arith, pre .ends, c .if1 .left))
+first-from-requires c κs =
+    let loop = c .before .before .before in
+    let pre = loop .before .before .before .pre in
+    (pre, loop .loop .inv .low, omega (arith, pre .ends, c .if1 .left))
 
 same-length-2 : tie.Need-same-length-2 Inv-loop μ-loop
 same-length-2 c = listed-size (c .before .before .before .before .before .before .loop .inv)
 
 returns-2 : tie.Need-returns-2 Inv-loop μ-loop
 returns-2 c =
-    let inv = c .before .before .before .before .before .before .loop .inv in
-    let none = no-day _ (c .before .before .before .before .before .before .before .before .before .pre) _ _ (inv .low) (c .before .before .before .if1 .left) (c .before .before .first-from .ensures) (c .if2 .taken) in
-    written-all _ _ _ _ _ _ _ _ inv (c .before .before .before .before .before .before .before .most-rows .ensures .0) none
+    let first = c .before .before in
+    let test = first .before in
+    let loop = test .before .before .before in
+    let inv = loop .loop .inv in
+    let pre = loop .before .before .before .pre in
+    written-all _ _ _ _ _ _ _ _ inv (loop .before .most-rows .ensures .0)
+    (no-day _ pre _ _ (inv .low) (test .if1 .left) (first .first-from .ensures) (c .if2 .taken))
 
 mul-put-row : tie.Need-mul-put-row Inv-loop μ-loop
-mul-put-row c = omega (arith, c .before .before .before .before .before .before .before .before .most-rows .ensures .1, c .before .before .before .before .before .before .loop-test .taken)
+mul-put-row c =
+    let less = c .before .before .before .before .before .before in
+    omega (arith, less .before .before .most-rows .ensures .1, less .loop-test .taken)
 
 at-day-requires : tie.Need-at-day-requires Inv-loop μ-loop
 at-day-requires c κs = omega (arith, c .before .before .before .before .before .before .before .before .before .before .pre .ends, c .before .if2 .left)
 
 put-row-requires : tie.Need-put-row-requires Inv-loop μ-loop
-put-row-requires c κs = omega (arith, c .before .before .before .before .before .before .before .before .before .most-rows .ensures .1, c .before .before .before .before .before .before .before .loop-test .taken, listed-size (c .before .before .before .before .before .before .before .before .loop .inv))
+put-row-requires c κs =
+    let less = c .before .before .before .before .before .before .before in
+    omega (arith, less .before .before .most-rows .ensures .1, less .loop-test .taken, listed-size (less .before .loop .inv))
 
 add-n : tie.Need-add-n Inv-loop μ-loop
-add-n c = omega (arith, c .before .before .before .before .before .before .before .before .before .before .before .before .most-rows .ensures .1, c .before .before .before .before .before .before .before .before .before .before .loop-test .taken)
+add-n c =
+    let less = c .before .before .before .before .before .before .before .before .before .before in
+    omega (arith, less .before .before .most-rows .ensures .1, less .loop-test .taken)
 
 add-from : tie.Need-add-from Inv-loop μ-loop
-add-from c = omega (arith, c .before .before .before .before .before .before .before .before .before .before .before .before .before .before .pre .ends, c .before .before .before .before .before .if2 .left)
+add-from c =
+    let late = c .before .before .before .before .before in
+    let loop = late .before .before .before .before .before .before in
+    omega (arith, loop .before .before .before .pre .ends, late .if2 .left)
 
 loop-less : tie.Need-loop-less Inv-loop μ-loop
 loop-less c = omega (arith, c .before .before .before .before .before .before .before .before .before .before .loop-test .taken)
