@@ -8,7 +8,7 @@ use lib.Seq.{sets}
 use Rattle.refusals.specs.Table.{NoReading, NoNow}
 use Rattle.refusals.specs.Answers.{Answer, given, refused, refuse, andThen}
 use Rattle.refusals.specs.declared.Refusal.{Refusal}
-use Rattle.calendar.specs.Moments.{momentOf, isMoment}
+use Rattle.calendar.specs.Moments.{momentOf, seven, isMoment}
 use Rattle.calendar.specs.declared.moments.Moment.{Moment}
 use Rattle.lexer.specs.Keywords.{wordsIn}
 use Rattle.lexer.specs.Words.{folded}
@@ -53,11 +53,7 @@ abbrev pub codeOf : {A : Type 0} → Answer A → ℕ
 codeOf (given x) = 0
 codeOf (refused r) = code r
 
--- the seven numbers of a moment
-abbrev pub seven : Moment → List ℕ
-seven t = t .year ∷ t .month ∷ t .day ∷ t .hour ∷ t .minute ∷ t .second ∷ t .millisecond ∷ []
-
--- what they are written over; on a refusal it stays
+-- what the seven numbers of a moment are written over; on a refusal it stays
 abbrev pub momentAfter : Answer Moment → List ℕ → List ℕ
 momentAfter (given t) lent = seven t
 momentAfter (refused r) lent = lent

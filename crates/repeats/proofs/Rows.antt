@@ -10,12 +10,12 @@ use lib.Seq.{sets, length-sets, take-all, take-at, take-take}
 use Rattle.digits.proofs.Order.{le-or-lt}
 use Rattle.digits.proofs.Stores.{sets-append}
 use Rattle.calendar.specs.Gregorian.{days}
-use Rattle.calendar.specs.Moments.{atDay}
+use Rattle.calendar.specs.Moments.{atDay, seven}
 use Rattle.calendar.specs.declared.moments.Moment.{Moment}
 use Rattle.repeats.specs.Held.{between}
 use Rattle.repeats.specs.Firsts.{firstFrom}
 use Rattle.repeats.specs.Courses.{repeatIn, holdsIn, daysIn, IsCourse}
-use Rattle.repeats.specs.Listing.{row, rows}
+use Rattle.repeats.specs.Listing.{rows}
 use Rattle.repeats.specs.declared.courses.Course.{Course}
 use Rattle.repeats.proofs.Held.{held-none}
 use Rattle.repeats.proofs.Rules.{found, listed, listed-all}
@@ -51,11 +51,11 @@ past-limit c n h = held-none (holdsIn c) n (c .limit - n) (λ k p q. absurd (ome
 -- a row has seven numbers
 pub rows-length : (t : Moment) (l : List ℕ) → length (rows t l) ≡ 7 * length l
 rows-length t [] = omega arith
-rows-length t (n ∷ l) = rw (length-append (row (atDay n t)) (rows t l)) (omega (arith, rows-length t l))
+rows-length t (n ∷ l) = rw (length-append (seven (atDay n t)) (rows t l)) (omega (arith, rows-length t l))
 
-rows-append : (t : Moment) (l : List ℕ) (n : ℕ) → rows t (l ++ (n ∷ [])) ≡ rows t l ++ row (atDay n t)
+rows-append : (t : Moment) (l : List ℕ) (n : ℕ) → rows t (l ++ (n ∷ [])) ≡ rows t l ++ seven (atDay n t)
 rows-append t [] n = append-nil _
-rows-append t (m ∷ l) n = ap (λ k. row (atDay m t) ++ k) (rows-append t l n) ∙ sym (append-assoc (row (atDay m t)) (rows t l) (row (atDay n t)))
+rows-append t (m ∷ l) n = ap (λ k. seven (atDay m t) ++ k) (rows-append t l n) ∙ sym (append-assoc (seven (atDay m t)) (rows t l) (seven (atDay n t)))
 
 -- n rows are written, and what is left of the course's days begins at `next`
 pub record Listed (c : Course) (t : Moment) (before now : List ℕ) (most n next : ℕ) : Type 0 where
@@ -77,7 +77,7 @@ listed-none c t before most =
 -- a row more
 pub listed-more : (c : Course) (t : Moment) (before now : List ℕ) (most n next day : ℕ) → Listed c t before now most n next → n < most →
     next ≤ day → leftFrom c next ≡ day ∷ leftFrom c (suc day) →
-    Listed c t before (sets now (7 * n) (row (atDay day t))) most (n + 1) (day + 1)
+    Listed c t before (sets now (7 * n) (seven (atDay day t))) most (n + 1) (day + 1)
 listed-more c t before now most n next day i less later e =
     let low = i .low in
     let size = i .count in
@@ -88,7 +88,7 @@ listed-more c t before now most n next day i less later e =
       within = omega arith;
       low = omega arith;
       left = rw (on, i .left, e) (sym (append-assoc (i .done) (day ∷ []) (leftFrom c (suc day))));
-      stored = rw (i .stored, rows-append t (i .done) day, sets-append (rows t (i .done)) (row (atDay day t)), rows-length t (i .done), size, zero-add);
+      stored = rw (i .stored, rows-append t (i .done) day, sets-append (rows t (i .done)) (seven (atDay day t)), rows-length t (i .done), size, zero-add);
     }
 
 -- of what is taken at most m

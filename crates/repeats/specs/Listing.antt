@@ -4,19 +4,15 @@ use mathlib.Core.List.{List, [], _∷_, _++_}
 use lib.ListN.{take}
 use lib.Seq.{sets}
 use Rattle.refusals.specs.Answers.{Answer, given, refused, andThen}
-use Rattle.calendar.specs.Moments.{atDay}
+use Rattle.calendar.specs.Moments.{seven, atDay}
 use Rattle.calendar.specs.declared.moments.Moment.{Moment}
 use Rattle.rules.specs.declared.Rule.{Rule}
 use Rattle.repeats.specs.Occurrences.{daysOf}
 
--- a row: the seven numbers of a moment
-abbrev pub row : Moment → List ℕ
-row t = t .year ∷ t .month ∷ t .day ∷ t .hour ∷ t .minute ∷ t .second ∷ t .millisecond ∷ []
-
--- the rows of days, each at the start's time of day
+-- a row for each day: the seven numbers of the moment at the start's time of day
 abbrev pub rows : Moment → List ℕ → List ℕ
 rows t [] = []
-rows t (n ∷ l) = row (atDay n t) ++ rows t l
+rows t (n ∷ l) = seven (atDay n t) ++ rows t l
 
 -- the days that are listed: as many as so many numbers have room for
 abbrev pub listOf : Rule → Moment → ℕ → Answer (List ℕ)

@@ -12,15 +12,15 @@ ghost use Prim.Native.Nat.{_+_, _*_, _/_, _≤_, min};
 ghost use lib.ListN.{length, take};
 ghost use lib.Seq.{sets};
 ghost use Rattle.refusals.specs.Writings.{wroteOf};
-ghost use Rattle.calendar.specs.Moments.{IsMoment};
+ghost use Rattle.calendar.specs.Moments.{IsMoment, seven};
 ghost use Rattle.rules.specs.Rule.{IsRule};
 ghost use Rattle.repeats.specs.Courses.{IsCourse, daysIn};
-ghost use Rattle.repeats.specs.Listing.{row, rows, listOf, rowsAfter};
+ghost use Rattle.repeats.specs.Listing.{rows, listOf, rowsAfter};
 
 // The seven numbers of a moment, written from a place on.
 fn put_row(moments: &mut [u32], at: usize, t: Moment)
     requires { ⌜ at + 7 ≤ length (now moments) ⌝ }
-    ensures { λ _. ⌜ now (moments .exit) ≡ sets (now (moments .entry)) at (row t) ⌝ }
+    ensures { λ _. ⌜ now (moments .exit) ≡ sets (now (moments .entry)) at (seven t) ⌝ }
 {
     moments[at] = t.year;
     moments[at + 1] = t.month;
