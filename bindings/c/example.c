@@ -1,5 +1,5 @@
-/* Reads phrases at one now, a ready phrase at two, one phrase in both readings, and stamps, looks words up, and shows a moment as a phrase. Copy
- * what you need. */
+/* Reads phrases at one now, a ready phrase at two, one phrase in both readings, and stamps, looks words up, shows a moment as a phrase, and lists
+ * a rule's occurrences. Copy what you need. */
 #include "fuzzy.h"
 
 #include <stdio.h>
@@ -58,6 +58,20 @@ static void show_phrase(uint32_t hour, uint32_t minute, uint32_t second) {
     printf("%s\n", fuzzy_word(fuzzy_number(answer)));
 }
 
+/* Lists the first five occurrences of a rule from 2026-02-10 09:30 on, or says what is wrong. */
+static void show_rule(const char *rule) {
+    uint32_t moments[5 * FUZZY_MOMENT_NUMBERS];
+    uint64_t answer = fuzzy_list((const uint8_t *)rule, strlen(rule), 2026, 2, 10, 9, 30, 0, 0, moments, sizeof moments / sizeof moments[0]);
+    size_t i;
+    if (fuzzy_number(answer) != 0) {
+        printf("%s: %s\n", rule, fuzzy_word(fuzzy_number(answer)));
+        return;
+    }
+    for (i = 0; i < fuzzy_length(answer); i++) {
+        show(rule, 0, moments + FUZZY_MOMENT_NUMBERS * i);
+    }
+}
+
 int main(void) {
     static const char *const phrases[] = {"next friday at 3 pm", "an hour ago", "forty days ago", "5/2"};
     uint8_t ready[FUZZY_READY_SIZE];
@@ -104,5 +118,11 @@ int main(void) {
 
     show_phrase(9, 5, 0);
     show_phrase(9, 5, 30);
+
+    /* every second tuesday; three days; a start that is no monday; a rule that is not taken */
+    show_rule("FREQ=WEEKLY;INTERVAL=2;BYDAY=TU");
+    show_rule("FREQ=DAILY;UNTIL=20260212");
+    show_rule("FREQ=WEEKLY;BYDAY=MO");
+    show_rule("FREQ=YEARLY");
     return 0;
 }

@@ -3,9 +3,8 @@ use Prim.Native.Nat.{ℕ, _+_, _/_, _%_, _≤_}
 use mathlib.Core.Path.{_≡_}
 use mathlib.Core.List.{List, [], _∷_}
 use lib.ListN.{length, getD}
-use Rattle.calendar.specs.Moments.{IsMoment, momentOf}
+use Rattle.calendar.specs.Moments.{IsMoment, momentOf, seven}
 use Rattle.calendar.specs.declared.moments.Moment.{Moment}
-use Rattle.fuzzydate.specs.Called.{seven}
 use Rattle.fuzzydate.proofs.fuzzy_read.Reads as read'
 use Rattle.fuzzydate.proofs.fuzzy_run.Reads as run'
 use Rattle.fuzzydate.proofs.fuzzy_make_ready.Reads as make'

@@ -9,9 +9,14 @@ use lexer::reading::Reading;
 use ready::make_ready;
 use records::record::encode;
 use records::run::run_ready;
+use refusals::NO_NOW;
 use refusals::NO_READING;
+use refusals::NO_RULE;
 use refusals::Refusal;
 use refusals::Wrote;
+use repeats::listing::list;
+use rules::read::RuleRead;
+use rules::read::read_rule;
 use shown::write_phrase;
 use stamp::Offset;
 use stamp::Stamp;
@@ -21,6 +26,7 @@ use stamp::write::write_stamp;
 ghost use mathlib.Core.Path.{_≡_};
 ghost use Prim.Native.Nat.{_+_, _*_, _≤_};
 ghost use lib.ListN.{length};
+ghost use Rattle.calendar.specs.Gregorian.{days};
 ghost use Rattle.calendar.specs.Moments.{momentOf};
 ghost use Rattle.answer.specs.Answer.{placed};
 ghost use Rattle.steps.specs.Running.{runOf};
@@ -30,7 +36,8 @@ ghost use Rattle.stamp.specs.Stamps.{stampOf, writtenOf};
 ghost use Rattle.shown.specs.Phrases.{shownOf};
 ghost use Rattle.fuzzydate.specs.Called.{readingOf, chosenFrom, answerIn, readyIn, code, codeOf, momentAfter, readyCode, readyAfter};
 ghost use Rattle.fuzzydate.specs.Called.{stampAfter, numbersStamp, writtenCode};
-ghost use Rattle.fuzzydate.specs.Called.{foundIn, foundAfter};
+ghost use Rattle.repeats.specs.Listing.{rowsAfter};
+ghost use Rattle.fuzzydate.specs.Called.{foundIn, foundAfter, listIn};
 
 // Where the place of a refusal stands in an answer, and where the length of its part does.
 const PLACE: u64 = 65536;
@@ -65,9 +72,9 @@ fn code(refusal: Refusal) -> u64
     (refusal.number as u64) + PLACE * (refusal.place as u64) + LENGTH * (part as u64)
 }
 
-// How a writing ended as one number: a refusal's number, or the length of the text in bytes.
+// How a writing ended as one number: a refusal's number, or the count of the text's bytes or of the rows.
 fn written(wrote: Wrote) -> u64
-    requires { ⌜ wrote .count ≤ 29 ⌝ }
+    requires { ⌜ wrote .count ≤ days ⌝ }
     ensures { λ r. ⌜ r ≡ wrote .number + 4294967296 * wrote .count ⌝ }
 {
     (wrote.number as u64) + LENGTH * (wrote.count as u64)
@@ -289,4 +296,40 @@ pub extern "C" fn fuzzy_find_word(reading: u32, word: &[u8], found: &mut [u32; 2
             0
         }
     }
+}
+
+// The occurrences of an RFC 5545 rule from a start on, rows of seven numbers from the front of a lent buffer on, as many as it has room for: their
+// count, or 8, 18 or 19 and nothing written.
+#[no_mangle]
+pub extern "C" fn fuzzy_list(
+    rule: &[u8],
+    year: u32,
+    month: u32,
+    day: u32,
+    hour: u32,
+    minute: u32,
+    second: u32,
+    millisecond: u32,
+    moments: &mut [u32],
+) -> u64
+    ensures { λ r. ⌜ r ≡ writtenCode (listIn (now (rule .entry)) (momentOf year month day hour minute second millisecond) (length (now (moments .entry)))) ⌝ }
+    ensures { λ _. ⌜ now (moments .exit) ≡ rowsAfter (momentOf year month day hour minute second millisecond) (now (moments .entry)) (listIn (now (rule .entry)) (momentOf year month day hour minute second millisecond) (length (now (moments .entry)))) ⌝ }
+{
+    let start = Moment {
+        year,
+        month,
+        day,
+        hour,
+        minute,
+        second,
+        millisecond,
+    };
+    if start.valid() {
+        let read = read_rule(rule);
+        let RuleRead::Is(said) = read else {
+            return NO_RULE as u64;
+        };
+        return written(list(said, start, moments));
+    }
+    NO_NOW as u64
 }
