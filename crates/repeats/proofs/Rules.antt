@@ -28,7 +28,7 @@ unfolding holds
 weekly-start w i s e = and-eq-true-iff (w (s % 7)) (divides i (s / 7 - s / 7)) .0 e .0
 
 -- or the day of the month
-monthly-start : (d i s : ℕ) → holds (monthly d) i s s ≡ true → dayOf s ≡ d
+pub monthly-start : (d i s : ℕ) → holds (monthly d) i s s ≡ true → dayOf s ≡ d
 unfolding holds
 monthly-start d i s e = eqb-true _ _ (and-eq-true-iff (eqb (dayOf s) d) (divides i (monthAt s - monthAt s)) .0 e .0)
 

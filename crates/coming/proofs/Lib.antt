@@ -1,0 +1,11 @@
+pub mod Lengths
+pub mod Division
+pub mod Counts
+pub mod Daily
+pub mod Weekly
+pub mod Dates
+pub mod Turns
+pub mod Monthly
+pub mod Asked
+pub mod Next
+pub mod Cases

@@ -1,0 +1,1 @@
+// Which occurrence of a rule comes next.
