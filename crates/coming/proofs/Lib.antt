@@ -8,4 +8,6 @@ pub mod Turns
 pub mod Monthly
 pub mod Asked
 pub mod Next
+pub mod Moments
+pub mod Entries
 pub mod Cases

@@ -79,7 +79,10 @@ occursOn r t n = holds (repeatOf r t) (r .interval) (dayOfMoment t) n
 unfoldable pub occurrences : Rule → Moment → List ℕ
 occurrences r t = counted (r .bound) (between (occursOn r t) (dayOfMoment t) (limitOf (r .bound) t))
 
+-- "The start is the first occurrence and must match the rule": it matches and does not lie past UNTIL
+unfoldable pub startFits : Rule → Moment → Bool
+startFits r t = occursOn r t (dayOfMoment t) && ltb (dayOfMoment t) (limitOf (r .bound) t)
+
 -- "19 for a start that doesn't match or lies past UNTIL"
 unfoldable pub daysOf : Rule → Moment → Answer (List ℕ)
-daysOf r t =
-    cond (occursOn r t (dayOfMoment t) && ltb (dayOfMoment t) (limitOf (r .bound) t)) (given (occurrences r t)) (refuse NoStart 0 0)
+daysOf r t = cond (startFits r t) (given (occurrences r t)) (refuse NoStart 0 0)
