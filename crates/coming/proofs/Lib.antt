@@ -6,6 +6,7 @@ pub mod Weekly
 pub mod Dates
 pub mod Turns
 pub mod Monthly
+pub mod Sums
 pub mod Asked
 pub mod Next
 pub mod Moments

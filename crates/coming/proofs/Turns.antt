@@ -6,7 +6,7 @@ use Prim.Native.Nat.{ℕ, zero, suc, _+_, _-_, _*_, _/_, _%_}
 use native.Mathlib.Omega.{arith}
 use borrow.Author.Tests.{le-leb, leb-true}
 use Rattle.calendar.specs.Gregorian.{leapYear, monthLength}
-use Rattle.coming.specs.Counts.{count, leaps, monthsWith}
+use Rattle.coming.specs.Counts.{count, leaps, turnsWith, monthsWith}
 use Rattle.repeats.specs.Firsts.{hasDay, up}
 use Rattle.repeats.specs.Held.{one}
 use Rattle.coming.proofs.Counts.{count-same, count-split, sum-same}
@@ -28,7 +28,7 @@ leaps-count y i u = count-split (λ t. leapYear (y + i * t)) 400 u (omega arith)
 
 -- the turns of one remainder by 12
 slot : (d i n u : ℕ) → count (λ t. leb d (monthLength (leapYear (n / 12 + 1 + i * t)) (n % 12 + 1))) u ≡
-    cond (leb d (monthLength false (n % 12 + 1))) u (cond (leb d (monthLength true (n % 12 + 1))) (leaps (n / 12 + 1) i u) 0)
+    turnsWith d i n u
 slot d i n u = go (leb d (monthLength false (n % 12 + 1))) refl (leb d (monthLength true (n % 12 + 1))) refl
   where
     all : leb d (monthLength false (n % 12 + 1)) ≡ true → (l : Bool) → leb d (monthLength l (n % 12 + 1)) ≡ true

@@ -33,16 +33,15 @@ countWeekly w i s b = rank w i s b - rank w i s s
 unfoldable pub leaps : ℕ → ℕ → ℕ → ℕ
 leaps y i u = sum (λ v. one (leapYear (y + i * v)) * up 400 (u - v)) 400
 
+-- of u turns 12 apart, in the months n, n + 12 i, .., those whose month has day d
+abbrev pub turnsWith : ℕ → ℕ → ℕ → ℕ → ℕ
+turnsWith d i n u =
+    cond (leb d (monthLength false (n % 12 + 1))) u (cond (leb d (monthLength true (n % 12 + 1))) (leaps (n / 12 + 1) i u) 0)
+
 -- of the first t months of a rule from month m on, those that have day d: by the remainder r of a month's turn by 12,
 -- since 12 turns later the same month of the year comes, i years on
 unfoldable pub monthsWith : ℕ → ℕ → ℕ → ℕ → ℕ
-monthsWith d i m t =
-    sum
-    (λ r.
-    let n = m + i * r in
-    let u = up 12 (t - r) in
-    cond (leb d (monthLength false (n % 12 + 1))) u (cond (leb d (monthLength true (n % 12 + 1))) (leaps (n / 12 + 1) i u) 0))
-    12
+monthsWith d i m t = sum (λ r. turnsWith d i (m + i * r) (up 12 (t - r))) 12
 
 unfoldable pub countMonthly : ℕ → ℕ → ℕ → ℕ → ℕ
 countMonthly d i s b = monthsWith d i (monthAt s) (up i (monthFrom d b - monthAt s))

@@ -1,1 +1,2 @@
 // Which occurrence of a rule comes next.
+mod before;

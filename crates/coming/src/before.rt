@@ -1,0 +1,73 @@
+// How many days of a course lie before another, without a turn for each of them.
+use calendar::moments::valid_day;
+ghost use mathlib.Core.Path.{_≡_};
+ghost use Prim.Native.Nat.{_*_, _≤_};
+ghost use Rattle.calendar.specs.Gregorian.{leapYear};
+ghost use Rattle.repeats.specs.Held.{one};
+ghost use Rattle.repeats.specs.Firsts.{up};
+ghost use Rattle.coming.specs.Counts.{leaps, turnsWith, monthsWith};
+
+// A common year and a leap year.
+const COMMON: u32 = 1;
+
+const LEAP: u32 = 4;
+
+// Of so many turns, 400 apart, those in a leap year; y is the year of the first, and all are of its kind.
+fn leap_turns(y: u32, left: u32) -> u32
+    requires { ⌜ left ≤ 10000 ⌝ }
+    ensures { λ r. ⌜ (r ≡ one (leapYear y) * up 400 left) × (r ≤ 25) ⌝ }
+{
+    if valid_day(y, 2, 29) {
+        return (left + 399) / 400;
+    }
+    0
+}
+
+// The leap years among the u years y, y + i, .., by their remainders by 400 as far as there are any.
+fn leap_years(y: u32, i: u32, u: u32) -> u32
+    requires { ⌜ (y ≤ 20000) × (i ≤ 999) × (u ≤ 10000) ⌝ }
+    ensures { λ r. ⌜ (r ≡ leaps y i u) × (r ≤ 10000) ⌝ }
+{
+    let mut sum = 0u32;
+    let mut v = 0u32;
+    while v < 400 {
+        if u <= v {
+            return sum;
+        }
+        sum += leap_turns(y + i * v, u - v);
+        v += 1;
+    }
+    sum
+}
+
+// Of u turns 12 apart, in month n and every so many years behind it, those whose month has the day.
+fn turns_with(day: u32, i: u32, n: u32, u: u32) -> u32
+    requires { ⌜ (1 ≤ day) × (i ≤ 999) × (n ≤ 200000) × (u ≤ 10000) ⌝ }
+    ensures { λ r. ⌜ (r ≡ turnsWith day i n u) × (r ≤ 10000) ⌝ }
+{
+    let m = n % 12 + 1;
+    if valid_day(COMMON, m, day) {
+        return u;
+    }
+    if valid_day(LEAP, m, day) {
+        return leap_years(n / 12 + 1, i, u);
+    }
+    0
+}
+
+// Of the first turns from a month on those whose month has the day, by their remainders by 12 as far as there are any.
+fn months_with(day: u32, i: u32, month: u32, turns: u32) -> u32
+    requires { ⌜ (1 ≤ day) × (i ≤ 999) × (month ≤ 120000) × (turns ≤ 120000) ⌝ }
+    ensures { λ r. ⌜ r ≡ monthsWith day i month turns ⌝ }
+{
+    let mut sum = 0u32;
+    let mut r = 0u32;
+    while r < 12 {
+        if turns <= r {
+            return sum;
+        }
+        sum += turns_with(day, i, month + i * r, (turns - r + 11) / 12);
+        r += 1;
+    }
+    sum
+}
