@@ -59,16 +59,21 @@ pub record DayIn (d k n : ℕ) : Type 0 where
   pub month : monthAt n ≡ k
   pub day : dayOf n ≡ d
 
+-- is a date
+pub date-in : (d k : ℕ) → 1 ≤ d → k < 119988 → hasDay d k ≡ true → IsDate (k / 12 + 1) (k % 12 + 1) d
+unfolding hasDay
+date-in d k l h e = record {
+  year-low = omega arith;
+  year-high = omega arith;
+  month-low = omega arith;
+  month-high = omega arith;
+  day-low = l;
+  day-high = leb-true _ _ e;
+}
+
 pub day-in : (d k : ℕ) → 1 ≤ d → k < 119988 → hasDay d k ≡ true → DayIn d k (dayIn d k)
-unfolding dayIn hasDay monthAt
+unfolding dayIn monthAt
 day-in d k l h e =
-    let v : IsDate (k / 12 + 1) (k % 12 + 1) d = record {
-      year-low = omega arith;
-      year-high = omega arith;
-      month-low = omega arith;
-      month-high = omega arith;
-      day-low = l;
-      day-high = leb-true _ _ e;
-    } in
+    let v = date-in d k l h e in
     let w = date-day v in
     record { calendar = in-days v; month = rw (w .year, w .month) (omega arith); day = w .day }

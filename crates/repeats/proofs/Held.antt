@@ -6,11 +6,8 @@ use mathlib.Core.List.{List, _∷_, _++_, []}
 use lib.ListN.{length, take}
 use Prim.Native.Nat.{ℕ, zero, suc, _+_, _-_, _≤_, _<_}
 use native.Mathlib.Nat.{eq-or-lt-of-le, zero-add, add-zero, suc-add}
+use native.Mathlib.Numerals.{add-one}
 use native.Mathlib.Omega.{arith}
-use mathlib.Core.Bool.{Bool, true, false}
-use mathlib.Core.List.{List, _∷_, _++_, []}
-use mathlib.Core.Option.{none}
-use Prim.Native.Nat.{ℕ, zero, suc, _+_, _-_, _≤_, _<_}
 use Rattle.repeats.specs.Held.{First, between, held, keep, one, seek}
 
 -- what is kept stands in front
@@ -100,6 +97,30 @@ sought P b (suc k) = go (sought P (suc b) k) (P b) refl
       found = λ p. rest .found (omega arith);
     }
 
+-- a search ends where P holds, and goes on where not
+seek-here : (P : ℕ → Bool) (b k : ℕ) → P b ≡ true → seek P b (suc k) ≡ b
+unfolding seek
+seek-here P b k e = rw (seek, e)
+
+seek-next : (P : ℕ → Bool) (b k : ℕ) → P b ≡ false → seek P b (suc k) ≡ seek P (suc b) k
+unfolding seek
+seek-next P b k e = rw (seek, e)
+
+seek-none : (P : ℕ → Bool) (b : ℕ) → seek P b 0 ≡ b
+unfolding seek
+seek-none P b = refl
+
+-- a search that has come to b, with the numbers below n left
+module _ (P : ℕ → Bool) (b n : ℕ) where
+  pub seek-at : b < n → P b ≡ true → seek P b (n - b) ≡ b
+  seek-at h e = let z : n - b ≡ suc (n - suc b) = omega arith in rw z (seek-here P b (n - suc b) e)
+
+  pub seek-on : b < n → P b ≡ false → seek P b (n - b) ≡ seek P (b + 1) (n - (b + 1))
+  seek-on h e = let z : n - b ≡ suc (n - suc b) = omega arith in rw (z, add-one) (seek-next P b (n - suc b) e)
+
+  pub seek-end : n ≤ b → seek P b (n - b) ≡ b
+  seek-end h = let z : n - b ≡ 0 = omega arith in rw z (seek-none P b)
+
 -- each entry of the list has Q
 abbrev pub Each : (ℕ → Type 0) → List ℕ → Type 0
 Each Q [] = Unit {0}
@@ -146,15 +167,16 @@ held-complete P b (suc k) n h = ⊎-elim
     (λ (l : b < n). let y = h .high in keep-in (P b) b n _ (held-complete P (suc b) k n (record { low = l; high = omega arith; holds = h .holds })))
     (eq-or-lt-of-le (h .low))
 
+-- a test counts at most 1
+pub one-most : (t : Bool) → one t ≤ 1
+one-most true = omega arith
+one-most false = omega arith
+
 -- the list is no longer than the stretch
 pub held-short : (P : ℕ → Bool) (b k : ℕ) → length (held P b k) ≤ k
 unfolding held
 held-short P b zero = omega arith
-held-short P b (suc k) = rw keep-length (omega (arith, held-short P (suc b) k, at-most (P b)))
-  where
-    at-most : (t : Bool) → one t ≤ 1
-    at-most true = omega arith
-    at-most false = omega arith
+held-short P b (suc k) = rw keep-length (omega (arith, held-short P (suc b) k, one-most (P b)))
 
 -- what is taken of an increasing list is increasing
 pub take-increasing : (c b : ℕ) (l : List ℕ) → Increasing b l → Increasing b (take c l)

@@ -7,3 +7,4 @@ pub mod Monthly
 pub mod Turns
 pub mod Sixteen
 pub mod Rules
+pub mod Begins

@@ -10,12 +10,12 @@ use borrow.Author.Tests.{lt-ltb, le-ltb, le-leb, eq-eqb, ne-eqb, eqb-true}
 use Rattle.calendar.specs.Gregorian.{dayOf, days}
 use Rattle.digits.proofs.Order.{le-or-lt}
 use Rattle.calendar.proofs.Dates.{is-date}
-use Rattle.repeats.specs.Firsts.{firstMonthly, hasDay, monthFrom, up}
+use Rattle.repeats.specs.Firsts.{dayIn, firstMonthly, hasDay, monthFrom, up}
 use Rattle.repeats.specs.Held.{First, one, seek}
 use Rattle.repeats.specs.Occurrences.{divides, holds, monthAt, monthly}
 use Rattle.repeats.proofs.Dates.{DayIn, day-in, earlier, has-day, lengthAt}
 use Rattle.repeats.proofs.Division.{divided, divides-mul, up-bounds}
-use Rattle.repeats.proofs.Held.{Sought, sought}
+use Rattle.repeats.proofs.Held.{Sought, one-most, sought}
 use Rattle.repeats.proofs.Weekly.{and-both, and-left, clash}
 
 -- a later day has no earlier month
@@ -34,14 +34,15 @@ unfolding monthFrom
 from-order d b k h l e = ⊎-elim
     (λ (p : b ≡ k). rw (p, le-ltb d (dayOf k) (omega arith)) (omega arith))
     (λ (p : b < k). ⊎-elim
-    (λ (q : monthAt b < monthAt k). omega (arith, at-most (ltb d (dayOf b))))
+    (λ (q : monthAt b < monthAt k). omega (arith, one-most (ltb d (dayOf b))))
     (λ (q : (monthAt b ≡ monthAt k) × (dayOf b < dayOf k)). let x = q .0 in let y = q .1 in rw (le-ltb d (dayOf b) (omega arith)) (omega arith))
     (earlier b k h p))
     (eq-or-lt-of-le l)
-  where
-    at-most : (t : Bool) → one t ≤ 1
-    at-most true = omega arith
-    at-most false = omega arith
+
+-- which is none before the start's
+pub from-start : (d s b : ℕ) → b < days → s ≤ b → monthAt s ≤ monthFrom d b
+unfolding monthFrom
+from-start d s b h l = omega (arith, month-order s b h l)
 
 -- and one before b in an earlier month
 before-order : (d b k : ℕ) → b < days → k < b → dayOf k ≡ d → monthAt k < monthFrom d b
@@ -54,6 +55,11 @@ before-order d b k h l e = ⊎-elim
 -- the turn at which the closed form stops
 unfoldable pub turnFrom : ℕ → ℕ → ℕ → ℕ → ℕ
 turnFrom d i s b = seek (λ t. hasDay d (monthAt s + i * t)) (up i (monthFrom d b - monthAt s)) 16
+
+-- and the day that it gives
+pub first-monthly-is : (d i s b : ℕ) → firstMonthly d i s b ≡ dayIn d (monthAt s + i * turnFrom d i s b)
+unfolding firstMonthly turnFrom
+first-monthly-is d i s b = refl
 
 pub turn-sought : (d i s b : ℕ) → Sought (λ t. hasDay d (monthAt s + i * t)) (up i (monthFrom d b - monthAt s)) 16 (turnFrom d i s b)
 unfolding turnFrom

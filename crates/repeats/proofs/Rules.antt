@@ -23,7 +23,7 @@ use Rattle.repeats.proofs.Sixteen.{monthly-least}
 use Rattle.repeats.proofs.Weekly.{weekly-first}
 
 -- a start that matches is a day of the set
-weekly-start : (w : ℕ → Bool) (i s : ℕ) → holds (weekly w) i s s ≡ true → w (s % 7) ≡ true
+pub weekly-start : (w : ℕ → Bool) (i s : ℕ) → holds (weekly w) i s s ≡ true → w (s % 7) ≡ true
 unfolding holds
 weekly-start w i s e = and-eq-true-iff (w (s % 7)) (divides i (s / 7 - s / 7)) .0 e .0
 
@@ -33,7 +33,7 @@ unfolding holds
 monthly-start d i s e = eqb-true _ _ (and-eq-true-iff (eqb (dayOf s) d) (divides i (monthAt s - monthAt s)) .0 e .0)
 
 -- a month past the calendar has no day in it
-past : (d k : ℕ) → 119988 ≤ k → days ≤ dayIn d k
+pub past : (d k : ℕ) → 119988 ≤ k → days ≤ dayIn d k
 unfolding dayIn dayNumber
 past d k h =
     let e : k / 12 + 1 - 1 ≡ k / 12 = omega arith in

@@ -1,4 +1,5 @@
 pub mod Held
 pub mod Occurrences
+pub mod Courses
 pub mod Firsts
 pub mod Listing

@@ -1,1 +1,3 @@
 // The occurrences of a rule from its start on.
+pub mod courses;
+pub mod days;

@@ -1,0 +1,116 @@
+-- A rule's course: what it repeats, its days, and that its start is the first of them.
+use Prim.Native.Nat.{ℕ, _-_, _*_, _/_, _%_, _≤_, _<_}
+use native.Mathlib.Omega.{arith}
+use mathlib.Core.Path.{_≡_, refl, ap, sym, _∙_}
+use mathlib.Core.Bool.{Bool, true, false, cond, _&&_, and-eq-true-iff}
+use mathlib.Core.List.{List}
+use lib.Dec.{eqb, leb, ltb}
+use lib.ListN.{length, take}
+use lib.Seq.{take-all}
+use borrow.Author.Tests.{lt-ltb, le-ltb, ltb-true}
+use Rattle.calendar.specs.Gregorian.{days, dayOf}
+use Rattle.calendar.specs.Moments.{IsMoment, dayOfMoment, monthNumber}
+use Rattle.calendar.specs.declared.moments.Moment.{Moment}
+use Rattle.calendar.proofs.Dates.{in-days, date-day}
+use Rattle.rules.specs.Rule.{IsBound, IsRule}
+use Rattle.rules.specs.declared.Freq.{Freq}
+use Rattle.rules.specs.declared.Freq.the-variants.{Daily, Weekly, Monthly}
+use Rattle.rules.specs.declared.Bound.{Bound}
+use Rattle.rules.specs.declared.Bound.the-variants.{Endless, Count, UntilDay, UntilMoment}
+use Rattle.rules.specs.declared.Rule.{Rule}
+use Rattle.repeats.specs.Held.{between, one}
+use Rattle.repeats.specs.Occurrences.{Repeat, daily, weekly, monthly, divides, monthAt, holds, repeatBy, repeatOf, timeOfDay, limitOf, counted}
+use Rattle.repeats.specs.Occurrences.{occursOn, occurrences, startFits}
+use Rattle.repeats.specs.Courses.{countOf, courseOf, repeatOn, repeatIn, holdsIn, daysIn, IsCourse, begunOf}
+use Rattle.repeats.specs.declared.courses.Course.{Course}
+use Rattle.repeats.specs.declared.courses.Begun.{Begun}
+use Rattle.repeats.specs.declared.courses.Begun.the-variants.{Refused, From}
+use Rattle.repeats.proofs.Division.{divides-mul}
+use Rattle.repeats.proofs.Held.{held-short, one-most}
+
+-- a number is no turn away from itself
+own-turn : (i n : ℕ) → divides i (n - n) ≡ true
+own-turn i n = let e : n - n ≡ i * 0 = omega arith in rw e (divides-mul i 0)
+
+and-true : (b : Bool) → (b && true) ≡ b
+and-true true = refl
+and-true false = refl
+
+-- whether a start matches: always, by its weekday, or by its day of the month
+pub daily-own : (i s : ℕ) → holds daily i s s ≡ true
+unfolding holds
+daily-own i s = own-turn i s
+
+pub weekly-own : (w : ℕ → Bool) (i s : ℕ) → holds (weekly w) i s s ≡ w (s % 7)
+unfolding holds
+weekly-own w i s = rw (own-turn i (s / 7)) (and-true (w (s % 7)))
+
+pub monthly-own : (d i s : ℕ) → holds (monthly d) i s s ≡ eqb (dayOf s) d
+unfolding holds
+monthly-own d i s = rw (own-turn i (monthAt s)) (and-true (eqb (dayOf s) d))
+
+-- what a rule's course repeats is what the rule does
+pub same-repeat : (r : Rule) (t : Moment) → repeatIn (courseOf r t) ≡ repeatOf r t
+same-repeat r t = by (r .freq)
+  where
+    by : (f : Freq) → repeatOn f (courseOf r t) ≡ repeatBy f r t
+    by Daily = refl
+    by Weekly = refl
+    by Monthly = refl
+
+-- no rule goes past the calendar
+limit-in : (b : Bound) (t : Moment) → IsBound b → limitOf b t ≤ days
+limit-in Endless t v = omega arith
+limit-in (Count n) t v = omega arith
+limit-in (UntilDay y m d) t v = omega (arith, in-days v)
+limit-in (UntilMoment u) t v = omega (arith, in-days (v .date), one-most (leb (timeOfDay t) (timeOfDay u)))
+
+-- COUNT is so many days, and none is no more than all
+counted-is : (b : Bound) (l : List ℕ) → length l ≤ days → counted b l ≡ take (countOf b) l
+counted-is Endless l h = sym (take-all days l h)
+counted-is (Count n) l h = refl
+counted-is (UntilDay y m d) l h = sym (take-all days l h)
+counted-is (UntilMoment u) l h = sym (take-all days l h)
+
+-- a rule's occurrences are its course's days
+pub same-list : (r : Rule) (t : Moment) → IsRule r → occurrences r t ≡ daysIn (courseOf r t)
+unfolding occurrences
+same-list r t v =
+    let short = held-short (occursOn r t) (dayOfMoment t) (limitOf (r .bound) t - dayOfMoment t) in
+    let room = limit-in (r .bound) t (v .bound) in
+    counted-is (r .bound) (between (occursOn r t) (dayOfMoment t) (limitOf (r .bound) t)) (omega arith)
+    ∙ ap (λ (p : Repeat). take (countOf (r .bound)) (between (holds p (r .interval) (dayOfMoment t)) (dayOfMoment t) (limitOf (r .bound) t)))
+    (sym (same-repeat r t))
+
+month-is : (t : Moment) → IsMoment t → monthNumber t ≡ monthAt (dayOfMoment t)
+unfolding monthAt
+month-is t v = let s = date-day (v .date) in rw (s .year, s .month)
+
+-- the course of a rule whose start fits
+pub is-course : (r : Rule) (t : Moment) → IsRule r → IsMoment t → startFits r t ≡ true → IsCourse (courseOf r t)
+unfolding startFits
+is-course r t v m e =
+    let both = and-eq-true-iff (occursOn r t (dayOfMoment t)) (ltb (dayOfMoment t) (limitOf (r .bound) t)) .0 e in
+    record {
+      least = v .least;
+      most = v .most;
+      month = month-is t m;
+      matches = rw (same-repeat r t) (both .0);
+      begins = ltb-true _ _ (both .1);
+      ends = limit-in (r .bound) t (v .bound);
+    }
+
+-- the two tests of a start
+module _ (r : Rule) (t : Moment) (c : Course) (e : c ≡ courseOf r t) where
+  fits-is : (b : Bool) → holdsIn c (c .start) ≡ b → startFits r t ≡ (b && ltb (dayOfMoment t) (limitOf (r .bound) t))
+  unfolding startFits
+  fits-is b h = let own = rw (e, same-repeat r t) at h in rw own
+
+  pub begun-from : holdsIn c (c .start) ≡ true → c .start < c .limit → From c ≡ begunOf r t
+  begun-from h l = rw (e, fits-is true h, lt-ltb _ _ (rw e at l))
+
+  pub begun-late : holdsIn c (c .start) ≡ true → c .limit ≤ c .start → Refused ≡ begunOf r t
+  begun-late h l = rw (fits-is true h, le-ltb _ _ (rw e at l))
+
+  pub begun-off : holdsIn c (c .start) ≡ false → Refused ≡ begunOf r t
+  begun-off h = rw (fits-is false h)
