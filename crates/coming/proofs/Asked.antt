@@ -1,5 +1,5 @@
 -- Which one comes next: the first entry of the full list at or after b, without those before it.
-use mathlib.Core.Path.{_≡_, refl, ap, _∙_}
+use mathlib.Core.Path.{_≡_, refl, _∙_}
 use mathlib.Core.Bool.{Bool, true, false, cond, _&&_}
 use mathlib.Core.Logic.{⊎-elim}
 use mathlib.Core.List.{List, _∷_, _++_, append-nil, []}
@@ -38,13 +38,6 @@ take-none (suc c) = refl
 pub nothing : (b k : ℕ) → firstAt b (take k []) ≡ none
 unfolding firstAt
 nothing b k = rw (take-none k)
-
--- all is taken of a short list
-pub take-all : (c : ℕ) (l : List ℕ) → length l ≤ c → take c l ≡ l
-take-all zero [] h = refl
-take-all zero (n ∷ l) h = absurd (omega arith)
-take-all (suc c) [] h = refl
-take-all (suc c) (n ∷ l) h = ap (λ r. n ∷ r) (take-all c l (omega arith))
 
 -- entries below b are passed over, and use up the count
 pub skip : (b : ℕ) (l r : List ℕ) (c : ℕ) → Below b l → firstAt b (take c (l ++ r)) ≡ firstAt b (take (c - length l) r)

@@ -4,6 +4,7 @@ use mathlib.Core.Bool.{Bool, true, false, cond}
 use mathlib.Core.List.{List, _∷_, _++_, []}
 use lib.Dec.{leb}
 use lib.ListN.{length, take}
+use lib.Seq.{take-all}
 use Prim.Native.Nat.{ℕ, _*_, _/_, _≤_, _<_}
 use native.Mathlib.Omega.{arith}
 use borrow.Author.Tests.{leb-true, leb-false, lt-leb}
@@ -17,7 +18,6 @@ use Rattle.repeats.specs.Occurrences.{occurrences, startFits, daysOf}
 use Rattle.repeats.specs.Listing.{listOf}
 use Rattle.repeats.proofs.Held.{Each}
 use Rattle.coming.specs.Next.{firstAfter, nextOf}
-use Rattle.coming.proofs.Asked.{take-all}
 
 -- the moment of day n is before the asked one
 abbrev pub Early : Moment → Moment → ℕ → Type 0

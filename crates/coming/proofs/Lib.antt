@@ -8,7 +8,8 @@ pub mod Turns
 pub mod Monthly
 pub mod Sums
 pub mod Asked
-pub mod Next
+pub mod NextDay
 pub mod Moments
+pub mod Closed
 pub mod Entries
 pub mod Cases

@@ -7,6 +7,7 @@ use Prim.Native.Nat.{ℕ, suc, _+_, _-_, _*_, _/_, _%_, _≤_}
 use native.Mathlib.Omega.{arith}
 use Rattle.digits.proofs.Order.{le-or-lt}
 use Rattle.coming.specs.Counts.{count, countWeekly, rank}
+use Rattle.repeats.proofs.Division.{divides-mul, up-is}
 use Rattle.repeats.specs.Held.{between, one}
 use Rattle.repeats.specs.Occurrences.{divides, holds, weekly}
 use Rattle.coming.proofs.Division.{up-step}
@@ -40,10 +41,31 @@ rank-step w i s n h g = ⊎-elim
     rw (v, e) (within w (divides i (n / 7 - s / 7)) _ (n % 7)))
     (le-or-lt 6 (n % 7))
 
+-- so from the start's rank to another's there are as many as the days between that hold
+rank-length : (w : ℕ → Bool) (i s b : ℕ) → 1 ≤ i → s ≤ b → rank w i s s + length (between (holds (weekly w) i s) s b) ≡ rank w i s b
+rank-length w i s b h g =
+    let e : s + (b - s) ≡ b = omega arith in
+    rw e at (length-by (holds (weekly w) i s) (rank w i s) s (b - s) (λ n p q. rank-step w i s n h p))
+
 -- the closed form is the number of days below b that hold
 pub weekly-count : (w : ℕ → Bool) (i s b : ℕ) → 1 ≤ i → s ≤ b → length (between (holds (weekly w) i s) s b) ≡ countWeekly w i s b
 unfolding countWeekly
-weekly-count w i s b h g =
-    let e : s + (b - s) ≡ b = omega arith in
-    let c = rw e at (length-by (holds (weekly w) i s) (rank w i s) s (b - s) (λ n p q. rank-step w i s n h p)) in
-    omega arith
+weekly-count w i s b h g = omega (arith, rank-length w i s b h g)
+
+-- the rank of the start is what its own week has before it
+rank-start : (w : ℕ → Bool) (i s : ℕ) → 1 ≤ i → rank w i s s ≡ count w (s % 7)
+unfolding rank
+rank-start w i s h =
+    let none : s / 7 - s / 7 ≡ i * 0 = omega arith in
+    rw (none, divides-mul i 0, up-is i (i * 0) 0 (omega arith) (omega arith)) (omega arith)
+
+-- as the code counts them
+pub record Ranked (w : ℕ → Bool) (i s b : ℕ) : Type 0 where
+  pub room : count w (s % 7) ≤ rank w i s b
+  pub is : rank w i s b - count w (s % 7) ≡ countWeekly w i s b
+
+pub ranked : (w : ℕ → Bool) (i s b : ℕ) → 1 ≤ i → s ≤ b → Ranked w i s b
+unfolding countWeekly
+ranked w i s b h g =
+    let start = rank-start w i s h in
+    record { room = omega (arith, rank-length w i s b h g); is = rw start }

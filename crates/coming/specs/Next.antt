@@ -5,10 +5,12 @@ use mathlib.Core.List.{List, _∷_, []}
 use mathlib.Core.Option.{Option, none, some}
 use lib.Dec.{leb, ltb}
 use Rattle.refusals.specs.Table.{NoNext}
-use Rattle.refusals.specs.Answers.{Answer, given, refuse, andThen}
+use Rattle.refusals.specs.Answers.{Answer, given, refused, refuse, andThen}
 use Rattle.calendar.specs.Gregorian.{days}
 use Rattle.calendar.specs.Moments.{dayOfMoment, atDay, instantOf}
 use Rattle.calendar.specs.declared.moments.Moment.{Moment}
+use Rattle.calendar.specs.declared.moments.Reached.{Reached}
+use Rattle.calendar.specs.declared.moments.Reached.the-variants.{At, Refused}
 use Rattle.rules.specs.declared.Rule.{Rule}
 use Rattle.repeats.specs.Firsts.{firstFrom}
 use Rattle.repeats.specs.Held.{one}
@@ -45,3 +47,12 @@ nextDay r i s limit c b =
 abbrev pub momentOr : Moment → Option ℕ → Answer Moment
 momentOr t (some n) = given (atDay n t)
 momentOr t none = refuse NoNext 0 0
+
+-- the code's day: the calendar's end where there is none
+abbrev pub dayBelow : ℕ → Option ℕ
+dayBelow n = cond (ltb n days) (some n) none
+
+-- the code's answer: the moment, or the refusal's number
+abbrev pub answered : Answer Moment → Reached
+answered (given t) = At t
+answered (refused r) = Refused (r .number)

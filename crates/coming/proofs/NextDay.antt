@@ -17,11 +17,10 @@ use Rattle.coming.specs.Next.{firstAt, nextDay}
 use Rattle.repeats.specs.Firsts.{firstFrom}
 use Rattle.repeats.specs.Held.{between}
 use Rattle.repeats.specs.Occurrences.{Repeat, daily, holds, monthly, weekly}
-use Rattle.coming.proofs.Asked.{asked, held-below, nothing, skip, take-all}
+use Rattle.coming.proofs.Asked.{asked, held-below, nothing, skip}
 use Rattle.coming.proofs.Daily.{daily-count}
 use Rattle.coming.proofs.Monthly.{monthly-count}
 use Rattle.coming.proofs.Weekly.{weekly-count}
-use Rattle.repeats.proofs.Held.{held-short}
 use Rattle.repeats.proofs.Rules.{found, monthly-start, starts}
 
 -- a closed form is the number of days from s on below b that hold
@@ -59,7 +58,3 @@ next-day r i s limit (suc c) b h j e g z = ⊎-elim
     (λ (q : b < days). rw (lt-ltb b days q) (comes-next r i s b limit (suc c) h e (omega arith) q z))
     (le-or-lt days b)))
     (le-or-lt b s)
-
--- a COUNT of at least the limit cuts nothing off
-pub no-count : (r : Repeat) (i s limit c : ℕ) → limit ≤ c → take c (between (holds r i s) s limit) ≡ between (holds r i s) s limit
-no-count r i s limit c h = take-all c (between (holds r i s) s limit) (omega (arith, held-short (holds r i s) s (limit - s)))
