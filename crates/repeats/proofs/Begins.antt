@@ -8,6 +8,8 @@ use lib.Dec.{eqb, leb, ltb}
 use lib.ListN.{length, take}
 use lib.Seq.{take-all}
 use borrow.Author.Tests.{lt-ltb, le-ltb, ltb-true}
+use Rattle.refusals.specs.Table.{NoStart}
+use Rattle.refusals.specs.Answers.{given, refuse}
 use Rattle.calendar.specs.Gregorian.{days, dayOf}
 use Rattle.calendar.specs.Moments.{IsMoment, dayOfMoment, monthNumber}
 use Rattle.calendar.specs.declared.moments.Moment.{Moment}
@@ -20,7 +22,7 @@ use Rattle.rules.specs.declared.Bound.the-variants.{Endless, Count, UntilDay, U
 use Rattle.rules.specs.declared.Rule.{Rule}
 use Rattle.repeats.specs.Held.{between, one}
 use Rattle.repeats.specs.Occurrences.{Repeat, daily, weekly, monthly, divides, monthAt, holds, repeatBy, repeatOf, timeOfDay, limitOf, counted}
-use Rattle.repeats.specs.Occurrences.{occursOn, occurrences, startFits}
+use Rattle.repeats.specs.Occurrences.{occursOn, occurrences, startFits, daysOf}
 use Rattle.repeats.specs.Courses.{countOf, courseOf, repeatOn, repeatIn, holdsIn, daysIn, IsCourse, begunOf}
 use Rattle.repeats.specs.declared.courses.Course.{Course}
 use Rattle.repeats.specs.declared.courses.Begun.{Begun}
@@ -72,13 +74,25 @@ counted-is (Count n) l h = refl
 counted-is (UntilDay y m d) l h = sym (take-all days l h)
 counted-is (UntilMoment u) l h = sym (take-all days l h)
 
--- a rule's occurrences are its course's days
-pub same-list : (r : Rule) (t : Moment) → IsRule r → occurrences r t ≡ daysIn (courseOf r t)
-unfolding occurrences
-same-list r t v =
+-- the days below the limit at which a rule holds
+abbrev pub daysBelow : Rule → Moment → List ℕ
+daysBelow r t = between (occursOn r t) (dayOfMoment t) (limitOf (r .bound) t)
+
+-- are no more than the calendar's
+pub days-few : (r : Rule) (t : Moment) → IsRule r → length (daysBelow r t) ≤ days
+days-few r t v =
     let short = held-short (occursOn r t) (dayOfMoment t) (limitOf (r .bound) t - dayOfMoment t) in
-    let room = limit-in (r .bound) t (v .bound) in
-    counted-is (r .bound) (between (occursOn r t) (dayOfMoment t) (limitOf (r .bound) t)) (omega arith)
+    omega (arith, limit-in (r .bound) t (v .bound))
+
+-- a rule's occurrences are the first of them
+pub occurrences-are : (r : Rule) (t : Moment) → IsRule r → occurrences r t ≡ take (countOf (r .bound)) (daysBelow r t)
+unfolding occurrences
+occurrences-are r t v = counted-is (r .bound) (daysBelow r t) (days-few r t v)
+
+-- and its course's days
+same-list : (r : Rule) (t : Moment) → IsRule r → occurrences r t ≡ daysIn (courseOf r t)
+same-list r t v =
+    occurrences-are r t v
     ∙ ap (λ (p : Repeat). take (countOf (r .bound)) (between (holds p (r .interval) (dayOfMoment t)) (dayOfMoment t) (limitOf (r .bound) t)))
     (sym (same-repeat r t))
 
@@ -114,3 +128,37 @@ module _ (r : Rule) (t : Moment) (c : Course) (e : c ≡ courseOf r t) where
 
   pub begun-off : holdsIn c (c .start) ≡ false → Refused ≡ begunOf r t
   begun-off h = rw (fits-is false h)
+
+-- which variant it is
+abbrev tagOf : Begun → ℕ
+tagOf Refused = 0
+tagOf (From c) = 1
+
+-- the course of one that is begun
+abbrev courseIn : Course → Begun → Course
+courseIn d Refused = d
+courseIn d (From c) = c
+
+-- what an answer says of the start
+module _ (r : Rule) (t : Moment) (b : Begun) (e : b ≡ begunOf r t) where
+  pub not-begun : b ≡ Refused → daysOf r t ≡ refuse NoStart 0 0
+  unfolding daysOf
+  not-begun h = go (startFits r t) (sym h ∙ e)
+    where
+      go : (x : Bool) → Refused ≡ cond x (From (courseOf r t)) Refused → cond x (given (occurrences r t)) (refuse NoStart 0 0) ≡ refuse NoStart 0 0
+      go true p = absurd (let z : tagOf Refused ≡ tagOf (From (courseOf r t)) = ap tagOf p in omega arith)
+      go false p = refl
+
+  from-fits : (c : Course) → b ≡ From c → (startFits r t ≡ true) × (c ≡ courseOf r t)
+  from-fits c h = go (startFits r t) (sym h ∙ e)
+    where
+      go : (x : Bool) → From c ≡ cond x (From (courseOf r t)) Refused → (x ≡ true) × (c ≡ courseOf r t)
+      go true p = (refl, ap (courseIn c) p)
+      go false p = absurd (let z : tagOf (From c) ≡ tagOf Refused = ap tagOf p in omega arith)
+
+  pub begun-course : (c : Course) → b ≡ From c → IsRule r → IsMoment t → IsCourse c
+  begun-course c h v m = let f = from-fits c h in rw (f .1) (is-course r t v m (f .0))
+
+  pub begun-days : (c : Course) → b ≡ From c → IsRule r → daysOf r t ≡ given (daysIn c)
+  unfolding daysOf
+  begun-days c h v = let f = from-fits c h in rw (f .0, f .1, same-list r t v)

@@ -131,7 +131,7 @@ abbrev pub In : ℕ → List ℕ → Type 0
 In n [] = ⊥
 In n (m ∷ l) = (n ≡ m) ⊎ In n l
 
-each-map : (Q R : ℕ → Type 0) (l : List ℕ) → ((n : ℕ) → Q n → R n) → Each Q l → Each R l
+pub each-map : (Q R : ℕ → Type 0) (l : List ℕ) → ((n : ℕ) → Q n → R n) → Each Q l → Each R l
 each-map Q R [] f e = e
 each-map Q R (n ∷ l) f e = (f n (e .0), each-map Q R l f (e .1))
 

@@ -8,3 +8,5 @@ pub mod Turns
 pub mod Sixteen
 pub mod Rules
 pub mod Begins
+pub mod Rows
+pub mod Laws

@@ -3,3 +3,4 @@ pub mod Occurrences
 pub mod Courses
 pub mod Firsts
 pub mod Listing
+pub mod Cases

@@ -5,27 +5,22 @@ use borrow.Author.Needs.{needs}
 use Rattle.repeats.proofs.courses.begin.Statement.{statement}
 use Rattle.repeats.proofs.courses.begin.Tie as tie
 
--- src/courses.rt:147:9
 course-of-requires : tie.Need-course-of-requires
 course-of-requires c κs = search needs
 
--- src/courses.rt:148:8
 matches-requires : tie.Need-matches-requires
 matches-requires c κs = rw (c .course-of .ensures) (date-day (c .before .pre .1 .date) .day)
 
--- src/courses.rt:150:13
 returns : tie.Need-returns
 returns c =
     let matches = c .before .before .before in
     begun-from _ _ _ (matches .before .course-of .ensures) (sym (matches .matches .ensures) ∙ c .before .before .if1 .taken) (c .if2 .taken)
 
--- src/courses.rt:152:9
 returns-2 : tie.Need-returns-2
 returns-2 c =
     let matches = c .before .before .before in
     begun-late _ _ _ (matches .before .course-of .ensures) (sym (matches .matches .ensures) ∙ c .before .before .if1 .taken) (c .if2 .left)
 
--- src/courses.rt:143:1
 returns-3 : tie.Need-returns-3
 returns-3 c = begun-off _ _ _ (c .before .before .course-of .ensures) (sym (c .before .matches .ensures) ∙ c .if1 .left)
 

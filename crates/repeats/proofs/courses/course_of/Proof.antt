@@ -2,27 +2,21 @@ use borrow.Author.Needs.{needs}
 use Rattle.repeats.proofs.courses.course_of.Statement.{statement}
 use Rattle.repeats.proofs.courses.course_of.Tie as tie
 
--- src/courses.rt:120:16
 day-number-requires : tie.Need-day-number-requires
 day-number-requires c κs = search needs
 
--- src/courses.rt:121:16
 month-number-requires : tie.Need-month-number-requires
 month-number-requires c κs = search needs
 
--- src/courses.rt:123:14
 month-day-requires : tie.Need-month-day-requires
 month-day-requires c κs = search needs
 
--- src/courses.rt:124:16
 limit-of-requires : tie.Need-limit-of-requires
 limit-of-requires c κs = search needs
 
--- src/courses.rt:125:16
 count-of-requires : tie.Need-count-of-requires
 count-of-requires c κs = search needs
 
--- src/courses.rt:111:1
 returns : tie.Need-returns
 returns c =
     rw (

@@ -3,19 +3,15 @@ use borrow.Author.Needs.{needs}
 use Rattle.repeats.proofs.courses.has_weekday.Statement.{statement}
 use Rattle.repeats.proofs.courses.has_weekday.Tie as tie
 
--- src/courses.rt:56:9
 returns : tie.Need-returns
 returns c = rw (eq-eqb _ _ (c .if1 .taken))
 
--- src/courses.rt:58:12
 weekday-bit-requires : tie.Need-weekday-bit-requires
 weekday-bit-requires c κs = search needs
 
--- src/courses.rt:58:5
 div-result : tie.Need-div-result
 div-result c = search needs
 
--- src/courses.rt:51:1
 returns-2 : tie.Need-returns-2
 returns-2 c = rw (ne-eqb _ _ (c .before .if1 .left), c .weekday-bit .ensures .0)
 

@@ -3,31 +3,24 @@ use borrow.Author.Needs.{needs}
 use Rattle.repeats.proofs.courses.matches.Statement.{statement}
 use Rattle.repeats.proofs.courses.matches.Tie as tie
 
--- src/courses.rt:136:24
 enum-told : tie.Need-enum-told
 enum-told c = search needs
 
--- src/courses.rt:137:54
 enum-told-2 : tie.Need-enum-told-2
 enum-told-2 c = search needs
 
--- src/courses.rt:137:25
 has-weekday-requires : tie.Need-has-weekday-requires
 has-weekday-requires c κs = search needs
 
--- src/courses.rt:138:26
 enum-told-3 : tie.Need-enum-told-3
 enum-told-3 c = search needs
 
--- src/courses.rt:130:1
 returns : tie.Need-returns
 returns c = rw (c .enum-told .given .1, daily-own)
 
--- src/courses.rt:130:1
 returns-2 : tie.Need-returns-2
 returns-2 c = rw (c .before .before .enum-told2 .given .1, weekly-own) (c .has-weekday .ensures)
 
--- src/courses.rt:130:1
 returns-3 : tie.Need-returns-3
 returns-3 c = rw (c .before .enum-told3 .given .1, monthly-own, c .before .before .before .pre)
 

@@ -2,11 +2,9 @@ use borrow.Author.Tests.{eq-eqb, ne-eqb}
 use Rattle.repeats.proofs.courses.month_day.Statement.{statement}
 use Rattle.repeats.proofs.courses.month_day.Tie as tie
 
--- src/courses.rt:66:9
 returns : tie.Need-returns
 returns c = rw (eq-eqb _ _ (c .if1 .taken))
 
--- src/courses.rt:62:1
 returns-2 : tie.Need-returns-2
 returns-2 c = rw (ne-eqb _ _ (c .if1 .left))
 

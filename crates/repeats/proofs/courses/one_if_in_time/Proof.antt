@@ -6,15 +6,12 @@ use borrow.Author.Needs.{needs}
 use Rattle.repeats.proofs.courses.one_if_in_time.Statement.{statement}
 use Rattle.repeats.proofs.courses.one_if_in_time.Tie as tie
 
--- src/courses.rt:84:8
 time-of-day-requires : tie.Need-time-of-day-requires
 time-of-day-requires c κs = search needs
 
--- src/courses.rt:84:26
 time-of-day-requires-2 : tie.Need-time-of-day-requires-2
 time-of-day-requires-2 c κs = search needs
 
--- src/courses.rt:80:1
 returns : tie.Need-returns
 returns c =
     let args = c .before .before .before .args in
@@ -22,7 +19,6 @@ returns c =
     let until = c .before .time-of-day2 .ensures in
     rw (le-leb (timeOfDay (args .t)) (timeOfDay (args .until)) (omega (arith, c .if1 .taken))) (refl, omega arith)
 
--- src/courses.rt:80:1
 returns-2 : tie.Need-returns-2
 returns-2 c =
     let args = c .before .before .before .args in

@@ -4,7 +4,6 @@ use mathlib.Core.Path.{_≡_, refl}
 use Rattle.repeats.proofs.courses.weekday_bit.Statement.{statement}
 use Rattle.repeats.proofs.courses.weekday_bit.Tie as tie
 
--- src/courses.rt:35:1
 -- past each weekday that it isn't
 above : {n w : ℕ} → n ≤ w → (w ≡ n → ⊥) → suc n ≤ w
 above l e = omega arith
@@ -15,27 +14,21 @@ sixth l h = omega arith
 returns : tie.Need-returns
 returns c = rw (c .match .keys1) (refl, omega arith)
 
--- src/courses.rt:35:1
 returns-2 : tie.Need-returns-2
 returns-2 c = rw (c .match .keys2) (refl, omega arith)
 
--- src/courses.rt:35:1
 returns-3 : tie.Need-returns-3
 returns-3 c = rw (c .match .keys3) (refl, omega arith)
 
--- src/courses.rt:35:1
 returns-4 : tie.Need-returns-4
 returns-4 c = rw (c .match .keys4) (refl, omega arith)
 
--- src/courses.rt:35:1
 returns-5 : tie.Need-returns-5
 returns-5 c = rw (c .match .keys5) (refl, omega arith)
 
--- src/courses.rt:35:1
 returns-6 : tie.Need-returns-6
 returns-6 c = rw (c .match .keys6) (refl, omega arith)
 
--- src/courses.rt:35:1
 returns-7 : tie.Need-returns-7
 returns-7 c =
     let rest = c .match .rest in

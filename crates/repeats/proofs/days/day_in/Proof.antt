@@ -5,30 +5,24 @@ use borrow.Author.Needs.{needs}
 use Rattle.repeats.proofs.days.day_in.Statement.{statement}
 use Rattle.repeats.proofs.days.day_in.Tie as tie
 
--- src/days.rt:90:5
 first-requires : tie.Need-first-requires
 first-requires c κs = search needs
 
--- src/days.rt:90:31
 add-with-date : tie.Need-add-with-date
 add-with-date c = search needs
 
--- src/days.rt:90:43
 add-with-date-2 : tie.Need-add-with-date-2
 add-with-date-2 c = search needs
 
--- src/days.rt:90:5
 with-date-requires : tie.Need-with-date-requires
 with-date-requires c κs = search needs
 
--- src/days.rt:90:5
 day-number-requires : tie.Need-day-number-requires
 day-number-requires c κs =
     let pre = c .before .before .pre in
     rw (c .with-date .ensures, c .before .first .ensures)
     (record { date = date-in _ _ (pre .0) (pre .1) (pre .2); time = first-moment .time })
 
--- src/days.rt:86:1
 returns : tie.Need-returns
 unfolding dayIn
 returns c = (rw (c .day-number .ensures .0, c .before .with-date .ensures), c .day-number .ensures .1)

@@ -3,23 +3,18 @@ use borrow.Author.Needs.{needs}
 use Rattle.repeats.proofs.days.first_daily.Statement.{statement}
 use Rattle.repeats.proofs.days.first_daily.Tie as tie
 
--- src/days.rt:33:27
 sub-rounded-up : tie.Need-sub-rounded-up
 sub-rounded-up c = search needs
 
--- src/days.rt:33:13
 rounded-up-requires : tie.Need-rounded-up-requires
 rounded-up-requires c κs = search needs
 
--- src/days.rt:33:9
 mul-result : tie.Need-mul-result
 mul-result c = search needs
 
--- src/days.rt:33:5
 add-result : tie.Need-add-result
 add-result c = search needs
 
--- src/days.rt:29:1
 returns : tie.Need-returns
 unfolding firstDaily
 returns c = rw (c .rounded-up .ensures .0)

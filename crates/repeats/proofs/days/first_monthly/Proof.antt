@@ -24,32 +24,26 @@ the-month c =
       c .before .before .before .before .pre .2,
     )
 
--- src/days.rt:127:39
 month-from-requires : tie.Need-month-from-requires
 month-from-requires c κs = search needs
 
--- src/days.rt:127:39
 sub-rounded-up : tie.Need-sub-rounded-up
 sub-rounded-up c =
     let entry = c .before .before in
     omega (arith, from-start (entry .args .c .day) (entry .args .c .start) (entry .args .b) (entry .pre .5) (entry .pre .4), c .before .month-from .ensures .0, entry .pre .2)
 
--- src/days.rt:127:9
 rounded-up-requires : tie.Need-rounded-up-requires
 rounded-up-requires c κs = let pre = c .before .before .pre in (pre .0, pre .1, omega (arith, c .before .month-from .ensures .1))
 
--- src/days.rt:128:9
 month-with-day-requires : tie.Need-month-with-day-requires
 month-with-day-requires c κs =
     let entry = c .before .before .before in
     let day = is-date (entry .args .c .start) (omega (arith, entry .pre .4, entry .pre .5)) .day-low in
     (omega (arith, entry .pre .3), entry .pre .1, omega (arith, entry .pre .1, sub-rounded-up (c .before), c .rounded-up .ensures .1, c .before .before .month-from .ensures .1))
 
--- src/days.rt:129:9
 cast-if1 : tie.Need-cast-if1
 cast-if1 c = search needs
 
--- src/days.rt:130:9
 day-in-requires : tie.Need-day-in-requires
 day-in-requires c κs =
     let entry = c .before .before .before .before .before in
@@ -57,7 +51,6 @@ day-in-requires c κs =
     let day = is-date (entry .args .c .start) inside .day-low in
     (omega (arith, entry .pre .3), c .if1 .taken, rw (the-month (c .before)) (monthly-has _ _ _ (entry .args .b) inside (entry .pre .3)))
 
--- src/days.rt:130:9
 returns : tie.Need-returns
 returns c =
     let args = c .before .before .before .before .before .before .args in
@@ -65,7 +58,6 @@ returns c =
     let first = first-monthly-is (args .c .day) (args .c .interval) (args .c .start) (args .b) in
     rw (first, ← month, ← (c .day-in .ensures .0)) (omega (arith, c .day-in .ensures .1))
 
--- src/days.rt:123:1
 returns-2 : tie.Need-returns-2
 returns-2 c =
     let args = c .before .before .before .before .before .args in

@@ -5,45 +5,35 @@ use borrow.Author.Needs.{needs}
 use Rattle.repeats.proofs.days.first_weekly.Statement.{statement}
 use Rattle.repeats.proofs.days.first_weekly.Tie as tie
 
--- src/days.rt:66:17
 sub-weeks : tie.Need-sub-weeks
 sub-weeks c = search needs
 
--- src/days.rt:67:8
 rem-if1 : tie.Need-rem-if1
 rem-if1 c = search needs
 
--- src/days.rt:68:13
 next-weekday-requires : tie.Need-next-weekday-requires
 next-weekday-requires c κs = search needs
 
--- src/days.rt:70:20
 mul-result : tie.Need-mul-result
 mul-result c = search needs
 
--- src/days.rt:70:20
 add-result : tie.Need-add-result
 add-result c = search needs
 
--- src/days.rt:70:13
 returns : tie.Need-returns
 unfolding firstWeekly
 returns c = rw (eq-eqb _ _ (c .before .before .if1 .taken), ← (c .before .next-weekday .ensures .0), lt-ltb _ _ (c .if2 .taken))
 
--- src/days.rt:72:9
 later-week-requires : tie.Need-later-week-requires
 later-week-requires c κs = let pre = c .before .before .before .before .before .pre in (pre .0, pre .1, omega arith, omega arith)
 
--- src/days.rt:72:9
 returns-2 : tie.Need-returns-2
 unfolding firstWeekly
 returns-2 c = rw (eq-eqb _ _ (c .before .before .before .if1 .taken), ← (c .before .before .next-weekday .ensures .0), le-ltb _ _ (c .before .if2 .left)) (c .later-week .ensures)
 
--- src/days.rt:74:5
 later-week-requires-2 : tie.Need-later-week-requires-2
 later-week-requires-2 c κs = let pre = c .before .before .before .pre in (pre .0, pre .1, omega arith, omega arith)
 
--- src/days.rt:62:1
 returns-3 : tie.Need-returns-3
 unfolding firstWeekly
 returns-3 c = rw (ne-eqb _ _ (c .before .if1 .left)) (c .later-week2 .ensures)

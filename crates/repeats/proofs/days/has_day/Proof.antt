@@ -6,19 +6,15 @@ use borrow.Author.Needs.{needs}
 use Rattle.repeats.proofs.days.has_day.Statement.{statement}
 use Rattle.repeats.proofs.days.has_day.Tie as tie
 
--- src/days.rt:82:15
 add-valid-day : tie.Need-add-valid-day
 add-valid-day c = search needs
 
--- src/days.rt:82:27
 add-valid-day-2 : tie.Need-add-valid-day-2
 add-valid-day-2 c = search needs
 
--- src/days.rt:82:5
 valid-day-requires : tie.Need-valid-day-requires
 valid-day-requires c κs = search needs
 
--- src/days.rt:78:1
 returns : tie.Need-returns
 unfolding hasDay
 returns c =

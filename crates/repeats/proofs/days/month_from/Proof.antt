@@ -10,23 +10,18 @@ use borrow.Author.Needs.{needs}
 use Rattle.repeats.proofs.days.month_from.Statement.{statement}
 use Rattle.repeats.proofs.days.month_from.Tie as tie
 
--- src/days.rt:98:13
 first-requires : tie.Need-first-requires
 first-requires c κs = search needs
 
--- src/days.rt:98:9
 at-day-requires : tie.Need-at-day-requires
 at-day-requires c κs = search needs
 
--- src/days.rt:100:16
 month-number-requires : tie.Need-month-number-requires
 month-number-requires c κs = rw (c .before .before .at-day .ensures, c .before .before .before .first .ensures) (at-day-moment _ _ (c .before .before .before .before .pre) first-moment)
 
--- src/days.rt:100:16
 add-result : tie.Need-add-result
 add-result c = search needs
 
--- src/days.rt:100:9
 returns : tie.Need-returns
 unfolding monthFrom monthAt
 returns c =
@@ -36,11 +31,9 @@ returns c =
     let month = rw there at (c .month-number .ensures .0) in
     rw (lt-ltb (args .d) (dayOf (args .b)) earlier) (omega arith, omega arith)
 
--- src/days.rt:102:5
 month-number-requires-2 : tie.Need-month-number-requires-2
 month-number-requires-2 c κs = rw (c .before .before .at-day .ensures, c .before .before .before .first .ensures) (at-day-moment _ _ (c .before .before .before .before .pre) first-moment)
 
--- src/days.rt:94:1
 returns-2 : tie.Need-returns-2
 unfolding monthFrom monthAt
 returns-2 c =

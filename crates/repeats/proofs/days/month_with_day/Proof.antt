@@ -29,15 +29,12 @@ Inv-loop c turn n₀ k₀ n k = Turned c turn n k
 abbrev μ-loop : tie.MeasureT-loop
 μ-loop c turn n₀ k₀ n k = 16 - k
 
--- src/days.rt:110:27
 mul-n : tie.Need-mul-n Inv-loop μ-loop
 mul-n c = omega (arith, c .before .pre)
 
--- src/days.rt:110:17
 add-n : tie.Need-add-n Inv-loop μ-loop
 add-n c = omega (arith, c .before .before .pre)
 
--- src/days.rt:112:5
 loop-holds : tie.Need-loop-holds Inv-loop μ-loop
 loop-holds c =
     let args = c .before .before .args in
@@ -45,11 +42,9 @@ loop-holds c =
     let all : args .turn + 16 - (args .turn + 0) ≡ 16 = omega arith in
     record { within = omega arith; high = omega (arith, c .before .before .pre); month = rw none; left = rw (all, none) }
 
--- src/days.rt:113:12
 has-day-requires : tie.Need-has-day-requires Inv-loop μ-loop
 has-day-requires c κs = c .before .before .before .before .pre .0
 
--- src/days.rt:114:13
 returns : tie.Need-returns Inv-loop μ-loop
 returns c =
     let inv = c .before .before .before .loop .inv in
@@ -57,19 +52,15 @@ returns c =
     let here = at-turn inv (sym (c .before .has-day .ensures) ∙ c .if1 .taken) in
     rw (inv .left ∙ seek-at _ _ (args .turn + 16) (omega (arith, c .before .before .loop-test .taken)) here) (inv .month)
 
--- src/days.rt:116:9
 add-n-2 : tie.Need-add-n-2 Inv-loop μ-loop
 add-n-2 c = omega (arith, c .before .before .before .before .loop .inv, c .before .before .before .before .before .before .before .pre)
 
--- src/days.rt:117:9
 add-k : tie.Need-add-k Inv-loop μ-loop
 add-k c = omega (arith, c .before .before .before .loop-test .taken)
 
--- src/days.rt:112:5
 loop-less : tie.Need-loop-less Inv-loop μ-loop
 loop-less c = omega (arith, c .before .before .before .loop-test .taken)
 
--- src/days.rt:112:5
 loop-again : tie.Need-loop-again Inv-loop μ-loop
 loop-again c =
     let loop = c .before .before .before .before .loop in
@@ -87,7 +78,6 @@ loop-again c =
       left = rw next' (inv .left ∙ seek-on _ _ (turn + 16) (omega arith) none);
     }
 
--- src/days.rt:106:1
 returns-2 : tie.Need-returns-2 Inv-loop μ-loop
 returns-2 c =
     let inv = c .before .loop .inv in

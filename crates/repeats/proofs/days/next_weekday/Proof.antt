@@ -13,36 +13,29 @@ Inv-loop bits s w k₀ k = (k ≤ 7) × (seek (weekdaysOf bits s) w (7 - w) ≡ 
 abbrev μ-loop : tie.MeasureT-loop
 μ-loop bits s w k₀ k = 7 - k
 
--- src/days.rt:42:5
 loop-holds : tie.Need-loop-holds Inv-loop μ-loop
 loop-holds c = (c .pre, refl)
 
--- src/days.rt:43:12
 has-weekday-requires : tie.Need-has-weekday-requires Inv-loop μ-loop
 has-weekday-requires c κs = omega (arith, c .loop-test .taken)
 
--- src/days.rt:44:13
 returns : tie.Need-returns Inv-loop μ-loop
 returns c =
     let inv = c .before .before .before .loop .inv in
     (sym (inv .1 ∙ seek-at _ _ 7 (c .before .before .loop-test .taken) (sym (c .before .has-weekday .ensures) ∙ c .if1 .taken)), inv .0)
 
--- src/days.rt:46:9
 add-k : tie.Need-add-k Inv-loop μ-loop
 add-k c = omega (arith, c .before .before .loop-test .taken)
 
--- src/days.rt:42:5
 loop-less : tie.Need-loop-less Inv-loop μ-loop
 loop-less c = omega (arith, c .before .before .loop-test .taken)
 
--- src/days.rt:42:5
 loop-again : tie.Need-loop-again Inv-loop μ-loop
 loop-again c =
     let inv = c .before .before .before .loop .inv in
     let less = c .before .before .loop-test .taken in
     (omega arith, inv .1 ∙ seek-on _ _ 7 less (sym (c .before .has-weekday .ensures) ∙ c .if1 .left))
 
--- src/days.rt:37:1
 returns-2 : tie.Need-returns-2 Inv-loop μ-loop
 returns-2 c = let inv = c .before .loop .inv in (sym (inv .1 ∙ seek-end _ _ 7 (c .loop-test .left)), inv .0)
 

@@ -5,19 +5,15 @@ use borrow.Author.Needs.{needs}
 use Rattle.repeats.proofs.days.rounded_up.Statement.{statement}
 use Rattle.repeats.proofs.days.rounded_up.Tie as tie
 
--- src/days.rt:25:11
 sub-result : tie.Need-sub-result
 sub-result c = search needs
 
--- src/days.rt:25:6
 add-result : tie.Need-add-result
 add-result c = search needs
 
--- src/days.rt:25:5
 div-result : tie.Need-div-result
 div-result c = search needs
 
--- src/days.rt:21:1
 returns : tie.Need-returns
 unfolding up
 returns c = (refl, up-bounds _ _ (c .pre .0) .high)
