@@ -17,6 +17,7 @@ use Rattle.rules.specs.declared.Rule.{Rule}
 use Rattle.repeats.specs.Held.{seek}
 use Rattle.repeats.specs.Occurrences.{monthAt, holds, startFits}
 use Rattle.repeats.specs.Courses.{courseOf, repeatIn}
+use Rattle.repeats.specs.declared.courses.Begun.the-variants.{From}
 use Rattle.repeats.specs.Firsts.{up, hasDay, dayIn, monthFrom, firstMonthly, firstFrom}
 use Rattle.coming.specs.Counts.{countBefore, countMonthly, monthsWith, leaps, sum}
 use Rattle.coming.specs.Next.{nextOf, askedDay, nextDay, momentOr}
@@ -30,7 +31,7 @@ monthly-rule i b h g v = record { least = h; most = g; bound = v; days = omega a
 -- the law `next-closed`, where the moments are tested
 asks : (r : Rule) (t asked : Moment) → IsRule r → isMoment t ≡ true → isMoment asked ≡ true → startFits r t ≡ true →
     let c = courseOf r t in nextOf r t asked ≡ momentOr t (nextDay (repeatIn c) (c .interval) (c .start) (c .limit) (c .count) (askedDay t asked))
-asks r t asked v m w e = next-closed r t asked v (test-moment t m) (test-moment asked w) e
+asks r t asked v m w e = next-closed r t (From (courseOf r t)) (rw e) (courseOf r t) refl v (test-moment t m) .closed asked (test-moment asked w)
 
 -- FREQ=MONTHLY from 2026-01-31 has 01, 03, 05 and 07: months that are passed over are not counted
 fourth : nextOf (plain Monthly 1 (Count 4)) (on 2026 1 31) (on 2026 7 31) ≡ given (on 2026 7 31)

@@ -16,11 +16,12 @@ use Rattle.rules.specs.declared.Bound.{Bound}
 use Rattle.rules.specs.declared.Bound.the-variants.{Endless, Count, UntilDay, UntilMoment}
 use Rattle.rules.specs.declared.Rule.{Rule}
 use Rattle.repeats.specs.Firsts.{firstFrom}
-use Rattle.repeats.specs.Occurrences.{Repeat, holds, startFits, daysOf}
-use Rattle.repeats.specs.Courses.{countOf, courseOf, repeatIn, daysIn, IsCourse, begunOf}
+use Rattle.repeats.specs.Occurrences.{Repeat, holds}
+use Rattle.repeats.specs.Courses.{countOf, repeatIn, daysIn, IsCourse, begunOf}
 use Rattle.repeats.specs.declared.courses.Course.{Course}
+use Rattle.repeats.specs.declared.courses.Begun.{Begun}
 use Rattle.repeats.specs.declared.courses.Begun.the-variants.{Refused, From}
-use Rattle.repeats.proofs.Begins.{same-list, is-course}
+use Rattle.repeats.proofs.Begins.{from-fits, not-begun, begun-course, begun-days}
 use Rattle.repeats.proofs.Held.{held-short}
 use Rattle.coming.specs.Counts.{countBefore}
 use Rattle.coming.specs.Next.{nextOf, askedDay, nextDay, momentOr, dayBelow}
@@ -34,46 +35,33 @@ count-least (Count n) v = v
 count-least (UntilDay y m d) v = omega arith
 count-least (UntilMoment u) v = omega arith
 
--- the first of a rule's occurrences at or after the asked moment, by the closed forms of its course
-pub next-closed : (r : Rule) (t asked : Moment) → IsRule r → IsMoment t → IsMoment asked → startFits r t ≡ true →
-    let c = courseOf r t in nextOf r t asked ≡ momentOr t (nextDay (repeatIn c) (c .interval) (c .start) (c .limit) (c .count) (askedDay t asked))
-unfolding nextOf daysOf
-next-closed r t asked v m w e =
-    let c = courseOf r t in
-    let is = is-course r t v m e in
-    let day = next-day (repeatIn c) (c .interval) (c .start) (c .limit) (c .count) (askedDay t asked)
-    (is .least) (count-least (r .bound) (v .bound)) (is .matches) (is .begins) (is .ends) in
-    rw (e, same-list r t v) (first-day t asked (daysIn c) m w ∙ ap (momentOr t) day)
-
--- 19 where the start does not fit
-pub next-off : (r : Rule) (t asked : Moment) → startFits r t ≡ false → nextOf r t asked ≡ refuse NoStart 0 0
-unfolding nextOf daysOf
-next-off r t asked e = rw e
-
--- which of the two, as the code is told
-pub begun-off : (r : Rule) (t : Moment) → begunOf r t ≡ Refused → startFits r t ≡ false
-begun-off r t e = go (startFits r t) refl e
-  where
-    go : (b : Bool) → startFits r t ≡ b → cond b (From (courseOf r t)) Refused ≡ Refused → startFits r t ≡ false
-    go true p q = absurd (let z : _≡_ {A = ℕ} 0 1 = cc in omega arith)
-    go false p q = p
-
--- what is known of the course of a start that fits
+-- what is known of the course of a start that fits: the first occurrence at or after the asked moment, by its closed forms
 pub record Fits (r : Rule) (t : Moment) (c : Course) : Type 0 where
   pub course : IsCourse c
   pub count : 1 ≤ c .count
   pub closed : (asked : Moment) → IsMoment asked →
       nextOf r t asked ≡ momentOr t (nextDay (repeatIn c) (c .interval) (c .start) (c .limit) (c .count) (askedDay t asked))
 
-pub begun-from : (r : Rule) (t : Moment) (c : Course) → IsRule r → IsMoment t → begunOf r t ≡ From c → Fits r t c
-begun-from r t c v m e = go (startFits r t) refl e
-  where
-    fits : startFits r t ≡ true → Fits r t (courseOf r t)
-    fits p = record { course = is-course r t v m p; count = count-least (r .bound) (v .bound); closed = λ asked w. next-closed r t asked v m w p }
+module _ (r : Rule) (t : Moment) (b : Begun) (e : b ≡ begunOf r t) where
+  pub next-closed : (c : Course) → b ≡ From c → IsRule r → IsMoment t → Fits r t c
+  next-closed c h v m = record { course = is; count = some-day; closed = next }
+    where
+      is : IsCourse c
+      is = begun-course r t b e c h v m
 
-    go : (b : Bool) → startFits r t ≡ b → cond b (From (courseOf r t)) Refused ≡ From c → Fits r t c
-    go true p q = let same : c ≡ courseOf r t = cc in rw same (fits p)
-    go false p q = absurd (let z : _≡_ {A = ℕ} 0 1 = cc in omega arith)
+      some-day : 1 ≤ c .count
+      some-day = rw (from-fits r t b e c h .1) (count-least (r .bound) (v .bound))
+
+      next : (asked : Moment) → IsMoment asked →
+          nextOf r t asked ≡ momentOr t (nextDay (repeatIn c) (c .interval) (c .start) (c .limit) (c .count) (askedDay t asked))
+      next asked w =
+          let day = next-day (repeatIn c) (c .interval) (c .start) (c .limit) (c .count) (askedDay t asked) (is .least) some-day (is .matches) (is .begins) (is .ends) in
+          unfold nextOf in rw (begun-days r t b e c h v) (first-day t asked (daysIn c) m w ∙ ap (momentOr t) day)
+
+  -- 19 where the start does not fit
+  pub next-off : (asked : Moment) → b ≡ Refused → nextOf r t asked ≡ refuse NoStart 0 0
+  unfolding nextOf
+  next-off asked h = rw (not-begun r t b e h)
 
 -- the code's ways to the day, one after the other; n is what is found from b on
 module _ (r : Repeat) (i s limit c b : ℕ) where

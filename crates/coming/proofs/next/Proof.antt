@@ -1,9 +1,9 @@
 -- `coming::next` meets its contract. Assumes nothing.
-use mathlib.Core.Path.{_≡_, sym, _∙_}
+use mathlib.Core.Path.{_≡_, _∙_}
 use borrow.Author.Needs.{needs}
 use borrow.Author.Tests.{lt-ltb, le-ltb}
 use Rattle.coming.specs.Next.{nextOf, momentOr, dayBelow}
-use Rattle.coming.proofs.Closed.{Fits, begun-from, begun-off, next-off}
+use Rattle.coming.proofs.Closed.{Fits, next-closed, next-off}
 use Rattle.coming.proofs.next.Statement.{statement}
 use Rattle.coming.proofs.next.Tie as tie
 
@@ -12,7 +12,7 @@ known : (c : tie.After-asked-day) →
     let a = c .before .before .before .before .before .args in Fits (a .rule) (a .start) (c .before .before .begun .given .0 .0)
 known c =
     let entry = c .before .before .before .before .before in
-    begun-from _ _ _ (entry .pre .0) (entry .pre .1) (sym (c .before .before .before .before .begin .ensures) ∙ c .before .before .begun .given .1)
+    next-closed _ _ _ (c .before .before .before .before .begin .ensures) _ (c .before .before .begun .given .1) (entry .pre .0) (entry .pre .1)
 
 -- what the asked day's course has next is the answer
 told : (c : tie.After-next-day) →
@@ -32,9 +32,7 @@ enum-told c = search needs
 
 returns : tie.Need-returns
 returns c =
-    let off = begun-off _ _ (sym (c .before .before .begin .ensures) ∙ c .enum-told .given .1) in
-    let a = c .before .before .before .args in
-    rw (next-off (a .rule) (a .start) (a .asked) off)
+    rw (next-off _ _ _ (c .before .before .begin .ensures) (c .before .before .before .args .asked) (c .enum-told .given .1))
 
 asked-day-requires : tie.Need-asked-day-requires
 asked-day-requires c κs = search needs
