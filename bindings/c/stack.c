@@ -107,9 +107,10 @@ int main(int count, char **arguments) {
     for (i = 0; i < sizeof parts / sizeof parts[0]; i++) {
         for (j = 0; j < sizeof ends / sizeof ends[0]; j++) nested(parts[i], ends[j]);
     }
-    repeat("FREQ=DAILY;INTERVAL=999");
+    repeat("FREQ=DAILY;INTERVAL=999;COUNT=3652058");
     repeat("FREQ=WEEKLY;UNTIL=99991231T235959;BYDAY=MO,TU,WE,TH,FR,SA,SU;INTERVAL=2;WKST=MO");
-    repeat("FREQ=MONTHLY;BYMONTHDAY=+29;INTERVAL=12;COUNT=4294967295");
+    repeat("FREQ=WEEKLY;BYDAY=MO,TU,WE,TH,FR,SA,SU;INTERVAL=2;COUNT=3652058");
+    repeat("FREQ=MONTHLY;BYMONTHDAY=+29;INTERVAL=12;COUNT=3652058");
     for (i = 0; i < 5; i++) printf("%-18s %6zu bytes of stack\n", names[i], most[i] - nothing);
     return 0;
 }
