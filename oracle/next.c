@@ -19,6 +19,18 @@ static uint64_t next(const char *rule, const uint32_t s[NUMBERS], const uint32_t
                       moment);
 }
 
+/* A start: any date, at times 29 February of a leap year, at any time of day; now and then none that is a moment. */
+static void random_start(uint32_t start[NUMBERS]) {
+    random_date(start);
+    if (random_below(8) == 0) {
+        start[0] = 4 * (1 + (uint32_t)random_below(2499));
+        start[1] = 2;
+        start[2] = month_length(start[0], 2);
+    }
+    random_time(start);
+    if (random_below(64) == 0) start[4] = 60;
+}
+
 /* An INTERVAL: mostly small, at times a number of years, at times anything. */
 static unsigned random_interval(void) {
     switch (random_below(4)) {
@@ -47,10 +59,12 @@ static void random_end(char *text, const uint32_t start[NUMBERS]) {
     }
 }
 
-/* A rule whose FREQ and BYDAY or BYMONTHDAY are at random; the start matches it more often than not. Now and then none that is taken. */
+/* A rule whose FREQ and BYDAY or BYMONTHDAY are at random, more often MONTHLY for a day that not every month has; the start matches it more often
+ * than not. Now and then none that is taken. */
 static void random_rule(char text[MOST_RULE], const uint32_t start[NUMBERS]) {
     static const char *const frequencies[4] = {"DAILY", "WEEKLY", "MONTHLY", "YEARLY"}, *const days[7] = {"MO", "TU", "WE", "TH", "FR", "SA", "SU"};
-    size_t frequency = random_below(64) == 0 ? 3 : random_below(3), set = random_below(2) == 0 ? 0 : 1 + random_below(127), i;
+    size_t frequency = start[2] > 28 && random_below(2) == 0 ? 2 : random_below(3), set = random_below(2) == 0 ? 0 : 1 + random_below(127), i;
+    if (random_below(64) == 0) frequency = 3;
     text += sprintf(text, "FREQ=%s;INTERVAL=%u", frequencies[frequency], random_interval());
     for (i = 0; frequency == 1 && i < 7; i++) {
         if (set >> i & 1) text += sprintf(text, "%s%s", set % ((size_t)1 << i) == 0 ? ";BYDAY=" : ",", days[i]);
@@ -114,11 +128,9 @@ int main(int count, char **arguments) {
     rules = strtoul(arguments[1], NULL, 10);
     each = strtoul(arguments[2], NULL, 10);
     for (i = 0; i < rules; i++) {
-        size_t room = random_below(500) == 0 ? DAYS : 1 + random_below(random_below(8) == 0 ? 20000 : 2000);
+        size_t room = random_below(500) == 0 ? DAYS : 1 + random_below(random_below(4) == 0 ? 20000 : 2000);
         uint64_t listed;
-        random_date(start);
-        random_time(start);
-        if (random_below(64) == 0) start[4] = 60;
+        random_start(start);
         random_rule(rule, start);
         listed = list(rule, start, room);
         for (j = 0; j < each; j++) {

@@ -296,6 +296,11 @@ fn says_what_comes_next() {
     assert_eq!(until("FREQ=DAILY;UNTIL=20260212T093015"), Err(Reason::NoNext));
     assert_eq!(until("FREQ=DAILY;UNTIL=20260212T093016"), Ok(on(2, 12)));
 
+    // months without a 31st are not counted
+    let four = Rule::parse("FREQ=MONTHLY;COUNT=4").unwrap();
+    assert_eq!(four.next(on(1, 31), on(7, 31)), Ok(on(7, 31)));
+    assert_eq!(four.next(on(1, 31), on(8, 1)).unwrap_err().reason(), Reason::NoNext);
+
     let leap_days = Rule::parse("FREQ=MONTHLY;INTERVAL=300").unwrap();
     let first = Moment { year: 2000, ..LEAP_DAY };
     assert_eq!(leap_days.next(first, Moment { year: 2001, day: 28, ..first }), Ok(Moment { year: 2400, ..first }));
