@@ -26,7 +26,7 @@ use Rattle.coming.proofs.Closed.{next-closed}
 
 -- a rule of the cases
 monthly-rule : (i : ℕ) (b : Bound) → 1 ≤ i → i ≤ 999 → IsBound b → IsRule (plain Monthly i b)
-monthly-rule i b h g v = record { least = h; most = g; bound = v; days = omega arith; day = omega arith }
+monthly-rule i b h g v = record { least = h; most = g; bound = v }
 
 -- the law `next-closed`, where the moments are tested
 asks : (r : Rule) (t asked : Moment) → IsRule r → isMoment t ≡ true → isMoment asked ≡ true → startFits r t ≡ true →
