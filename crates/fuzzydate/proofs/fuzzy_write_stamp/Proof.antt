@@ -19,7 +19,7 @@ coded-of :
 coded-of c =
     let a = c .before .before .before .args in
     let stamp = numbersStamp (a .year) (a .month) (a .day) (a .hour) (a .minute) (a .second) (a .millisecond) (a .west) (a .offset) in
-    coded (λ text p. omega (arith, rw (p .is) at (text-short stamp))) (writing stamp (length (now (a .text)))) (c .write-stamp .ensures .0)
+    coded (λ text p. rw (← (p .is)) (omega (arith, text-short stamp))) (writing stamp (length (now (a .text)))) (c .write-stamp .ensures .0)
 
 write-stamp-requires : tie.Need-write-stamp-requires
 write-stamp-requires c κs = search needs
