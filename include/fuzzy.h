@@ -58,7 +58,7 @@ enum fuzzy_refusal {
     FUZZY_NOTHING = 5,         /* nothing that can be read */
     FUZZY_LARGE_SUM = 6,       /* a number in words passes 4,294,967,295 */
     FUZZY_LEFT_OVER = 7,       /* something is left behind what was read */
-    FUZZY_NO_NOW = 8,          /* the now, the start or the moment to be written is no date and time of the years 1 to 9999 */
+    FUZZY_NO_NOW = 8,          /* the now, the start, the asked moment or the one to be written is no date and time of the years 1 to 9999 */
     FUZZY_NO_SENSE = 9,        /* the phrase, or the ready phrase, has no sense */
     FUZZY_NO_DATE = 10,        /* no such month or day */
     FUZZY_NO_TIME = 11,        /* no such time of day */
@@ -69,7 +69,8 @@ enum fuzzy_refusal {
     FUZZY_NOT_WHOLE = 16,      /* second or millisecond of the moment isn't 0, which its phrase would not show */
     FUZZY_NO_ROOM = 17,        /* the lent text is too short */
     FUZZY_NO_RULE = 18,        /* no RFC 5545 rule, or one outside those that are taken */
-    FUZZY_NO_START = 19        /* the start does not match the rule, or lies past its UNTIL */
+    FUZZY_NO_START = 19,       /* the start does not match the rule, or lies past its UNTIL */
+    FUZZY_NO_NEXT = 20         /* no occurrence of the rule is at or after the asked moment */
 };
 
 /* A phrase at a now, in one of the two readings. 0: the moment's seven numbers are in `moment`. Else a refusal. Where the phrase states a
@@ -124,6 +125,15 @@ uint64_t fuzzy_write_phrase(uint32_t year, uint32_t month, uint32_t day, uint32_
 uint64_t fuzzy_list(const uint8_t *rule, size_t rule_length, uint32_t year, uint32_t month, uint32_t day, uint32_t hour, uint32_t minute,
                     uint32_t second, uint32_t millisecond, uint32_t *moments, size_t moments_length);
 
+/* Which occurrence comes next: the first one at or after the asked moment, the start itself where that is not before it. 0: its seven numbers
+ * are in `moment`; they are those of the first row at or after the asked moment that fuzzy_list, with room for all, would write. Else, in this
+ * order, 8 for a start or an asked moment that is no moment, 18 and 19 as there, and 20 where no occurrence in the years 1 to 9999 is at or
+ * after the asked moment, COUNT and UNTIL counted in. The occurrences before it are not gone through: what a call takes has a bound, however
+ * many they are. */
+uint64_t fuzzy_next(const uint8_t *rule, size_t rule_length, uint32_t year, uint32_t month, uint32_t day, uint32_t hour, uint32_t minute,
+                    uint32_t second, uint32_t millisecond, uint32_t asked_year, uint32_t asked_month, uint32_t asked_day, uint32_t asked_hour,
+                    uint32_t asked_minute, uint32_t asked_second, uint32_t asked_millisecond, uint32_t moment[FUZZY_MOMENT_NUMBERS]);
+
 /* Which refusal an answer is; 0 where it is none. */
 static inline unsigned fuzzy_number(uint64_t answer) { return (unsigned)(answer & 0xffffu); }
 
@@ -157,6 +167,7 @@ static inline const char *fuzzy_word(unsigned number) {
     case FUZZY_NO_ROOM: return "no room for the text";
     case FUZZY_NO_RULE: return "no repeating rule that is taken";
     case FUZZY_NO_START: return "the start is no occurrence of the rule";
+    case FUZZY_NO_NEXT: return "no occurrence is left";
     default: return "no answer of this library";
     }
 }

@@ -1,5 +1,5 @@
-/* Reads phrases at one now, a ready phrase at two, one phrase in both readings, and stamps, looks words up, shows a moment as a phrase, and lists
- * a rule's occurrences. Copy what you need. */
+/* Reads phrases at one now, a ready phrase at two, one phrase in both readings, and stamps, looks words up, shows a moment as a phrase, lists a
+ * rule's occurrences and says which comes next. Copy what you need. */
 #include "fuzzy.h"
 
 #include <stdio.h>
@@ -72,6 +72,14 @@ static void show_rule(const char *rule) {
     }
 }
 
+/* Shows the first occurrence of a rule from 2026-02-10 09:30 on that is at or after noon of the first day of a year, or says what is wrong. */
+static void show_next(const char *rule, uint32_t year) {
+    uint32_t moment[FUZZY_MOMENT_NUMBERS];
+    uint64_t answer = fuzzy_next((const uint8_t *)rule, strlen(rule), 2026, 2, 10, 9, 30, 0, 0, year, 1, 1, 12, 0, 0, 0, moment);
+    printf("asked in %u, ", (unsigned)year);
+    show(rule, answer, moment);
+}
+
 int main(void) {
     static const char *const phrases[] = {"next friday at 3 pm", "an hour ago", "forty days ago", "5/2"};
     uint8_t ready[FUZZY_READY_SIZE];
@@ -124,5 +132,10 @@ int main(void) {
     show_rule("FREQ=DAILY;UNTIL=20260212");
     show_rule("FREQ=WEEKLY;BYDAY=MO");
     show_rule("FREQ=YEARLY");
+
+    /* before the start; a phone that was off for a year; an UNTIL that has passed */
+    show_next("FREQ=WEEKLY;INTERVAL=2;BYDAY=TU", 2026);
+    show_next("FREQ=WEEKLY;INTERVAL=2;BYDAY=TU", 2027);
+    show_next("FREQ=DAILY;UNTIL=20260212", 2027);
     return 0;
 }

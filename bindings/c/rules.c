@@ -1,6 +1,6 @@
-/* Lists the rules of a list from their starts on, and so many random ones; prints one digest of all answers and all numbers written: rules LIST
- * ANSWERS COUNT. The answers to the list are compared with those of the file ANSWERS. Rule and rows stand at a fence, by turns at the upper and the
- * lower one, and nothing else of their pages may change. */
+/* Lists the rules of a list from their starts on, and so many random ones, and asks each which occurrence comes next; prints one digest of all answers
+ * and all numbers written: rules LIST ANSWERS COUNT. The answers to the list are compared with those of the file ANSWERS. Rule, rows and moment stand
+ * at a fence, by turns at the upper and the lower one, and nothing else of their pages may change. */
 #define _DEFAULT_SOURCE
 #include "fuzzy.h"
 #include "lent.h"
@@ -22,10 +22,10 @@ struct listing {
 
 #define HEAD 30
 
-static struct field rules, rows;
+static struct field rules, rows, nexts;
 static struct listing listings[MOST_LINES];
 static size_t listed;
-static uint64_t rows_listed;
+static uint64_t rows_listed, nexts_found;
 
 /* Lists a rule; the rows are copied, and the answer is their count or a refusal. */
 static uint64_t answered(const struct listing *l, uint32_t numbers[MOST_NUMBERS]) {
@@ -44,6 +44,36 @@ static uint64_t answered(const struct listing *l, uint32_t numbers[MOST_NUMBERS]
     add(moments, written);
     rows_listed += written / (NUMBERS * sizeof(uint32_t));
     return answer;
+}
+
+/* Asks a rule; the moment of the answer is copied. */
+static uint64_t asked(const struct listing *l, const uint32_t a[NUMBERS], uint32_t next[NUMBERS]) {
+    int upper = (int)random_below(2);
+    size_t size = NUMBERS * sizeof(uint32_t), written;
+    const uint32_t *s = l->start;
+    uint8_t *rule = lent(rules, l->length, upper), *moment = lent(nexts, size, upper);
+    uint64_t answer;
+    memcpy(rule, l->rule, l->length);
+    answer = fuzzy_next(rule, l->length, s[0], s[1], s[2], s[3], s[4], s[5], s[6], a[0], a[1], a[2], a[3], a[4], a[5], a[6],
+                        (uint32_t *)(void *)moment);
+    written = answer == 0 ? size : 0;
+    if (memcmp(rule, l->rule, l->length) != 0 || !kept_but(rules, rule, l->length, l->length)) stop("a rule was changed");
+    if (!kept_but(nexts, moment, size, written)) stop("something else than a moment was written");
+    memcpy(next, moment, written);
+    add_number(answer);
+    add(moment, written);
+    nexts_found += answer == 0;
+    return answer;
+}
+
+/* Asks at a row that was listed, which is then the answer, and at the start of another line, which may be no moment. */
+static void ask(const struct listing *l, uint64_t answer, const uint32_t *numbers) {
+    uint32_t next[NUMBERS];
+    if (fuzzy_number(answer) == 0 && fuzzy_length(answer) > 0) {
+        const uint32_t *row = numbers + NUMBERS * random_below(fuzzy_length(answer));
+        if (asked(l, row, next) != 0 || memcmp(next, row, sizeof next) != 0) stop("a listed row does not come next at itself");
+    }
+    asked(l, listings[random_below(listed)].start, next);
 }
 
 /* The answer as the list has it: number, count, the first six rows and the last six; the number behind them is judged by the fence. */
@@ -80,6 +110,7 @@ static void replay(const char *list, const char *answers, uint32_t numbers[MOST_
     static char text[1 << 18], expected[8192];
     FILE *in = fopen(list, "r"), *out = fopen(answers, "r");
     char *at = text, *end;
+    uint64_t answer;
     size_t n;
     if (in == NULL || out == NULL) stop("no list");
     n = fread(text, 1, sizeof text - 1, in);
@@ -87,8 +118,10 @@ static void replay(const char *list, const char *answers, uint32_t numbers[MOST_
         if (end - at < HEAD) continue;
         if (listed == MOST_LINES || fgets(expected, sizeof expected, out) == NULL) stop("too many lines");
         take_listing(at, (size_t)(end - at), &listings[listed]);
-        compare(expected, answered(&listings[listed], numbers), numbers);
+        answer = answered(&listings[listed], numbers);
+        compare(expected, answer, numbers);
         listed++;
+        ask(&listings[listed - 1], answer, numbers);
     }
     if (fgets(expected, sizeof expected, out) != NULL) stop("too few lines");
     fclose(in);
@@ -118,12 +151,14 @@ int main(int count, char **arguments) {
     if (count != 4) stop("usage: rules LIST ANSWERS COUNT");
     rules = fenced(MOST_RULE);
     rows = fenced(sizeof numbers);
+    nexts = fenced(NUMBERS * sizeof(uint32_t));
     replay(arguments[1], arguments[2], numbers);
     rounds = strtoul(arguments[3], NULL, 10);
     for (i = 0; i < rounds; i++) {
         random_listing(&l);
-        answered(&l, numbers);
+        ask(&l, answered(&l, numbers), numbers);
     }
-    printf("rules: %zu listed and %lu random ones, %" PRIu64 " rows: digest %016" PRIx64 "\n", listed, rounds, rows_listed, digest);
+    printf("rules: %zu listed and %lu random ones, %" PRIu64 " rows, %" PRIu64 " that come next: digest %016" PRIx64 "\n", listed, rounds,
+           rows_listed, nexts_found, digest);
     return 0;
 }

@@ -1,5 +1,6 @@
-/* Prints the most bytes of stack that reading, making ready, running and listing were seen to use, over the replayed list and over phrases that nest
- * as deeply as 256 bytes let them, and over a rule of each FREQ: stack LIST. A call runs on a stack of its own that is full of a pattern; what an empty call uses is taken off. */
+/* Prints the most bytes of stack that reading, making ready, running, listing and asking for what comes next were seen to use, over the replayed list
+ * and over phrases that nest as deeply as 256 bytes let them, and over a rule of each FREQ: stack LIST. A call runs on a stack of its own that is full of
+ * a pattern; what an empty call uses is taken off. */
 #define _DEFAULT_SOURCE
 #include "fuzzy.h"
 #include "lent.h"
@@ -37,6 +38,10 @@ static void call_list(void) {
     fuzzy_list(line.phrase, line.length, 2024, 2, 29, 12, 0, 0, 0, rows, sizeof rows / sizeof rows[0]);
 }
 
+static void call_next(void) {
+    fuzzy_next(line.phrase, line.length, 2024, 2, 29, 12, 0, 0, 0, 9996, 2, 29, 12, 0, 0, 0, moment);
+}
+
 /* The bytes of stack that a call changes, counted from the top down to the lowest one. */
 static size_t used_by(void (*call)(void)) {
     uint8_t *p, *end = stack.first + stack.size;
@@ -51,7 +56,7 @@ static size_t used_by(void (*call)(void)) {
     return (size_t)(end - p);
 }
 
-static size_t most[4];
+static size_t most[5];
 
 /* The three functions for phrases on the phrase of `line`. */
 static void measure(void) {
@@ -72,17 +77,20 @@ static void nested(const char *part, const char *end) {
     measure();
 }
 
-/* Listing on a rule. */
-static void list(const char *rule) {
-    size_t used;
+/* The two functions for rules on a rule. */
+static void repeat(const char *rule) {
+    static void (*const calls[2])(void) = {call_list, call_next};
+    size_t i;
     line.length = strlen(rule);
     memcpy(line.phrase, rule, line.length);
-    used = used_by(call_list);
-    if (used > most[3]) most[3] = used;
+    for (i = 0; i < 2; i++) {
+        size_t used = used_by(calls[i]);
+        if (used > most[3 + i]) most[3 + i] = used;
+    }
 }
 
 int main(int count, char **arguments) {
-    static const char *const names[4] = {"fuzzy_read", "fuzzy_make_ready", "fuzzy_run", "fuzzy_list"};
+    static const char *const names[5] = {"fuzzy_read", "fuzzy_make_ready", "fuzzy_run", "fuzzy_list", "fuzzy_next"};
     static const char *const parts[] = {"million ", "1 million ", "a day after ", "1 day before ", "1day from", "1day after ", "1 day, ", "1 day and "};
     static const char *const ends[] = {"days ago", "today", "noon", "1 day ago", "now", ""};
     static char text[8192];
@@ -99,9 +107,10 @@ int main(int count, char **arguments) {
     for (i = 0; i < sizeof parts / sizeof parts[0]; i++) {
         for (j = 0; j < sizeof ends / sizeof ends[0]; j++) nested(parts[i], ends[j]);
     }
-    list("FREQ=DAILY;INTERVAL=999");
-    list("FREQ=WEEKLY;UNTIL=99991231T235959;BYDAY=MO,TU,WE,TH,FR,SA,SU;INTERVAL=2;WKST=MO");
-    list("FREQ=MONTHLY;BYMONTHDAY=+29;INTERVAL=12;COUNT=4294967295");
-    for (i = 0; i < 4; i++) printf("%-18s %6zu bytes of stack\n", names[i], most[i] - nothing);
+    repeat("FREQ=DAILY;INTERVAL=999;COUNT=3652058");
+    repeat("FREQ=WEEKLY;UNTIL=99991231T235959;BYDAY=MO,TU,WE,TH,FR,SA,SU;INTERVAL=2;WKST=MO");
+    repeat("FREQ=WEEKLY;BYDAY=MO,TU,WE,TH,FR,SA,SU;INTERVAL=2;COUNT=3652058");
+    repeat("FREQ=MONTHLY;BYMONTHDAY=+29;INTERVAL=12;COUNT=3652058");
+    for (i = 0; i < 5; i++) printf("%-18s %6zu bytes of stack\n", names[i], most[i] - nothing);
     return 0;
 }

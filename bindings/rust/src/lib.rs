@@ -57,6 +57,9 @@
 //! let start = Moment { year: 2026, month: 2, day: 10, hour: 9, minute: 30, second: 0, millisecond: 0 };
 //! let due: Vec<String> = rule.occurrences(start, 3).unwrap().iter().map(Moment::to_string).collect();
 //! assert_eq!(due, ["2026-02-10 09:30:00", "2026-02-24 09:30:00", "2026-03-10 09:30:00"]);
+//!
+//! let a_year_later = Moment { year: 2027, ..start };
+//! assert_eq!(rule.next(start, a_year_later).unwrap().to_string(), "2027-02-23 09:30:00");
 //! ```
 use std::fmt;
 use std::str::FromStr;
@@ -126,6 +129,25 @@ extern "C" {
         millisecond: u32,
         moments: *mut u32,
         moments_length: usize,
+    ) -> u64;
+    fn fuzzy_next(
+        rule: *const u8,
+        rule_length: usize,
+        year: u32,
+        month: u32,
+        day: u32,
+        hour: u32,
+        minute: u32,
+        second: u32,
+        millisecond: u32,
+        asked_year: u32,
+        asked_month: u32,
+        asked_day: u32,
+        asked_hour: u32,
+        asked_minute: u32,
+        asked_second: u32,
+        asked_millisecond: u32,
+        moment: *mut u32,
     ) -> u64;
 }
 
@@ -253,7 +275,7 @@ pub enum Reason {
     LargeSum = 6,
     /// Something is left behind what was read.
     LeftOver = 7,
-    /// The now, the start or the moment to be written is no date and time of the years 1 to 9999.
+    /// The now, the start, the asked moment or the one to be written is no date and time of the years 1 to 9999.
     NoNow = 8,
     /// The phrase, or the ready phrase, has no sense.
     NoSense = 9,
@@ -277,11 +299,13 @@ pub enum Reason {
     NoRule = 18,
     /// The start doesn't match the rule, or lies past its UNTIL.
     NoStart = 19,
+    /// No occurrence of the rule is at or after the asked moment.
+    NoNext = 20,
 }
 
 impl Reason {
     /// In the order of their numbers.
-    const ALL: [Reason; 19] = [
+    const ALL: [Reason; 20] = [
         Reason::TooLong,
         Reason::Unknown,
         Reason::LargeDigits,
@@ -301,6 +325,7 @@ impl Reason {
         Reason::NoRoom,
         Reason::NoRule,
         Reason::NoStart,
+        Reason::NoNext,
     ];
 
     /// The reason of a number that the library answers.
@@ -335,6 +360,7 @@ impl Reason {
             Reason::NoRoom => "there is no room for the text",
             Reason::NoRule => "this is no repeating rule that is taken",
             Reason::NoStart => "the start is no occurrence of the rule",
+            Reason::NoNext => "no occurrence of the rule is left",
         }
     }
 }
@@ -703,6 +729,51 @@ impl Rule {
         let mut moments = vec![[0; 7]; most.min(DAYS)];
         let count = list(&self.text, start, &mut moments)?;
         Ok(moments[..count].iter().copied().map(Moment::of).collect())
+    }
+
+    /// Which occurrence comes next: of those from a start on the first at or after the asked moment, found without the ones before it. Or why
+    /// there is none: start or asked moment is no date and time of the years 1 to 9999, the start doesn't match the rule or lies past its
+    /// UNTIL, or COUNT, UNTIL or the years end before the asked moment.
+    ///
+    /// ```
+    /// # use fuzzydate::{Moment, Reason, Rule};
+    /// let start = Moment { year: 2026, month: 1, day: 31, hour: 9, minute: 30, second: 0, millisecond: 0 };
+    /// let months = Rule::parse("FREQ=MONTHLY;COUNT=4").unwrap();
+    /// assert_eq!(months.next(start, start), Ok(start));
+    /// assert_eq!(months.next(start, Moment { millisecond: 1, ..start }).unwrap().to_string(), "2026-03-31 09:30:00");
+    ///
+    /// let refusal = months.next(start, Moment { month: 8, day: 1, ..start }).unwrap_err();
+    /// assert_eq!(refusal.reason(), Reason::NoNext);
+    /// assert_eq!(refusal.to_string(), "no occurrence of the rule is left");
+    /// ```
+    pub fn next(&self, start: Moment, asked: Moment) -> Result<Moment, Refusal<'static>> {
+        let mut moment = [0; 7];
+        // SAFETY: the pointers are those of a slice, whose size is said, and of an array of seven numbers.
+        let answer = unsafe {
+            fuzzy_next(
+                self.text.as_ptr(),
+                self.text.len(),
+                start.year,
+                start.month,
+                start.day,
+                start.hour,
+                start.minute,
+                start.second,
+                start.millisecond,
+                asked.year,
+                asked.month,
+                asked.day,
+                asked.hour,
+                asked.minute,
+                asked.second,
+                asked.millisecond,
+                moment.as_mut_ptr(),
+            )
+        };
+        match answer {
+            0 => Ok(Moment::of(moment)),
+            _ => Err(Refusal::of(answer, &[])),
+        }
     }
 }
 

@@ -272,3 +272,46 @@ fn refuses_rules_and_starts() {
         assert_eq!(rule.occurrences(NO_NOW, 9).unwrap_err().reason(), Reason::NoNow, "{text}");
     }
 }
+
+#[test]
+fn says_what_comes_next() {
+    let tuesday = Moment { year: 2026, month: 2, day: 10, millisecond: 250, ..NOW };
+    let on = |month, day| Moment { month, day, ..tuesday };
+    let fortnights = Rule::parse("FREQ=WEEKLY;INTERVAL=2;BYDAY=TU;COUNT=3").unwrap();
+    let asked = [
+        (Moment { year: 1, ..tuesday }, Ok(tuesday)),
+        (tuesday, Ok(tuesday)),
+        (Moment { millisecond: 251, ..tuesday }, Ok(on(2, 24))),
+        (Moment { millisecond: 249, ..on(2, 24) }, Ok(on(2, 24))),
+        (on(2, 24), Ok(on(2, 24))),
+        (on(3, 10), Ok(on(3, 10))),
+        (Moment { millisecond: 251, ..on(3, 10) }, Err(Reason::NoNext)),
+        (Moment { year: 9999, month: 12, day: 31, hour: 23, minute: 59, second: 59, millisecond: 999 }, Err(Reason::NoNext)),
+    ];
+    for (moment, wanted) in asked {
+        assert_eq!(fortnights.next(tuesday, moment).map_err(|r| r.reason()), wanted, "{moment}");
+    }
+    let until = |text| Rule::parse(text).unwrap().next(tuesday, on(2, 12)).map_err(|r| r.reason());
+    assert_eq!(until("FREQ=DAILY;UNTIL=20260212"), Ok(on(2, 12)));
+    assert_eq!(until("FREQ=DAILY;UNTIL=20260212T093015"), Err(Reason::NoNext));
+    assert_eq!(until("FREQ=DAILY;UNTIL=20260212T093016"), Ok(on(2, 12)));
+
+    // months without a 31st are not counted
+    let four = Rule::parse("FREQ=MONTHLY;COUNT=4").unwrap();
+    assert_eq!(four.next(on(1, 31), on(7, 31)), Ok(on(7, 31)));
+    assert_eq!(four.next(on(1, 31), on(8, 1)).unwrap_err().reason(), Reason::NoNext);
+
+    let leap_days = Rule::parse("FREQ=MONTHLY;INTERVAL=300").unwrap();
+    let first = Moment { year: 2000, ..LEAP_DAY };
+    assert_eq!(leap_days.next(first, Moment { year: 2001, day: 28, ..first }), Ok(Moment { year: 2400, ..first }));
+
+    let days = Rule::parse("FREQ=DAILY").unwrap();
+    let last = Moment { year: 9999, month: 12, day: 31, ..NOW };
+    assert_eq!(days.next(NOW, last), Ok(last));
+    assert_eq!(days.next(NOW, Moment { millisecond: 1, ..last }).unwrap_err().reason(), Reason::NoNext);
+
+    let mondays = Rule::parse("FREQ=WEEKLY;BYDAY=MO").unwrap();
+    assert_eq!(mondays.next(tuesday, last).unwrap_err().reason(), Reason::NoStart);
+    assert_eq!(mondays.next(tuesday, NO_NOW).unwrap_err().reason(), Reason::NoNow);
+    assert_eq!(mondays.next(NO_NOW, last).unwrap_err().reason(), Reason::NoNow);
+}

@@ -1,6 +1,6 @@
 -- What an app gets: one number, and what is written into the array that it lends.
 use Prim.Native.Nat.{ℕ, _+_, _-_, _*_}
-use mathlib.Core.Bool.{cond}
+use mathlib.Core.Bool.{cond, _&&_}
 use mathlib.Core.List.{List, [], _∷_, _++_}
 use lib.Dec.{eqb}
 use lib.ListN.{length}
@@ -24,6 +24,7 @@ use Rattle.records.specs.Records.{encodeOf}
 use Rattle.stamp.specs.declared.Stamp.{Stamp}
 use Rattle.rules.specs.Rules.{readRule}
 use Rattle.repeats.specs.Listing.{listOf}
+use Rattle.coming.specs.Next.{nextOf}
 use Rattle.fuzzydate.specs.declared.Chosen.{Chosen}
 use Rattle.fuzzydate.specs.declared.Chosen.the-variants.{As, Neither}
 
@@ -104,3 +105,7 @@ foundAfter (refused r) lent = lent
 -- 19 for a start that doesn't match or lies past UNTIL"
 abbrev pub listIn : List ℕ → Moment → ℕ → Answer (List ℕ)
 listIn s t size = cond (isMoment t) (andThen (readRule s) (λ r. listOf r t size)) (refuse NoNow 0 0)
+
+-- the first occurrence at or after an asked moment: "8 covers the asked moment too; after 18 and 19, 20"
+abbrev pub nextIn : List ℕ → Moment → Moment → Answer Moment
+nextIn s t asked = cond (isMoment t && isMoment asked) (andThen (readRule s) (λ r. nextOf r t asked)) (refuse NoNow 0 0)

@@ -76,3 +76,6 @@ pub const NO_RULE: u8 = 18;
 
 // The start doesn't match the rule, or lies past its UNTIL.
 pub const NO_START: u8 = 19;
+
+// No occurrence in years 1 to 9999 is at or after the moment.
+pub const NO_NEXT: u8 = 20;

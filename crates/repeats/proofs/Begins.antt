@@ -127,7 +127,7 @@ module _ (r : Rule) (t : Moment) (b : Begun) (e : b ≡ begunOf r t) where
       go true p = absurd (let z : tagOf Refused ≡ tagOf (From (courseOf r t)) = ap tagOf p in omega arith)
       go false p = refl
 
-  from-fits : (c : Course) → b ≡ From c → (startFits r t ≡ true) × (c ≡ courseOf r t)
+  pub from-fits : (c : Course) → b ≡ From c → (startFits r t ≡ true) × (c ≡ courseOf r t)
   from-fits c h = go (startFits r t) (sym h ∙ e)
     where
       go : (x : Bool) → From c ≡ cond x (From (courseOf r t)) Refused → (x ≡ true) × (c ≡ courseOf r t)

@@ -70,7 +70,7 @@ fn month_day(day: u32, start: Moment) -> u32
 }
 
 // The milliseconds of a moment's day that have passed.
-fn time_of_day(t: Moment) -> u32
+pub fn time_of_day(t: Moment) -> u32
     requires { ⌜ IsMoment t ⌝ }
     ensures { λ r. ⌜ r ≡ timeOfDay t ⌝ }
 {

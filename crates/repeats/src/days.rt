@@ -18,7 +18,7 @@ ghost use Rattle.repeats.specs.Firsts.{up, hasDay, dayIn, monthFrom, fir
 const TURNS: u32 = 16;
 
 // n over i, rounded up.
-fn rounded_up(i: u32, n: u32) -> u32
+pub fn rounded_up(i: u32, n: u32) -> u32
     requires { ⌜ (1 ≤ i) × (i ≤ 999) × (n ≤ days) ⌝ }
     ensures { λ r. ⌜ (r ≡ up i n) × (i * r < n + i) ⌝ }
 {
@@ -93,7 +93,7 @@ fn day_in(d: u32, n: u32) -> u32
 }
 
 // The first month whose day d, if it has one, is at or after day b.
-fn month_from(d: u32, b: u32) -> u32
+pub fn month_from(d: u32, b: u32) -> u32
     requires { ⌜ b < days ⌝ }
     ensures { λ r. ⌜ (r ≡ monthFrom d b) × (r ≤ months) ⌝ }
 {

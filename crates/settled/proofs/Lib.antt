@@ -17,5 +17,6 @@ pub mod Stamp
 pub mod Shown
 pub mod Rules
 pub mod Repeats
+pub mod Coming
 pub mod Fuzzydate
 pub mod Text
