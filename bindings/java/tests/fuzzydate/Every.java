@@ -1,0 +1,401 @@
+package fuzzydate;
+
+import java.nio.charset.StandardCharsets;
+import java.time.LocalDateTime;
+import java.time.OffsetDateTime;
+import java.util.ArrayList;
+import java.util.Arrays;
+import java.util.Collections;
+import java.util.EnumSet;
+import java.util.List;
+import java.util.Optional;
+import java.util.OptionalInt;
+import java.util.Random;
+import java.util.Set;
+import java.util.concurrent.Callable;
+import java.util.concurrent.ExecutorService;
+import java.util.concurrent.Executors;
+import java.util.concurrent.Future;
+
+/** Every call with good, damaged, empty and missing input, each refusal at least once, and all of it in eight threads at once. */
+final class Every {
+    private static final LocalDateTime NOW = LocalDateTime.of(2026, 2, 11, 9, 30, 15, 250_000_000);
+    private static final LocalDateTime LEAP_DAY = LocalDateTime.of(2024, 2, 29, 12, 0);
+    private static final LocalDateTime WHOLE = LocalDateTime.of(2026, 3, 4, 9, 5);
+    private static final int THREADS = 8;
+    private static final int ROUNDS = 5;
+
+    private final Set<Reason> seen = EnumSet.noneOf(Reason.class);
+    private int checks = 0;
+
+    private Every() {}
+
+    private void expect(boolean holds, String what) {
+        checks++;
+        if (!holds) {
+            throw new AssertionError(what);
+        }
+    }
+
+    private void same(Object found, Object wanted, String what) {
+        expect(found.equals(wanted), what + ": " + found + ", not " + wanted);
+    }
+
+    private interface Call {
+        Object run() throws Refusal;
+    }
+
+    private Refusal refusal(Reason reason, Call call, String what) {
+        try {
+            throw new AssertionError(what + " gives " + call.run());
+        } catch (Refusal refusal) {
+            same(refusal.reason(), reason, what);
+            seen.add(reason);
+            return refusal;
+        }
+    }
+
+    private void throwsA(Class<? extends Exception> wanted, Call call, String what) {
+        try {
+            throw new AssertionError(what + " gives " + call.run());
+        } catch (Exception e) {
+            same(e.getClass(), wanted, what);
+        }
+    }
+
+    private void given(Reading reading, String phrase, String moment) throws Refusal {
+        LocalDateTime wanted = LocalDateTime.parse(moment);
+        same(Fuzzydate.read(reading, phrase, NOW), wanted, phrase);
+        same(Fuzzydate.read(reading, phrase.getBytes(StandardCharsets.UTF_8), NOW), wanted, phrase + ", as bytes");
+        byte[] ready = Fuzzydate.makeReady(reading, phrase);
+        expect(ready.length >= 16 && ready.length <= Calls.READY_SIZE && ready.length % 16 == 0, phrase + ": the length of a ready phrase");
+        same(Fuzzydate.run(ready, NOW), wanted, phrase + ", made ready");
+        refusal(Reason.NO_SENSE, () -> Fuzzydate.run(Arrays.copyOf(ready, ready.length - 1), NOW), phrase + ", cut short");
+        ready[2] ^= 1;
+        refusal(Reason.NO_SENSE, () -> Fuzzydate.run(ready, NOW), phrase + ", damaged");
+    }
+
+    private void moments() throws Refusal {
+        for (Reading reading : Reading.values()) {
+            given(reading, "next friday", "2026-02-20T09:30:15.250");
+            given(reading, "an hour ago", "2026-02-11T08:30:15.250");
+            given(reading, "5/2 at noon", "2026-05-02T12:00:00");
+            given(reading, "friday at midnight", "2026-02-13T00:00:00");
+            given(reading, "2 months before 3 weeks after tomorrow at 5:00", "2026-01-05T05:00:00");
+        }
+        given(Reading.FIRST, "tuesday in two weeks", "2026-01-27T09:30:15.250");
+        given(Reading.SECOND, "tuesday in two weeks", "2026-03-03T09:30:15.250");
+        given(Reading.SECOND, "march 3 5 pm", "2026-03-03T17:00:00");
+        given(Reading.SECOND, "january 1, 2010", "2010-01-01T09:30:15.250");
+        LocalDateTime last = LocalDateTime.of(9999, 12, 31, 23, 59, 59, 999_000_000);
+        same(Fuzzydate.read(Reading.FIRST, "today", last), last, "the last moment");
+    }
+
+    private void refused(Reading reading, byte[] phrase, Reason reason, int place, String part, String message) throws Refusal {
+        Refusal refusal = refusal(reason, () -> Fuzzydate.read(reading, phrase, NOW), message);
+        same(refusal.place(), place, message + ": the place");
+        same(new String(refusal.part(), StandardCharsets.ISO_8859_1), part, message + ": the part");
+        same(refusal.getMessage(), message, "a message");
+        if (reason.number() <= Reason.LEFT_OVER.number()) {
+            Refusal again = refusal(reason, () -> Fuzzydate.makeReady(reading, phrase), message + ", made ready");
+            same(again.getMessage(), message, "the message of making ready");
+        } else {
+            byte[] ready = Fuzzydate.makeReady(reading, phrase);
+            refusal(reason, () -> Fuzzydate.run(ready, NOW), message + ", run");
+        }
+    }
+
+    private void refused(String phrase, Reason reason, int place, String part, String message) throws Refusal {
+        refused(Reading.FIRST, phrase.getBytes(StandardCharsets.ISO_8859_1), reason, place, part, message);
+    }
+
+    private void refusals() throws Refusal {
+        refused("", Reason.NOTHING, 0, "", "no date or time in it");
+        refused("forty days ago", Reason.UNKNOWN, 0, "forty", "not understood: \"forty\" at byte 0");
+        refused("in\0two days", Reason.UNKNOWN, 2, "\0", "not understood: \"\\x00\" at byte 2");
+        refused("4294967296 days ago", Reason.LARGE_DIGITS, 0, "4294967296", "number too large: \"4294967296\" at byte 0");
+        refused("five billion days ago", Reason.LARGE_SUM, 0, "", "number in words too large");
+        refused("5/2", Reason.LEFT_OVER, 1, "/2", "not part of the date or time: \"/2\" at byte 1");
+        refused("this month", Reason.NO_SENSE, 0, "", "has no sense");
+        refused("1000/1/1", Reason.NO_DATE, 0, "", "no such month or day");
+        refused("january 1, 99", Reason.NO_TIME, 0, "", "no such time of day");
+        refused("four billion days ago", Reason.OUTSIDE, 0, "", "outside the years 1 to 9999");
+        refused(String.join("", Collections.nCopies(65, "1 ")), Reason.TOO_MANY, 128, "1",
+                "more than 64 words, numbers and marks: \"1\" at byte 128");
+        for (int length : new int[] {257, 4096, 1 << 20}) {
+            refused(Reading.SECOND, new byte[length], Reason.TOO_LONG, 0, "", "longer than 256 bytes");
+        }
+        refusal(Reason.NO_LEAP_DAY, () -> Fuzzydate.read(Reading.FIRST, "a year from now", LEAP_DAY), "29 February");
+        byte[] today = Fuzzydate.makeReady(Reading.FIRST, "today");
+        for (int year : new int[] {LocalDateTime.MIN.getYear(), -1, 0, 10000, LocalDateTime.MAX.getYear()}) {
+            LocalDateTime none = WHOLE.withYear(year);
+            refusal(Reason.NO_NOW, () -> Fuzzydate.read(Reading.FIRST, "today", none), "reading in the year " + year);
+            refusal(Reason.NO_NOW, () -> Fuzzydate.run(today, none), "running in the year " + year);
+            refusal(Reason.NO_NOW, () -> Fuzzydate.writePhrase(none), "showing the year " + year);
+            refusal(Reason.NO_NOW, () -> Fuzzydate.writeStamp(new Stamp(none, Offset.UNKNOWN)), "a stamp of the year " + year);
+        }
+    }
+
+    /** Each byte above 127 alone, and a String, whose UTF-8 has two of them. */
+    private void above127() throws Refusal {
+        for (int b = 128; b < 256; b++) {
+            byte[] phrase = {'a', 't', ' ', (byte) b};
+            String part = new String(phrase, 3, 1, StandardCharsets.ISO_8859_1);
+            refused(Reading.FIRST, phrase, Reason.UNKNOWN, 3, part, String.format("not understood: \"\\x%02x\" at byte 3", b));
+            expect(!Fuzzydate.findWord(Reading.FIRST, phrase).code().isPresent(), "a word with a byte above 127");
+            refusal(Reason.NO_STAMP, () -> Fuzzydate.readStamp(phrase), "a stamp with a byte above 127");
+        }
+        Refusal accent = refusal(Reason.UNKNOWN, () -> Fuzzydate.read(Reading.FIRST, "at \u00e9", NOW), "a letter of two bytes");
+        same(accent.getMessage(), "not understood: \"\\xc3\" at byte 3", "a letter of two bytes");
+        Refusal half = refusal(Reason.UNKNOWN, () -> Fuzzydate.read(Reading.FIRST, "at \ud800", NOW), "half of a surrogate pair");
+        same(half.getMessage(), "not understood: \"?\" at byte 3", "half of a surrogate pair");
+    }
+
+    private void stamped(String text, String written, Offset offset, int nanos) throws Refusal {
+        Stamp stamp = Fuzzydate.readStamp(text);
+        same(stamp, new Stamp(LocalDateTime.of(2026, 2, 11, 9, 30, 15, nanos), offset), text);
+        same(stamp.hashCode(), new Stamp(stamp.moment(), offset).hashCode(), text + ": its hash");
+        same(Fuzzydate.writeStamp(stamp), written, text);
+        same(stamp.toString(), written, text);
+        same(Fuzzydate.readStamp(written.getBytes(StandardCharsets.US_ASCII)), stamp, written);
+    }
+
+    private void stamps() throws Refusal {
+        stamped("2026-02-11t09:30:15z", "2026-02-11T09:30:15Z", Offset.east(0), 0);
+        stamped("2026-02-11T09:30:15+00:00", "2026-02-11T09:30:15Z", Offset.east(0), 0);
+        stamped("2026-02-11T09:30:15-00:00", "2026-02-11T09:30:15-00:00", Offset.UNKNOWN, 0);
+        stamped("2026-02-11T09:30:15-00:00", "2026-02-11T09:30:15-00:00", Offset.west(0), 0);
+        stamped("2026-02-11T09:30:15.5-05:00", "2026-02-11T09:30:15.500-05:00", Offset.west(300), 500_000_000);
+        stamped("2026-02-11T09:30:15.05+23:59", "2026-02-11T09:30:15.050+23:59", Offset.east(1439), 50_000_000);
+        for (String text : new String[] {"", "2026-02-30T09:30:15Z", "2026-02-11T09:30:15+24:00", "2026-02-11T09:30:15.5000Z", "\u00e9"}) {
+            same(refusal(Reason.NO_STAMP, () -> Fuzzydate.readStamp(text), text).getMessage(), "no RFC 3339 date and time", text);
+        }
+        refusal(Reason.OUTSIDE, () -> Fuzzydate.readStamp("0000-02-29T00:00:00Z"), "year 0");
+        for (int minutes : new int[] {1440, -1, Integer.MIN_VALUE, Integer.MAX_VALUE}) {
+            for (Offset offset : new Offset[] {Offset.east(minutes), Offset.west(minutes)}) {
+                Stamp none = new Stamp(NOW, offset);
+                refusal(Reason.NO_STAMP, () -> Fuzzydate.writeStamp(none), "an offset of " + minutes);
+                same(none.toString(), "no RFC 3339 date and time", "an offset of " + minutes);
+                same(none.toOffsetDateTime(), Optional.empty(), "an offset of " + minutes);
+            }
+        }
+    }
+
+    /** To java.time and back where it has the offset, which is up to 18 hours and known. */
+    private void offsets() throws Refusal {
+        for (String offset : new String[] {"Z", "+00:01", "-00:01", "+05:30", "+18:00", "-18:00"}) {
+            String text = "2026-02-11T09:30:15.250" + offset;
+            OffsetDateTime time = OffsetDateTime.parse(text);
+            same(Fuzzydate.readStamp(text).toOffsetDateTime(), Optional.of(time), text);
+            same(Fuzzydate.writeStamp(Stamp.of(time)), text, text);
+        }
+        for (String offset : new String[] {"-00:00", "+18:01", "-23:59"}) {
+            same(Fuzzydate.readStamp("2026-02-11T09:30:15" + offset).toOffsetDateTime(), Optional.empty(), offset);
+        }
+        same(Arrays.asList(Offset.UNKNOWN, Offset.east(0), Offset.west(300)).toString(), "[Unknown, East(0), West(300)]", "offsets shown");
+        expect(!Offset.UNKNOWN.isKnown() && Offset.east(0).isKnown() && Offset.west(1).isKnown(), "which offsets are known");
+        throwsA(IllegalArgumentException.class, () -> Stamp.of(OffsetDateTime.parse("2026-02-11T09:30:15+00:00:30")), "an offset with seconds");
+    }
+
+    private void found(Reading reading, String word, OptionalInt code, int comparisons) {
+        FoundWord found = Fuzzydate.findWord(reading, word);
+        same(found.code(), code, word);
+        same(found.comparisons(), comparisons, word);
+    }
+
+    private void words() {
+        found(Reading.FIRST, "Friday", OptionalInt.of(123), 7);
+        found(Reading.SECOND, "th", OptionalInt.of(160), 4);
+        found(Reading.FIRST, "forty", OptionalInt.empty(), 7);
+        found(Reading.SECOND, "FORTY", OptionalInt.of(40), 5);
+        found(Reading.FIRST, "", OptionalInt.empty(), 7);
+        expect(!Fuzzydate.findWord(Reading.FIRST, new byte[4096]).code().isPresent(), "a long word");
+        for (int number = 1; number < 1000; number++) {
+            boolean said = !Calls.word(number).equals(Calls.word(0xffff));
+            same(said, number <= Reason.values().length, "whether the header has words for refusal " + number);
+        }
+        same(Calls.word(0), "done", "the words for no refusal");
+    }
+
+    private void phrases() throws Refusal {
+        for (LocalDateTime moment : new LocalDateTime[] {WHOLE, LEAP_DAY, LocalDateTime.of(9999, 12, 31, 23, 59), LocalDateTime.of(1000, 9, 30, 0, 0)}) {
+            for (Reading reading : Reading.values()) {
+                same(Fuzzydate.read(reading, Fuzzydate.writePhrase(moment), NOW), moment, "a phrase that was shown");
+            }
+        }
+        same(Fuzzydate.writePhrase(WHOLE), "march 4 2026 at 9:05", "a phrase");
+        same(Fuzzydate.writePhrase(LocalDateTime.of(2026, 9, 30, 23, 59)), "september 30 2026 at 23:59", "the longest phrase");
+        refusal(Reason.NOT_WHOLE, () -> Fuzzydate.writePhrase(WHOLE.withSecond(1)), "a second");
+        refusal(Reason.NOT_WHOLE, () -> Fuzzydate.writePhrase(WHOLE.withNano(1_000_000)), "a millisecond");
+    }
+
+    /** A part of a millisecond is never lost: it is said. */
+    private void nanoseconds() throws Refusal {
+        byte[] ready = Fuzzydate.makeReady(Reading.FIRST, "today");
+        for (int nanos : new int[] {1, 999_999, 1_000_001, 999_999_999}) {
+            LocalDateTime now = WHOLE.withNano(nanos);
+            throwsA(IllegalArgumentException.class, () -> Fuzzydate.read(Reading.FIRST, "today", now), "reading at nanoseconds");
+            throwsA(IllegalArgumentException.class, () -> Fuzzydate.run(ready, now), "running at nanoseconds");
+            throwsA(IllegalArgumentException.class, () -> Fuzzydate.writePhrase(now), "showing nanoseconds");
+            throwsA(IllegalArgumentException.class, () -> new Stamp(now, Offset.UNKNOWN), "a stamp with nanoseconds");
+        }
+        LocalDateTime last = WHOLE.withNano(999_000_000);
+        same(Fuzzydate.run(ready, last), last, "999 milliseconds");
+    }
+
+    /** What only Calls can be asked: other readings, short texts, arrays that are missing or too short; nothing is written by any of these. */
+    private void calls() {
+        byte[] today = "today".getBytes(StandardCharsets.UTF_8), bytes = new byte[Calls.READY_SIZE];
+        int[] now = Moments.numbers(WHOLE, 9), numbers = new int[9];
+        Arrays.fill(bytes, (byte) 0xa5);
+        Arrays.fill(numbers, 0xa5);
+        for (int reading : new int[] {0, 3, -1}) {
+            refusal(Reason.NO_READING, () -> Refusal.check(Calls.read(reading, today, now, numbers), today), "reading " + reading);
+            refusal(Reason.NO_READING, () -> Refusal.check(Calls.makeReady(reading, today, bytes), today), "making ready " + reading);
+            refusal(Reason.NO_READING, () -> Refusal.check(Calls.findWord(reading, today, numbers), today), "a word of reading " + reading);
+        }
+        for (int room : new int[] {0, 19}) {
+            byte[] text = new byte[room];
+            refusal(Reason.NO_ROOM, () -> Refusal.check(Calls.writeStamp(now, text), today), "a stamp in so few bytes");
+            refusal(Reason.NO_ROOM, () -> Refusal.check(Calls.writePhrase(now, text), today), "a phrase in so few bytes");
+            expect(Arrays.equals(text, new byte[room]), "nothing written where there is no room");
+        }
+        byte[] exact = new byte[20];
+        expect(Calls.number(Calls.writeStamp(now, exact)) == 0 && Calls.number(Calls.writePhrase(now, exact)) == 0, "room for exactly the text");
+
+        Class<NullPointerException> none = NullPointerException.class;
+        throwsA(none, () -> Calls.read(1, null, now, numbers), "no phrase");
+        throwsA(none, () -> Calls.read(1, today, null, numbers), "no now");
+        throwsA(none, () -> Calls.read(1, today, now, null), "no moment");
+        throwsA(none, () -> Calls.makeReady(1, null, bytes), "no phrase to be made ready");
+        throwsA(none, () -> Calls.makeReady(1, today, null), "no room for a ready phrase");
+        throwsA(none, () -> Calls.run(null, now, numbers), "no ready phrase");
+        throwsA(none, () -> Calls.run(bytes, null, numbers), "no now to run at");
+        throwsA(none, () -> Calls.run(bytes, now, null), "no moment to run to");
+        throwsA(none, () -> Calls.readStamp(null, numbers), "no text");
+        throwsA(none, () -> Calls.readStamp(today, null), "no stamp to read to");
+        throwsA(none, () -> Calls.writeStamp(null, bytes), "no stamp");
+        throwsA(none, () -> Calls.writeStamp(now, null), "no room for a stamp");
+        throwsA(none, () -> Calls.findWord(1, null, numbers), "no word");
+        throwsA(none, () -> Calls.findWord(1, today, null), "nothing to find to");
+        throwsA(none, () -> Calls.writePhrase(null, bytes), "no moment to show");
+        throwsA(none, () -> Calls.writePhrase(now, null), "no room for a phrase");
+
+        Class<ArrayIndexOutOfBoundsException> few = ArrayIndexOutOfBoundsException.class;
+        throwsA(few, () -> Calls.read(1, today, new int[6], numbers), "a now of six numbers");
+        throwsA(few, () -> Calls.read(1, today, now, new int[6]), "a moment of six numbers");
+        throwsA(few, () -> Calls.makeReady(1, today, new byte[Calls.READY_SIZE - 1]), "a short ready phrase");
+        throwsA(few, () -> Calls.run(bytes, new int[0], numbers), "a now of no numbers");
+        throwsA(few, () -> Calls.run(bytes, now, new int[0]), "a moment of no numbers");
+        throwsA(few, () -> Calls.readStamp(today, new int[8]), "a stamp of eight numbers");
+        throwsA(few, () -> Calls.writeStamp(new int[8], bytes), "eight numbers of a stamp");
+        throwsA(few, () -> Calls.findWord(1, today, new int[1]), "one number to find to");
+        throwsA(few, () -> Calls.writePhrase(new int[6], bytes), "six numbers of a moment");
+        for (byte b : bytes) {
+            expect(b == (byte) 0xa5, "bytes written by a refused call");
+        }
+        for (int n : numbers) {
+            expect(n == 0xa5, "numbers written by a refused call");
+        }
+    }
+
+    private void nulls() throws Refusal {
+        Class<NullPointerException> none = NullPointerException.class;
+        byte[] phrase = {'5'}, ready = Fuzzydate.makeReady(Reading.FIRST, "today");
+        throwsA(none, () -> Fuzzydate.read(null, phrase, NOW), "no reading");
+        throwsA(none, () -> Fuzzydate.read(Reading.FIRST, (byte[]) null, NOW), "no phrase");
+        throwsA(none, () -> Fuzzydate.read(Reading.FIRST, (String) null, NOW), "no String");
+        throwsA(none, () -> Fuzzydate.read(Reading.FIRST, phrase, null), "no now");
+        throwsA(none, () -> Fuzzydate.makeReady(null, phrase), "no reading to be made ready in");
+        throwsA(none, () -> Fuzzydate.makeReady(Reading.FIRST, (byte[]) null), "no phrase to be made ready");
+        throwsA(none, () -> Fuzzydate.run(null, NOW), "no ready phrase");
+        throwsA(none, () -> Fuzzydate.run(ready, null), "no now to run at");
+        throwsA(none, () -> Fuzzydate.readStamp((byte[]) null), "no text");
+        throwsA(none, () -> Fuzzydate.writeStamp(null), "no stamp");
+        throwsA(none, () -> new Stamp(null, Offset.UNKNOWN), "no moment of a stamp");
+        throwsA(none, () -> new Stamp(NOW, null), "no offset of a stamp");
+        throwsA(none, () -> Stamp.of(null), "no OffsetDateTime");
+        throwsA(none, () -> Fuzzydate.findWord(null, phrase), "no reading of a word");
+        throwsA(none, () -> Fuzzydate.findWord(Reading.FIRST, (byte[]) null), "no word");
+        throwsA(none, () -> Fuzzydate.writePhrase(null), "no moment to show");
+    }
+
+    /** A call that may be refused, with one of these reasons; and whether it was. */
+    private boolean refusedWithin(Reason first, Reason last, Call call) {
+        try {
+            expect(call.run() != null, "an answer");
+            return false;
+        } catch (Refusal refusal) {
+            expect(refusal.reason().compareTo(first) >= 0 && refusal.reason().compareTo(last) <= 0, "the reason " + refusal.reason());
+            expect(refusal.place() >= 0 && refusal.part().length <= 256, "place and part");
+            return true;
+        }
+    }
+
+    private void garbage(long seed) throws Refusal {
+        Random random = new Random(seed);
+        for (int length = 0; length <= 400; length++) {
+            byte[] bytes = new byte[length];
+            random.nextBytes(bytes);
+            refusal(Reason.NO_SENSE, () -> Fuzzydate.run(bytes, NOW), "random bytes as a ready phrase");
+            refusal(Reason.NO_STAMP, () -> Fuzzydate.readStamp(bytes), "random bytes as a stamp");
+            for (Reading reading : Reading.values()) {
+                refusedWithin(Reason.TOO_LONG, Reason.NO_LEAP_DAY, () -> Fuzzydate.read(reading, bytes, NOW));
+                refusedWithin(Reason.TOO_LONG, Reason.LEFT_OVER, () -> Fuzzydate.makeReady(reading, bytes));
+                expect(Fuzzydate.findWord(reading, bytes).comparisons() <= 8, "comparisons");
+            }
+        }
+        byte[] ready = Fuzzydate.makeReady(Reading.SECOND, "2 months before 3 weeks after tomorrow at 5:00");
+        byte[] text = "2026-02-11T09:30:15.250-05:00".getBytes(StandardCharsets.US_ASCII);
+        int kept = 0;
+        for (int bit = 0; bit < 8 * ready.length; bit++) {
+            byte[] damaged = ready.clone();
+            damaged[bit / 8] ^= 1 << bit % 8;
+            kept += refusedWithin(Reason.NO_SENSE, Reason.NO_LEAP_DAY, () -> Fuzzydate.run(damaged, NOW)) ? 0 : 1;
+        }
+        expect(kept > 0, "steps by other amounts");
+        for (int bit = 0; bit < 8 * text.length; bit++) {
+            byte[] damaged = text.clone();
+            damaged[bit / 8] ^= 1 << bit % 8;
+            refusedWithin(Reason.OUTSIDE, Reason.NO_STAMP, () -> Fuzzydate.readStamp(damaged));
+        }
+    }
+
+    private Every all(long seed) throws Refusal {
+        moments();
+        refusals();
+        above127();
+        stamps();
+        offsets();
+        words();
+        phrases();
+        nanoseconds();
+        calls();
+        nulls();
+        garbage(seed);
+        same(seen, EnumSet.allOf(Reason.class), "the reasons seen");
+        return this;
+    }
+
+    public static void main(String[] arguments) throws Exception {
+        int checks = new Every().all(0).checks;
+        List<Callable<Void>> threads = new ArrayList<>();
+        for (int i = 0; i < THREADS; i++) {
+            int first = 1 + i * ROUNDS;
+            threads.add(() -> {
+                for (int seed = first; seed < first + ROUNDS; seed++) {
+                    new Every().all(seed);
+                }
+                return null;
+            });
+        }
+        ExecutorService pool = Executors.newFixedThreadPool(THREADS);
+        List<Future<Void>> ended = pool.invokeAll(threads);
+        pool.shutdown();
+        for (Future<Void> end : ended) {
+            end.get();
+        }
+        System.out.println("bindings/java: every call answered as it should, by " + checks + " checks, and " + ROUNDS + " times in each of " + THREADS
+                + " threads at once");
+    }
+}
