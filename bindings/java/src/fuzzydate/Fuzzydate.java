@@ -8,7 +8,7 @@ import java.util.Arrays;
  * Reminder phrases such as "next friday at 3 pm", read at a now that the caller gives.
  *
  * <p>A phrase is its bytes; a String stands for its UTF-8, in which a surrogate without its other half is "?". Any bytes and any moment get an answer:
- * what the call gives, or a {@link Refusal}. A moment has milliseconds: one with a part of a millisecond, as {@code LocalDateTime.now()} gives, is an
+ * what the call gives, or a {@link Refusal}. A moment has milliseconds: one with a part of a millisecond, as {@code LocalDateTime.now()} may have, is an
  * IllegalArgumentException, and {@code truncatedTo(ChronoUnit.MILLIS)} makes it whole. All methods may run in any thread.
  */
 public final class Fuzzydate {
