@@ -332,6 +332,12 @@ final class Every {
         }
     }
 
+    private static byte[] flipped(byte[] bytes, int bit) {
+        byte[] damaged = bytes.clone();
+        damaged[bit / 8] ^= (byte) (1 << bit % 8);
+        return damaged;
+    }
+
     private void garbage(long seed) throws Refusal {
         Random random = new Random(seed);
         for (int length = 0; length <= 400; length++) {
@@ -349,14 +355,12 @@ final class Every {
         byte[] text = "2026-02-11T09:30:15.250-05:00".getBytes(StandardCharsets.US_ASCII);
         int kept = 0;
         for (int bit = 0; bit < 8 * ready.length; bit++) {
-            byte[] damaged = ready.clone();
-            damaged[bit / 8] ^= 1 << bit % 8;
+            byte[] damaged = flipped(ready, bit);
             kept += refusedWithin(Reason.NO_SENSE, Reason.NO_LEAP_DAY, () -> Fuzzydate.run(damaged, NOW)) ? 0 : 1;
         }
         expect(kept > 0, "steps by other amounts");
         for (int bit = 0; bit < 8 * text.length; bit++) {
-            byte[] damaged = text.clone();
-            damaged[bit / 8] ^= 1 << bit % 8;
+            byte[] damaged = flipped(text, bit);
             refusedWithin(Reason.OUTSIDE, Reason.NO_STAMP, () -> Fuzzydate.readStamp(damaged));
         }
     }
