@@ -2,8 +2,8 @@
  *
  * Link with libfuzzydate.a of your target (bindings/archive). No function allocates, keeps state, reads a clock or a locale, or calls anything
  * but C's memcpy, memmove and memset; all of them may run in any thread. Every byte string, every number and every ready phrase gets an
- * answer, so there is nothing to check before a call. Pointers must point to what the parameter says; a phrase or a ready phrase of length
- * 0 still needs a pointer that is not null.
+ * answer, so there is nothing to check before a call. Pointers must point to what the parameter says; what has length 0 still needs a
+ * pointer that is not null.
  *
  * An answer is one number. 0 says that a moment was written. Else its parts are, by the helpers below:
  *   fuzzy_number   which refusal it is, by its number below
@@ -58,7 +58,7 @@ enum fuzzy_refusal {
     FUZZY_NOTHING = 5,         /* nothing that can be read */
     FUZZY_LARGE_SUM = 6,       /* a number in words passes 4,294,967,295 */
     FUZZY_LEFT_OVER = 7,       /* something is left behind what was read */
-    FUZZY_NO_NOW = 8,          /* the now, or the moment to be written, is no date and time of the years 1 to 9999 */
+    FUZZY_NO_NOW = 8,          /* the now, the start, the asked moment or the one to be written is no date and time of the years 1 to 9999 */
     FUZZY_NO_SENSE = 9,        /* the phrase, or the ready phrase, has no sense */
     FUZZY_NO_DATE = 10,        /* no such month or day */
     FUZZY_NO_TIME = 11,        /* no such time of day */
@@ -67,7 +67,10 @@ enum fuzzy_refusal {
     FUZZY_NO_STAMP = 14,       /* no RFC 3339 stamp: another form, or no such date, time or offset */
     FUZZY_NO_READING = 15,     /* a reading other than 1 and 2 */
     FUZZY_NOT_WHOLE = 16,      /* second or millisecond of the moment isn't 0, which its phrase would not show */
-    FUZZY_NO_ROOM = 17         /* the lent text is too short */
+    FUZZY_NO_ROOM = 17,        /* the lent text is too short */
+    FUZZY_NO_RULE = 18,        /* no RFC 5545 rule, or one outside those that are taken */
+    FUZZY_NO_START = 19,       /* the start does not match the rule, or lies past its UNTIL */
+    FUZZY_NO_NEXT = 20         /* no occurrence of the rule is at or after the asked moment */
 };
 
 /* A phrase at a now, in one of the two readings. 0: the moment's seven numbers are in `moment`. Else a refusal. Where the phrase states a
@@ -107,6 +110,30 @@ uint64_t fuzzy_find_word(uint32_t reading, const uint8_t *word, size_t word_leng
 uint64_t fuzzy_write_phrase(uint32_t year, uint32_t month, uint32_t day, uint32_t hour, uint32_t minute, uint32_t second, uint32_t millisecond,
                             uint8_t *text, size_t text_length);
 
+/* The occurrences of a repeating rule of RFC 5545 from a start on, in order, into `moments`: rows of seven numbers, as many as there are
+ * occurrences or as moments_length / 7 has room for; what stands behind the last row stays. fuzzy_number 0: fuzzy_length rows were written.
+ * The start is the first occurrence, and every one has its time of day; the last are in year 9999. Else, in this order, 8 for a start that is
+ * no moment, 18 for a rule outside what is taken, and 19 for a start that does not match the rule or lies past its UNTIL.
+ *   A rule is "FREQ=WEEKLY;INTERVAL=2;BYDAY=TU", without "RRULE:" and blanks, with letters in either case and zeros in front of numbers: first
+ * FREQ, which is DAILY, WEEKLY or MONTHLY, then in any order, each at most once:
+ *   INTERVAL     1 to 999; 1 where there is none
+ *   COUNT        1 to 4,294,967,295
+ *   UNTIL        a date such as 20260301, that day included, or a date-time such as 20260301T093000, without "Z"; not beside COUNT
+ *   BYDAY        only with WEEKLY: days such as TU,FR, each counted once; the start's own weekday where there is none
+ *   BYMONTHDAY   only with MONTHLY: a day of 1 to 31, the start's own where there is none; a month without that day is passed over
+ *   WKST         MO: weeks begin on Monday */
+uint64_t fuzzy_list(const uint8_t *rule, size_t rule_length, uint32_t year, uint32_t month, uint32_t day, uint32_t hour, uint32_t minute,
+                    uint32_t second, uint32_t millisecond, uint32_t *moments, size_t moments_length);
+
+/* Which occurrence comes next: the first one at or after the asked moment, the start itself where that is not before it. 0: its seven numbers
+ * are in `moment`; they are those of the first row at or after the asked moment that fuzzy_list, with room for all, would write. Else, in this
+ * order, 8 for a start or an asked moment that is no moment, 18 and 19 as there, and 20 where no occurrence in the years 1 to 9999 is at or
+ * after the asked moment, COUNT and UNTIL counted in. The occurrences before it are not gone through: what a call takes has a bound, however
+ * many they are. */
+uint64_t fuzzy_next(const uint8_t *rule, size_t rule_length, uint32_t year, uint32_t month, uint32_t day, uint32_t hour, uint32_t minute,
+                    uint32_t second, uint32_t millisecond, uint32_t asked_year, uint32_t asked_month, uint32_t asked_day, uint32_t asked_hour,
+                    uint32_t asked_minute, uint32_t asked_second, uint32_t asked_millisecond, uint32_t moment[FUZZY_MOMENT_NUMBERS]);
+
 /* Which refusal an answer is; 0 where it is none. */
 static inline unsigned fuzzy_number(uint64_t answer) { return (unsigned)(answer & 0xffffu); }
 
@@ -114,7 +141,7 @@ static inline unsigned fuzzy_number(uint64_t answer) { return (unsigned)(answer 
 static inline size_t fuzzy_place(uint64_t answer) { return (size_t)((answer >> 16) & 0xffffu); }
 
 /* The length of a refusal's part; without a refusal, how many bytes fuzzy_make_ready, fuzzy_write_stamp or fuzzy_write_phrase
- * wrote. */
+ * wrote, or how many rows fuzzy_list did. */
 static inline size_t fuzzy_length(uint64_t answer) { return (size_t)(answer >> 32); }
 
 /* A word for each refusal, to be shown to people; "done" for 0. */
@@ -138,6 +165,9 @@ static inline const char *fuzzy_word(unsigned number) {
     case FUZZY_NO_READING: return "no such reading";
     case FUZZY_NOT_WHOLE: return "a phrase shows no seconds";
     case FUZZY_NO_ROOM: return "no room for the text";
+    case FUZZY_NO_RULE: return "no repeating rule that is taken";
+    case FUZZY_NO_START: return "the start is no occurrence of the rule";
+    case FUZZY_NO_NEXT: return "no occurrence is left";
     default: return "no answer of this library";
     }
 }

@@ -17,19 +17,6 @@ static struct line lines[MOST_LINES];
 static size_t listed, moments_read;
 static uint32_t reading;
 
-/* FNV-1a, of 64 bits. */
-static uint64_t digest = 0xcbf29ce484222325u;
-
-static void add(const void *bytes, size_t n) {
-    const uint8_t *p = bytes;
-    size_t i;
-    for (i = 0; i < n; i++) digest = (digest ^ p[i]) * 0x100000001b3u;
-}
-
-static void add_number(uint64_t n) {
-    add(&n, sizeof n);
-}
-
 /* What was lent may hold a moment where the answer is 0, and else nothing new. */
 static void add_moment(uint64_t answer, const uint8_t *moment) {
     size_t written = answer == 0 ? MOMENT_SIZE : 0;

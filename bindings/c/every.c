@@ -10,6 +10,9 @@
 /* 2026-02-11 09:30:15.250 */
 #define NOW 2026, 2, 11, 9, 30, 15, 250
 
+/* as many occurrences are listed at most */
+#define MOST_ROWS 8
+
 static int failed = 0;
 
 static void expect(int holds, const char *what) {
@@ -28,6 +31,7 @@ struct lent {
         uint32_t stamp[FUZZY_STAMP_NUMBERS];
         uint8_t text[2 * FUZZY_STAMP_SIZE];
         uint32_t found[FUZZY_FOUND_NUMBERS];
+        uint32_t moments[MOST_ROWS * FUZZY_MOMENT_NUMBERS];
     } in;
     uint8_t after[GUARD];
 };
@@ -287,6 +291,134 @@ static void phrases(void) {
     unshown(3, 0, 0, 0, FUZZY_NO_ROOM);
 }
 
+/* Tuesday, 2026-02-10 09:30:15.250 */
+static const uint32_t tuesday[FUZZY_MOMENT_NUMBERS] = {2026, 2, 10, 9, 30, 15, 250};
+
+static uint64_t list_with_room(const char *rule, size_t n, const uint32_t s[FUZZY_MOMENT_NUMBERS], struct lent *l, size_t room) {
+    return fuzzy_list((const uint8_t *)rule, n, s[0], s[1], s[2], s[3], s[4], s[5], s[6], l->in.moments, room);
+}
+
+/* the dates of a rule's occurrences from Tuesday on, year, month and day in one number each, at the start's time of day: with so many numbers
+ * of room and, where they fill it, with a number less, down to none */
+static void listed(const char *rule, size_t room, size_t count, const uint32_t *dates) {
+    struct lent l = fresh();
+    uint64_t answer = list_with_room(rule, strlen(rule), tuesday, &l, room);
+    size_t i;
+    expect(fuzzy_number(answer) == 0 && fuzzy_place(answer) == 0 && fuzzy_length(answer) == count, "a rule that is listed");
+    for (i = 0; i < count; i++) {
+        const uint32_t *row = l.in.moments + FUZZY_MOMENT_NUMBERS * i;
+        expect(10000 * row[0] + 100 * row[1] + row[2] == dates[i], "the date of an occurrence");
+        expect(memcmp(row + 3, tuesday + 3, 4 * sizeof *row) == 0, "its time of day");
+    }
+    expect(kept_from(&l, count * FUZZY_MOMENT_NUMBERS * sizeof *dates), "nothing written but the rows");
+    if (count > 0 && count == room / FUZZY_MOMENT_NUMBERS) listed(rule, FUZZY_MOMENT_NUMBERS * count - 1, count - 1, dates);
+}
+
+/* a rule or a start that is refused, and nothing written */
+static void unlisted(const char *rule, size_t n, const uint32_t s[FUZZY_MOMENT_NUMBERS], unsigned number) {
+    struct lent l = fresh();
+    expect(list_with_room(rule, n, s, &l, MOST_ROWS * FUZZY_MOMENT_NUMBERS) == number, "a rule that is not listed");
+    expect(list_with_room(rule, n, s, &l, 0) == number, "a rule that is not listed without room");
+    expect(kept_from(&l, 0), "nothing written for a rule that is not listed");
+}
+
+static void rules(const char *many, size_t n) {
+    static const uint32_t fortnights[] = {20260210, 20260224, 20260310, 20260324, 20260407};
+    static const uint32_t sundays_too[] = {20260210, 20260215, 20260224, 20260301};
+    static const uint32_t days[] = {20260210, 20260211, 20260212};
+    static const uint32_t months[] = {20260210, 20260310, 20260410, 20260510};
+    static const uint32_t past[FUZZY_MOMENT_NUMBERS] = {10000, 1, 1, 0, 0, 0, 0};
+    static const uint32_t no_day[FUZZY_MOMENT_NUMBERS] = {2026, 2, 29, 9, 30, 15, 250};
+    static const uint32_t no_time[FUZZY_MOMENT_NUMBERS] = {2026, 2, 10, 9, 30, 15, 1000};
+    listed("FREQ=WEEKLY;INTERVAL=2;BYDAY=TU", 35, 5, fortnights);
+    listed("freq=weekly;wkst=mo;byday=tu;interval=002", 41, 5, fortnights);
+    listed("FREQ=WEEKLY;INTERVAL=2;BYDAY=SU,TU,SU", 28, 4, sundays_too);
+    listed("FREQ=DAILY;COUNT=3", 56, 3, days);
+    listed("FREQ=DAILY;UNTIL=20260212", 56, 3, days);
+    listed("FREQ=DAILY;UNTIL=20260212T093015", 56, 2, days);
+    listed("FREQ=DAILY;UNTIL=20260212T093016", 56, 3, days);
+    listed("FREQ=MONTHLY;BYMONTHDAY=+10;COUNT=4294967295", 34, 4, months);
+    listed("FREQ=MONTHLY", 6, 0, months);
+    unlisted("FREQ=WEEKLY;BYDAY=MO", 20, tuesday, FUZZY_NO_START);
+    unlisted("FREQ=MONTHLY;BYMONTHDAY=11", 26, tuesday, FUZZY_NO_START);
+    unlisted("FREQ=DAILY;UNTIL=20260209", 25, tuesday, FUZZY_NO_START);
+    unlisted("FREQ=DAILY;UNTIL=20260210T093015", 32, tuesday, FUZZY_NO_START);
+    unlisted("", 0, tuesday, FUZZY_NO_RULE);
+    unlisted("FREQ=DAILY\n", 11, tuesday, FUZZY_NO_RULE);
+    unlisted("FREQ=YEARLY", 11, tuesday, FUZZY_NO_RULE);
+    unlisted("RRULE:FREQ=DAILY", 16, tuesday, FUZZY_NO_RULE);
+    unlisted("FREQ=WEEKLY;BYDAY=MO;BYDAY=MO", 29, tuesday, FUZZY_NO_RULE);
+    unlisted("FREQ=DAILY;UNTIL=20260212T093015Z", 33, tuesday, FUZZY_NO_RULE);
+    unlisted(many, n, tuesday, FUZZY_NO_RULE);
+    unlisted("FREQ=DAILY", 10, past, FUZZY_NO_NOW);
+    unlisted("FREQ=YEARLY", 11, no_day, FUZZY_NO_NOW);
+    unlisted("FREQ=WEEKLY;BYDAY=MO", 20, no_time, FUZZY_NO_NOW);
+}
+
+static uint64_t next_at(const char *rule, size_t n, const uint32_t s[FUZZY_MOMENT_NUMBERS], const uint32_t a[FUZZY_MOMENT_NUMBERS], struct lent *l) {
+    return fuzzy_next((const uint8_t *)rule, n, s[0], s[1], s[2], s[3], s[4], s[5], s[6], a[0], a[1], a[2], a[3], a[4], a[5], a[6], l->in.moment);
+}
+
+/* the moment of a date, year, month and day in one number, at so many milliseconds of 09:30:15 */
+static void on_date(uint32_t date, uint32_t millisecond, uint32_t moment[FUZZY_MOMENT_NUMBERS]) {
+    memcpy(moment, tuesday, FUZZY_MOMENT_NUMBERS * sizeof *moment);
+    moment[0] = date / 10000;
+    moment[1] = date / 100 % 100;
+    moment[2] = date % 100;
+    moment[6] = millisecond;
+}
+
+/* the date of the occurrence that comes next, from Tuesday on, as asked at so many milliseconds of 09:30:15 on a date; 0 where none is left */
+static void comes(const char *rule, uint32_t asked_date, uint32_t millisecond, uint32_t date) {
+    struct lent l = fresh();
+    uint32_t asked[FUZZY_MOMENT_NUMBERS], wanted[FUZZY_MOMENT_NUMBERS];
+    uint64_t answer;
+    on_date(asked_date, millisecond, asked);
+    on_date(date, tuesday[6], wanted);
+    answer = next_at(rule, strlen(rule), tuesday, asked, &l);
+    expect(answer == (date == 0 ? FUZZY_NO_NEXT : 0), "whether an occurrence comes next");
+    if (date != 0) expect(memcmp(l.in.moment, wanted, sizeof wanted) == 0, "the occurrence that comes next");
+    expect(kept_from(&l, date == 0 ? 0 : sizeof wanted), "nothing written but the occurrence");
+}
+
+/* a rule, a start or an asked moment that is refused, and nothing written */
+static void unasked(const char *rule, size_t n, const uint32_t s[FUZZY_MOMENT_NUMBERS], const uint32_t a[FUZZY_MOMENT_NUMBERS], unsigned number) {
+    struct lent l = fresh();
+    expect(next_at(rule, n, s, a, &l) == number, "what cannot be asked");
+    expect(kept_from(&l, 0), "nothing written for what cannot be asked");
+}
+
+static void asked_rules(const char *many, size_t n) {
+    static const uint32_t past[FUZZY_MOMENT_NUMBERS] = {10000, 1, 1, 0, 0, 0, 0};
+    static const uint32_t no_time[FUZZY_MOMENT_NUMBERS] = {2026, 2, 10, 9, 30, 15, 1000};
+    static const uint32_t last[FUZZY_MOMENT_NUMBERS] = {9999, 12, 31, 23, 59, 59, 999};
+    comes("FREQ=WEEKLY;INTERVAL=2;BYDAY=TU", 10101, 0, 20260210);
+    comes("FREQ=WEEKLY;INTERVAL=2;BYDAY=TU", 20260210, 250, 20260210);
+    comes("FREQ=WEEKLY;INTERVAL=2;BYDAY=TU", 20260210, 251, 20260224);
+    comes("FREQ=WEEKLY;INTERVAL=2;BYDAY=TU", 20260224, 249, 20260224);
+    comes("freq=weekly;wkst=mo;byday=tu;interval=002", 20260224, 251, 20260310);
+    comes("FREQ=WEEKLY;INTERVAL=2;BYDAY=SU,TU,SU", 20260211, 0, 20260215);
+    comes("FREQ=DAILY;COUNT=3", 20260212, 250, 20260212);
+    comes("FREQ=DAILY;COUNT=3", 20260212, 251, 0);
+    comes("FREQ=DAILY;UNTIL=20260212", 20260212, 250, 20260212);
+    comes("FREQ=DAILY;UNTIL=20260212", 20260213, 0, 0);
+    comes("FREQ=DAILY;UNTIL=20260212T093015", 20260212, 0, 0);
+    comes("FREQ=DAILY;UNTIL=20260212T093016", 20260212, 0, 20260212);
+    comes("FREQ=DAILY", 99991231, 250, 99991231);
+    comes("FREQ=DAILY", 99991231, 251, 0);
+    comes("FREQ=MONTHLY;BYMONTHDAY=+10;COUNT=95687", 99991111, 0, 99991210);
+    comes("FREQ=MONTHLY;BYMONTHDAY=+10;COUNT=95686", 99991111, 0, 0);
+    unasked("FREQ=WEEKLY;BYDAY=MO", 20, tuesday, last, FUZZY_NO_START);
+    unasked("FREQ=DAILY;UNTIL=20260209", 25, tuesday, last, FUZZY_NO_START);
+    unasked("", 0, tuesday, tuesday, FUZZY_NO_RULE);
+    unasked("FREQ=YEARLY", 11, tuesday, last, FUZZY_NO_RULE);
+    unasked(many, n, tuesday, tuesday, FUZZY_NO_RULE);
+    unasked("FREQ=DAILY", 10, past, tuesday, FUZZY_NO_NOW);
+    unasked("FREQ=DAILY", 10, tuesday, past, FUZZY_NO_NOW);
+    unasked("FREQ=YEARLY", 11, tuesday, no_time, FUZZY_NO_NOW);
+    unasked("FREQ=WEEKLY;BYDAY=MO", 20, no_time, last, FUZZY_NO_NOW);
+}
+
 int main(void) {
     static char many[4096];
     struct lent l = fresh();
@@ -346,6 +478,8 @@ int main(void) {
     stamps();
     words(many, sizeof many);
     phrases();
+    rules(many, sizeof many);
+    asked_rules(many, sizeof many);
 
     printf(failed ? "some calls failed\n" : "every call answered as it should\n");
     return failed;

@@ -1,5 +1,5 @@
-/* Reads phrases at one now, a ready phrase at two, one phrase in both readings, and stamps, looks words up, and shows a moment as a phrase. Copy
- * what you need. */
+/* Reads phrases at one now, a ready phrase at two, one phrase in both readings, and stamps, looks words up, shows a moment as a phrase, lists a
+ * rule's occurrences and says which comes next. Copy what you need. */
 #include "fuzzy.h"
 
 #include <stdio.h>
@@ -58,6 +58,28 @@ static void show_phrase(uint32_t hour, uint32_t minute, uint32_t second) {
     printf("%s\n", fuzzy_word(fuzzy_number(answer)));
 }
 
+/* Lists the first five occurrences of a rule from 2026-02-10 09:30 on, or says what is wrong. */
+static void show_rule(const char *rule) {
+    uint32_t moments[5 * FUZZY_MOMENT_NUMBERS];
+    uint64_t answer = fuzzy_list((const uint8_t *)rule, strlen(rule), 2026, 2, 10, 9, 30, 0, 0, moments, sizeof moments / sizeof moments[0]);
+    size_t i;
+    if (fuzzy_number(answer) != 0) {
+        printf("%s: %s\n", rule, fuzzy_word(fuzzy_number(answer)));
+        return;
+    }
+    for (i = 0; i < fuzzy_length(answer); i++) {
+        show(rule, 0, moments + FUZZY_MOMENT_NUMBERS * i);
+    }
+}
+
+/* Shows the first occurrence of a rule from 2026-02-10 09:30 on that is at or after noon of the first day of a year, or says what is wrong. */
+static void show_next(const char *rule, uint32_t year) {
+    uint32_t moment[FUZZY_MOMENT_NUMBERS];
+    uint64_t answer = fuzzy_next((const uint8_t *)rule, strlen(rule), 2026, 2, 10, 9, 30, 0, 0, year, 1, 1, 12, 0, 0, 0, moment);
+    printf("asked in %u, ", (unsigned)year);
+    show(rule, answer, moment);
+}
+
 int main(void) {
     static const char *const phrases[] = {"next friday at 3 pm", "an hour ago", "forty days ago", "5/2"};
     uint8_t ready[FUZZY_READY_SIZE];
@@ -104,5 +126,16 @@ int main(void) {
 
     show_phrase(9, 5, 0);
     show_phrase(9, 5, 30);
+
+    /* every second tuesday; three days; a start that is no monday; a rule that is not taken */
+    show_rule("FREQ=WEEKLY;INTERVAL=2;BYDAY=TU");
+    show_rule("FREQ=DAILY;UNTIL=20260212");
+    show_rule("FREQ=WEEKLY;BYDAY=MO");
+    show_rule("FREQ=YEARLY");
+
+    /* before the start; a phone that was off for a year; an UNTIL that has passed */
+    show_next("FREQ=WEEKLY;INTERVAL=2;BYDAY=TU", 2026);
+    show_next("FREQ=WEEKLY;INTERVAL=2;BYDAY=TU", 2027);
+    show_next("FREQ=DAILY;UNTIL=20260212", 2027);
     return 0;
 }

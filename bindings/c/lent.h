@@ -1,5 +1,5 @@
-/* lent.h: arrays between two fences, pages that nobody may touch, random numbers, and the lines of the replayed list. Linux only; for the
- * tests. */
+/* lent.h: arrays between two fences, pages that nobody may touch, random numbers, a digest, and the lines of the replayed list. Linux only; for
+ * the tests. */
 #ifndef LENT_H
 #define LENT_H
 
@@ -78,6 +78,19 @@ static inline size_t random_below(size_t n) {
     state ^= state >> 7;
     state ^= state << 17;
     return (size_t)((state >> 11) % n);
+}
+
+/* FNV-1a, of 64 bits. */
+static uint64_t digest = 0xcbf29ce484222325u;
+
+static inline void add(const void *bytes, size_t n) {
+    const uint8_t *p = bytes;
+    size_t i;
+    for (i = 0; i < n; i++) digest = (digest ^ p[i]) * 0x100000001b3u;
+}
+
+static inline void add_number(uint64_t n) {
+    add(&n, sizeof n);
 }
 
 /* A line of the replayed list: `NOW|PHRASE`, where \xHH in the phrase is one byte. A now of another form stands for zeros, which are none.

@@ -1,5 +1,6 @@
-/* Prints the most bytes of stack that each function was seen to use, over the replayed list and over phrases that nest as deeply as 256 bytes let
- * them: stack LIST. A call runs on a stack of its own that is full of a pattern; what an empty call uses is taken off. */
+/* Prints the most bytes of stack that reading, making ready, running, listing and asking for what comes next were seen to use, over the replayed list
+ * and over phrases that nest as deeply as 256 bytes let them, and over a rule of each FREQ: stack LIST. A call runs on a stack of its own that is full of
+ * a pattern; what an empty call uses is taken off. */
 #define _DEFAULT_SOURCE
 #include "fuzzy.h"
 #include "lent.h"
@@ -12,6 +13,7 @@ static struct field stack;
 static struct line line;
 static uint8_t ready[FUZZY_READY_SIZE];
 static uint32_t moment[FUZZY_MOMENT_NUMBERS];
+static uint32_t rows[64 * FUZZY_MOMENT_NUMBERS];
 static uint64_t made;
 static ucontext_t here, there;
 
@@ -32,6 +34,14 @@ static void call_run(void) {
     fuzzy_run(ready, fuzzy_length(made), n[0], n[1], n[2], n[3], n[4], n[5], n[6], moment);
 }
 
+static void call_list(void) {
+    fuzzy_list(line.phrase, line.length, 2024, 2, 29, 12, 0, 0, 0, rows, sizeof rows / sizeof rows[0]);
+}
+
+static void call_next(void) {
+    fuzzy_next(line.phrase, line.length, 2024, 2, 29, 12, 0, 0, 0, 9996, 2, 29, 12, 0, 0, 0, moment);
+}
+
 /* The bytes of stack that a call changes, counted from the top down to the lowest one. */
 static size_t used_by(void (*call)(void)) {
     uint8_t *p, *end = stack.first + stack.size;
@@ -46,9 +56,9 @@ static size_t used_by(void (*call)(void)) {
     return (size_t)(end - p);
 }
 
-static size_t most[3];
+static size_t most[5];
 
-/* All three functions on the phrase of `line`. */
+/* The three functions for phrases on the phrase of `line`. */
 static void measure(void) {
     static void (*const calls[3])(void) = {call_read, call_make_ready, call_run};
     size_t i;
@@ -67,8 +77,20 @@ static void nested(const char *part, const char *end) {
     measure();
 }
 
+/* The two functions for rules on a rule. */
+static void repeat(const char *rule) {
+    static void (*const calls[2])(void) = {call_list, call_next};
+    size_t i;
+    line.length = strlen(rule);
+    memcpy(line.phrase, rule, line.length);
+    for (i = 0; i < 2; i++) {
+        size_t used = used_by(calls[i]);
+        if (used > most[3 + i]) most[3 + i] = used;
+    }
+}
+
 int main(int count, char **arguments) {
-    static const char *const names[3] = {"fuzzy_read", "fuzzy_make_ready", "fuzzy_run"};
+    static const char *const names[5] = {"fuzzy_read", "fuzzy_make_ready", "fuzzy_run", "fuzzy_list", "fuzzy_next"};
     static const char *const parts[] = {"million ", "1 million ", "a day after ", "1 day before ", "1day from", "1day after ", "1 day, ", "1 day and "};
     static const char *const ends[] = {"days ago", "today", "noon", "1 day ago", "now", ""};
     static char text[8192];
@@ -85,6 +107,10 @@ int main(int count, char **arguments) {
     for (i = 0; i < sizeof parts / sizeof parts[0]; i++) {
         for (j = 0; j < sizeof ends / sizeof ends[0]; j++) nested(parts[i], ends[j]);
     }
-    for (i = 0; i < 3; i++) printf("%-18s %6zu bytes of stack\n", names[i], most[i] - nothing);
+    repeat("FREQ=DAILY;INTERVAL=999;COUNT=3652058");
+    repeat("FREQ=WEEKLY;UNTIL=99991231T235959;BYDAY=MO,TU,WE,TH,FR,SA,SU;INTERVAL=2;WKST=MO");
+    repeat("FREQ=WEEKLY;BYDAY=MO,TU,WE,TH,FR,SA,SU;INTERVAL=2;COUNT=3652058");
+    repeat("FREQ=MONTHLY;BYMONTHDAY=+29;INTERVAL=12;COUNT=3652058");
+    for (i = 0; i < 5; i++) printf("%-18s %6zu bytes of stack\n", names[i], most[i] - nothing);
     return 0;
 }

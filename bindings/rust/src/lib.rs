@@ -47,6 +47,20 @@
 //! ```
 //!
 //! A moment can be shown as a phrase for people to edit, [`Moment::to_phrase`].
+//!
+//! Repeating rules of RFC 5545 are listed from a start on, as here every second tuesday:
+//!
+//! ```
+//! use fuzzydate::{Moment, Rule};
+//!
+//! let rule = Rule::parse("FREQ=WEEKLY;INTERVAL=2;BYDAY=TU").unwrap();
+//! let start = Moment { year: 2026, month: 2, day: 10, hour: 9, minute: 30, second: 0, millisecond: 0 };
+//! let due: Vec<String> = rule.occurrences(start, 3).unwrap().iter().map(Moment::to_string).collect();
+//! assert_eq!(due, ["2026-02-10 09:30:00", "2026-02-24 09:30:00", "2026-03-10 09:30:00"]);
+//!
+//! let a_year_later = Moment { year: 2027, ..start };
+//! assert_eq!(rule.next(start, a_year_later).unwrap().to_string(), "2027-02-23 09:30:00");
+//! ```
 use std::fmt;
 use std::str::FromStr;
 
@@ -102,6 +116,38 @@ extern "C" {
         millisecond: u32,
         text: *mut u8,
         text_length: usize,
+    ) -> u64;
+    fn fuzzy_list(
+        rule: *const u8,
+        rule_length: usize,
+        year: u32,
+        month: u32,
+        day: u32,
+        hour: u32,
+        minute: u32,
+        second: u32,
+        millisecond: u32,
+        moments: *mut u32,
+        moments_length: usize,
+    ) -> u64;
+    fn fuzzy_next(
+        rule: *const u8,
+        rule_length: usize,
+        year: u32,
+        month: u32,
+        day: u32,
+        hour: u32,
+        minute: u32,
+        second: u32,
+        millisecond: u32,
+        asked_year: u32,
+        asked_month: u32,
+        asked_day: u32,
+        asked_hour: u32,
+        asked_minute: u32,
+        asked_second: u32,
+        asked_millisecond: u32,
+        moment: *mut u32,
     ) -> u64;
 }
 
@@ -211,7 +257,7 @@ pub enum Reading {
     Second = 2,
 }
 
-/// Why a phrase, a ready phrase or a stamp is refused. They are tested in this order.
+/// Why a phrase, a ready phrase, a stamp or a rule is refused. They are tested in this order.
 #[derive(Clone, Copy, Debug, PartialEq, Eq, PartialOrd, Ord, Hash)]
 #[repr(u8)]
 pub enum Reason {
@@ -229,7 +275,7 @@ pub enum Reason {
     LargeSum = 6,
     /// Something is left behind what was read.
     LeftOver = 7,
-    /// The now, or the moment to be written, is no date and time of the years 1 to 9999.
+    /// The now, the start, the asked moment or the one to be written is no date and time of the years 1 to 9999.
     NoNow = 8,
     /// The phrase, or the ready phrase, has no sense.
     NoSense = 9,
@@ -249,11 +295,17 @@ pub enum Reason {
     NotWhole = 16,
     /// The room that was lent is too short for the text.
     NoRoom = 17,
+    /// No RFC 5545 rule, or one outside those that are taken.
+    NoRule = 18,
+    /// The start doesn't match the rule, or lies past its UNTIL.
+    NoStart = 19,
+    /// No occurrence of the rule is at or after the asked moment.
+    NoNext = 20,
 }
 
 impl Reason {
     /// In the order of their numbers.
-    const ALL: [Reason; 17] = [
+    const ALL: [Reason; 20] = [
         Reason::TooLong,
         Reason::Unknown,
         Reason::LargeDigits,
@@ -271,6 +323,9 @@ impl Reason {
         Reason::NoReading,
         Reason::NotWhole,
         Reason::NoRoom,
+        Reason::NoRule,
+        Reason::NoStart,
+        Reason::NoNext,
     ];
 
     /// The reason of a number that the library answers.
@@ -303,6 +358,9 @@ impl Reason {
             Reason::NoReading => "there is no such reading",
             Reason::NotWhole => "a phrase shows no seconds",
             Reason::NoRoom => "there is no room for the text",
+            Reason::NoRule => "this is no repeating rule that is taken",
+            Reason::NoStart => "the start is no occurrence of the rule",
+            Reason::NoNext => "no occurrence of the rule is left",
         }
     }
 }
@@ -608,4 +666,137 @@ pub fn find_word<W: AsRef<[u8]> + ?Sized>(reading: Reading, word: &W) -> FoundWo
     unsafe { fuzzy_find_word(reading as u32, bytes.as_ptr(), bytes.len(), found.as_mut_ptr()) };
     let [code, comparisons] = found;
     FoundWord { code: (code != 0).then_some(code), comparisons }
+}
+
+/// The days of the calendar: no rule has more occurrences.
+const DAYS: usize = 3_652_059;
+
+/// A repeating rule of RFC 5545, kept as its text: `FREQ=WEEKLY;INTERVAL=2;BYDAY=TU` is every second tuesday. No "RRULE:" and no blanks; letters in
+/// either case, and zeros may stand in front of numbers. First FREQ, which is DAILY, WEEKLY or MONTHLY, then in any order, each at most once:
+///
+/// - INTERVAL: 1 to 999; 1 where there is none.
+/// - COUNT: 1 to 4,294,967,295.
+/// - UNTIL: a date such as 20260301, that day included, or a date-time such as 20260301T093000, without "Z"; not beside COUNT.
+/// - BYDAY, only with WEEKLY: days such as TU,FR, each counted once; the start's own weekday where there is none.
+/// - BYMONTHDAY, only with MONTHLY: a day of 1 to 31, the start's own where there is none. A month without that day is passed over.
+/// - WKST: MO. Weeks begin on Monday.
+#[derive(Clone, Debug, PartialEq, Eq, Hash)]
+pub struct Rule {
+    text: String,
+}
+
+impl Rule {
+    /// A text as a rule, all of it; letters in either case.
+    ///
+    /// ```
+    /// # use fuzzydate::{Reason, Rule};
+    /// assert!(Rule::parse("freq=monthly;count=12").is_ok());
+    /// assert_eq!(Rule::parse("FREQ=YEARLY").unwrap_err().reason(), Reason::NoRule);
+    /// assert_eq!(Rule::parse("FREQ=DAILY;UNTIL=20260301Z").unwrap_err().to_string(), "this is no repeating rule that is taken");
+    /// ```
+    pub fn parse(text: &str) -> Result<Rule, Refusal<'static>> {
+        // Listed from a moment on, without room. That start is never refused with 8, and whether it matches is judged behind the rule: so any
+        // refusal but `NoStart` is the text's.
+        let start = Moment { year: 1, month: 1, day: 1, hour: 0, minute: 0, second: 0, millisecond: 0 };
+        match list(text, start, &mut []) {
+            Err(refusal) if refusal.reason != Reason::NoStart => Err(refusal),
+            _ => Ok(Rule { text: text.to_owned() }),
+        }
+    }
+
+    /// The text that it was made of.
+    pub fn as_str(&self) -> &str {
+        &self.text
+    }
+
+    /// The first occurrences from a start on, in order, up to so many: the start itself, and then every one at its time of day, as far as COUNT,
+    /// UNTIL and year 9999 allow. Or why there are none: the start is no date and time of the years 1 to 9999, or it doesn't match the rule or
+    /// lies past its UNTIL.
+    ///
+    /// ```
+    /// # use fuzzydate::{Moment, Reason, Rule};
+    /// let start = Moment { year: 2026, month: 1, day: 31, hour: 9, minute: 30, second: 0, millisecond: 0 };
+    /// let months = Rule::parse("FREQ=MONTHLY").unwrap().occurrences(start, 4).unwrap();
+    /// assert_eq!(months.iter().map(|m| m.month).collect::<Vec<_>>(), [1, 3, 5, 7]);
+    ///
+    /// let days = Rule::parse("FREQ=DAILY;UNTIL=20260202").unwrap().occurrences(start, 100).unwrap();
+    /// assert_eq!(days.len(), 3);
+    ///
+    /// let mondays = Rule::parse("FREQ=WEEKLY;BYDAY=MO").unwrap();
+    /// assert_eq!(mondays.occurrences(start, 4).unwrap_err().reason(), Reason::NoStart);
+    /// ```
+    pub fn occurrences(&self, start: Moment, most: usize) -> Result<Vec<Moment>, Refusal<'static>> {
+        let mut moments = vec![[0; 7]; most.min(DAYS)];
+        let count = list(&self.text, start, &mut moments)?;
+        Ok(moments[..count].iter().copied().map(Moment::of).collect())
+    }
+
+    /// Which occurrence comes next: of those from a start on the first at or after the asked moment, found without the ones before it. Or why
+    /// there is none: start or asked moment is no date and time of the years 1 to 9999, the start doesn't match the rule or lies past its
+    /// UNTIL, or COUNT, UNTIL or the years end before the asked moment.
+    ///
+    /// ```
+    /// # use fuzzydate::{Moment, Reason, Rule};
+    /// let start = Moment { year: 2026, month: 1, day: 31, hour: 9, minute: 30, second: 0, millisecond: 0 };
+    /// let months = Rule::parse("FREQ=MONTHLY;COUNT=4").unwrap();
+    /// assert_eq!(months.next(start, start), Ok(start));
+    /// assert_eq!(months.next(start, Moment { millisecond: 1, ..start }).unwrap().to_string(), "2026-03-31 09:30:00");
+    ///
+    /// let refusal = months.next(start, Moment { month: 8, day: 1, ..start }).unwrap_err();
+    /// assert_eq!(refusal.reason(), Reason::NoNext);
+    /// assert_eq!(refusal.to_string(), "no occurrence of the rule is left");
+    /// ```
+    pub fn next(&self, start: Moment, asked: Moment) -> Result<Moment, Refusal<'static>> {
+        let mut moment = [0; 7];
+        // SAFETY: the pointers are those of a slice, whose size is said, and of an array of seven numbers.
+        let answer = unsafe {
+            fuzzy_next(
+                self.text.as_ptr(),
+                self.text.len(),
+                start.year,
+                start.month,
+                start.day,
+                start.hour,
+                start.minute,
+                start.second,
+                start.millisecond,
+                asked.year,
+                asked.month,
+                asked.day,
+                asked.hour,
+                asked.minute,
+                asked.second,
+                asked.millisecond,
+                moment.as_mut_ptr(),
+            )
+        };
+        match answer {
+            0 => Ok(Moment::of(moment)),
+            _ => Err(Refusal::of(answer, &[])),
+        }
+    }
+}
+
+/// Lists a rule's occurrences into rows; how many were written.
+fn list(rule: &str, start: Moment, moments: &mut [[u32; 7]]) -> Result<usize, Refusal<'static>> {
+    // SAFETY: the pointers are those of slices, whose sizes are said: a row has seven numbers, and rows stand one behind another.
+    let answer = unsafe {
+        fuzzy_list(
+            rule.as_ptr(),
+            rule.len(),
+            start.year,
+            start.month,
+            start.day,
+            start.hour,
+            start.minute,
+            start.second,
+            start.millisecond,
+            moments.as_mut_ptr().cast(),
+            7 * moments.len(),
+        )
+    };
+    match answer & 0xffff {
+        0 => Ok((answer >> 32) as usize),
+        _ => Err(Refusal::of(answer, &[])),
+    }
 }

@@ -1,5 +1,5 @@
 //! Every function with good, damaged and empty input.
-use fuzzydate::{find_word, read, FoundWord, Moment, Offset, Reading, Ready, Reason, Stamp};
+use fuzzydate::{find_word, read, FoundWord, Moment, Offset, Reading, Ready, Reason, Rule, Stamp};
 
 const NOW: Moment = Moment { year: 2026, month: 2, day: 11, hour: 9, minute: 30, second: 15, millisecond: 0 };
 const LEAP_DAY: Moment = Moment { year: 2024, month: 2, day: 29, hour: 12, minute: 0, second: 0, millisecond: 0 };
@@ -233,4 +233,85 @@ fn shows_moments_as_phrases() {
     assert_eq!(Moment { millisecond: 1000, ..whole(2026, 3, 4, 9, 5) }.to_phrase().unwrap_err().reason(), Reason::NoNow);
     assert_eq!(Moment { millisecond: 1, ..whole(2026, 3, 4, 9, 5) }.to_phrase().unwrap_err().reason(), Reason::NotWhole);
     assert_eq!(Moment { second: 1, ..whole(2026, 3, 4, 9, 5) }.to_phrase().unwrap_err().reason(), Reason::NotWhole);
+}
+
+#[test]
+fn lists_rules() {
+    let tuesday = Moment { year: 2026, month: 2, day: 10, millisecond: 250, ..NOW };
+    let cases: [(&str, usize, &[(u32, u32)]); 8] = [
+        ("FREQ=WEEKLY;INTERVAL=2;BYDAY=TU", 3, &[(2, 10), (2, 24), (3, 10)]),
+        ("freq=weekly;byday=su,tu,su;interval=02", 4, &[(2, 10), (2, 15), (2, 24), (3, 1)]),
+        ("FREQ=DAILY;UNTIL=20260212", usize::MAX, &[(2, 10), (2, 11), (2, 12)]),
+        ("FREQ=DAILY;UNTIL=20260212T093015", 9, &[(2, 10), (2, 11)]),
+        ("FREQ=DAILY;UNTIL=20260212T093016;WKST=MO", 9, &[(2, 10), (2, 11), (2, 12)]),
+        ("FREQ=MONTHLY;COUNT=2", 9, &[(2, 10), (3, 10)]),
+        ("FREQ=MONTHLY;BYMONTHDAY=+10", 1, &[(2, 10)]),
+        ("FREQ=DAILY", 0, &[]),
+    ];
+    for (text, most, dates) in cases {
+        let rule = Rule::parse(text).unwrap();
+        assert_eq!(rule.as_str(), text);
+        let wanted: Vec<Moment> = dates.iter().map(|&(month, day)| Moment { month, day, ..tuesday }).collect();
+        assert_eq!(rule.occurrences(tuesday, most), Ok(wanted), "{text}");
+    }
+    let last = Moment { year: 9999, month: 12, day: 30, ..NOW };
+    assert_eq!(Rule::parse("FREQ=DAILY").unwrap().occurrences(last, 9).unwrap().len(), 2);
+    let all = Rule::parse("FREQ=MONTHLY").unwrap().occurrences(Moment { year: 1, month: 1, day: 1, ..NOW }, usize::MAX).unwrap();
+    assert_eq!((all.len(), all[119_987]), (119_988, Moment { year: 9999, month: 12, day: 1, ..NOW }));
+}
+
+#[test]
+fn refuses_rules_and_starts() {
+    for text in ["", "FREQ=YEARLY", "FREQ=DAILY;", "FREQ=DAILY;COUNT=0", "FREQ=DAILY;BYDAY=MO", "FREQ=DAILY;UNTIL=20260229", "FREQ=DAILY\u{e9}"] {
+        assert_eq!(Rule::parse(text).unwrap_err().reason(), Reason::NoRule, "{text}");
+    }
+    // the first two do not match the start that parsing takes either, Monday, 0001-01-01
+    for text in ["FREQ=WEEKLY;BYDAY=TU", "FREQ=MONTHLY;BYMONTHDAY=31", "FREQ=DAILY;UNTIL=00010101"] {
+        let rule = Rule::parse(text).unwrap();
+        assert_eq!(rule.occurrences(NOW, 9).unwrap_err().reason(), Reason::NoStart, "{text}");
+        assert_eq!(rule.occurrences(NO_NOW, 9).unwrap_err().reason(), Reason::NoNow, "{text}");
+    }
+}
+
+#[test]
+fn says_what_comes_next() {
+    let tuesday = Moment { year: 2026, month: 2, day: 10, millisecond: 250, ..NOW };
+    let on = |month, day| Moment { month, day, ..tuesday };
+    let fortnights = Rule::parse("FREQ=WEEKLY;INTERVAL=2;BYDAY=TU;COUNT=3").unwrap();
+    let asked = [
+        (Moment { year: 1, ..tuesday }, Ok(tuesday)),
+        (tuesday, Ok(tuesday)),
+        (Moment { millisecond: 251, ..tuesday }, Ok(on(2, 24))),
+        (Moment { millisecond: 249, ..on(2, 24) }, Ok(on(2, 24))),
+        (on(2, 24), Ok(on(2, 24))),
+        (on(3, 10), Ok(on(3, 10))),
+        (Moment { millisecond: 251, ..on(3, 10) }, Err(Reason::NoNext)),
+        (Moment { year: 9999, month: 12, day: 31, hour: 23, minute: 59, second: 59, millisecond: 999 }, Err(Reason::NoNext)),
+    ];
+    for (moment, wanted) in asked {
+        assert_eq!(fortnights.next(tuesday, moment).map_err(|r| r.reason()), wanted, "{moment}");
+    }
+    let until = |text| Rule::parse(text).unwrap().next(tuesday, on(2, 12)).map_err(|r| r.reason());
+    assert_eq!(until("FREQ=DAILY;UNTIL=20260212"), Ok(on(2, 12)));
+    assert_eq!(until("FREQ=DAILY;UNTIL=20260212T093015"), Err(Reason::NoNext));
+    assert_eq!(until("FREQ=DAILY;UNTIL=20260212T093016"), Ok(on(2, 12)));
+
+    // months without a 31st are not counted
+    let four = Rule::parse("FREQ=MONTHLY;COUNT=4").unwrap();
+    assert_eq!(four.next(on(1, 31), on(7, 31)), Ok(on(7, 31)));
+    assert_eq!(four.next(on(1, 31), on(8, 1)).unwrap_err().reason(), Reason::NoNext);
+
+    let leap_days = Rule::parse("FREQ=MONTHLY;INTERVAL=300").unwrap();
+    let first = Moment { year: 2000, ..LEAP_DAY };
+    assert_eq!(leap_days.next(first, Moment { year: 2001, day: 28, ..first }), Ok(Moment { year: 2400, ..first }));
+
+    let days = Rule::parse("FREQ=DAILY").unwrap();
+    let last = Moment { year: 9999, month: 12, day: 31, ..NOW };
+    assert_eq!(days.next(NOW, last), Ok(last));
+    assert_eq!(days.next(NOW, Moment { millisecond: 1, ..last }).unwrap_err().reason(), Reason::NoNext);
+
+    let mondays = Rule::parse("FREQ=WEEKLY;BYDAY=MO").unwrap();
+    assert_eq!(mondays.next(tuesday, last).unwrap_err().reason(), Reason::NoStart);
+    assert_eq!(mondays.next(tuesday, NO_NOW).unwrap_err().reason(), Reason::NoNow);
+    assert_eq!(mondays.next(NO_NOW, last).unwrap_err().reason(), Reason::NoNow);
 }

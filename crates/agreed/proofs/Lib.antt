@@ -1,3 +1,4 @@
 pub mod Agreed
 pub mod ShownAgain
 pub mod Later
+pub mod NextListed

@@ -8,12 +8,12 @@ use Rattle.refusals.specs.Answers.{Answer, given, refused}
 use Rattle.refusals.specs.Writings.{bufferOf}
 use Rattle.refusals.proofs.Holds.{given-holds, refusal-holds}
 use Rattle.digits.proofs.Stores.{sets-taken}
-use Rattle.calendar.specs.Moments.{IsMoment}
+use Rattle.calendar.specs.Moments.{IsMoment, seven}
 use Rattle.calendar.specs.declared.moments.Moment.{Moment}
 use Rattle.lexer.specs.declared.reading.Reading.the-variants.{First, Second}
 use Rattle.shown.specs.Phrases.{shownOf}
 use Rattle.shown.proofs.Writings.{writing, written-reads}
-use Rattle.fuzzydate.specs.Called.{answerIn, seven, writtenCode}
+use Rattle.fuzzydate.specs.Called.{answerIn, writtenCode}
 use Rattle.agreed.specs.Calls.{WritePhrase, Shows, in-first, in-second, Read, number, size}
 use Rattle.agreed.proofs.Agreed.{read-says}
 

@@ -1,16 +1,17 @@
 -- What the contracts of the functions that apps call allow, in an app's terms.
-use Prim.Native.Nat.{ℕ, _+_, _/_, _%_, _≤_}
+use Prim.Native.Nat.{ℕ, _+_, _*_, _/_, _%_, _≤_, _<_}
 use mathlib.Core.Path.{_≡_}
 use mathlib.Core.List.{List, [], _∷_}
-use lib.ListN.{length, getD}
-use Rattle.calendar.specs.Moments.{IsMoment, momentOf}
+use lib.ListN.{length, getD, drop}
+use Rattle.calendar.specs.Moments.{IsMoment, momentOf, seven, instantOf, NotAfter}
 use Rattle.calendar.specs.declared.moments.Moment.{Moment}
-use Rattle.fuzzydate.specs.Called.{seven}
 use Rattle.fuzzydate.proofs.fuzzy_read.Reads as read'
 use Rattle.fuzzydate.proofs.fuzzy_run.Reads as run'
 use Rattle.fuzzydate.proofs.fuzzy_make_ready.Reads as make'
 use Rattle.fuzzydate.proofs.fuzzy_find_word.Reads as find'
 use Rattle.fuzzydate.proofs.fuzzy_write_phrase.Reads as show'
+use Rattle.fuzzydate.proofs.fuzzy_list.Reads as list'
+use Rattle.fuzzydate.proofs.fuzzy_next.Reads as next'
 
 -- a call that a contract allows: the lifetimes, the arguments, the result, and the parameters at exit
 module _ {K : Type 0} {A R E : K → Type 0} (Post : (κs : K) → A κs → R κs → E κs → Type 0) where
@@ -119,7 +120,7 @@ number k = k % 65536
 abbrev pub place : ℕ → ℕ
 place k = k / 65536 % 65536
 
--- and the length of its part, of a ready phrase, or of a phrase that was written
+-- and the length of its part, of a ready phrase, or of a phrase that was written, or the count of listed rows
 abbrev pub size : ℕ → ℕ
 size k = k / 4294967296
 
@@ -146,3 +147,41 @@ pub record FindWord (reading : ℕ) (word array : List ℕ) (k : ℕ) (array′ 
 -- what is found of a word: 0, and a code or 0, and "at most 8 comparisons with table words"
 pub data Counted : ℕ → List ℕ → Type 0 where
   counted : {code count : ℕ} → count ≤ 8 → Counted 0 (code ∷ count ∷ [])
+
+-- `fuzzy_list` may answer k for a rule's text and a start, and leave `rows′` in numbers that held `rows`
+pub record ListRule (rule : List ℕ) (t : Moment) (rows : List ℕ) (k : ℕ) (rows′ : List ℕ) : Type 0 where
+  pub call : Call list'.Post
+  pub rule-is : call .given .0 .now ≡ rule
+  pub start-is :
+      let a = call .given .1 in
+      momentOf (a .0) (a .1 .0) (a .1 .1 .0) (a .1 .1 .1 .0) (a .1 .1 .1 .1 .0) (a .1 .1 .1 .1 .1 .0) (a .1 .1 .1 .1 .1 .1 .0) ≡ t
+  pub rows-are : call .given .1 .1 .1 .1 .1 .1 .1 .1 .0 .now ≡ rows
+  pub answer-is : call .result ≡ k
+  pub rows′-are : call .exit .1 .1 .1 .1 .1 .1 .1 .1 .0 .now ≡ rows′
+
+-- `fuzzy_next` may answer k for a rule's text, a start and an asked moment, and leave `array′` in an array that held `array`
+pub record NextRule (rule : List ℕ) (t asked : Moment) (array : List ℕ) (k : ℕ) (array′ : List ℕ) : Type 0 where
+  pub call : Call next'.Post
+  pub rule-is : call .given .0 .now ≡ rule
+  pub start-is :
+      let a = call .given .1 in
+      momentOf (a .0) (a .1 .0) (a .1 .1 .0) (a .1 .1 .1 .0) (a .1 .1 .1 .1 .0) (a .1 .1 .1 .1 .1 .0) (a .1 .1 .1 .1 .1 .1 .0) ≡ t
+  pub asked-is :
+      let a = call .given .1 .1 .1 .1 .1 .1 .1 .1 in
+      momentOf (a .0) (a .1 .0) (a .1 .1 .0) (a .1 .1 .1 .0) (a .1 .1 .1 .1 .0) (a .1 .1 .1 .1 .1 .0) (a .1 .1 .1 .1 .1 .1 .0) ≡ asked
+  pub array-is : call .given .1 .1 .1 .1 .1 .1 .1 .1 .1 .1 .1 .1 .1 .1 .1 .0 .now ≡ array
+  pub answer-is : call .result ≡ k
+  pub array′-is : call .exit .1 .1 .1 .1 .1 .1 .1 .1 .1 .1 .1 .1 .1 .1 .1 .0 .now ≡ array′
+
+-- row i of those that a listing left
+abbrev pub rowAt : List ℕ → ℕ → Moment
+rowAt rows i = momentLeft (drop (7 * i) rows)
+
+-- the first i rows are before the asked moment
+abbrev pub Earlier : List ℕ → Moment → ℕ → Type 0
+Earlier rows asked i = (j : ℕ) → j < i → instantOf (rowAt rows j) < instantOf asked
+
+-- 0 and the first of so many rows at or after the asked moment; or 20 where none is, and nothing written
+pub data FirstRow (rows : List ℕ) (count : ℕ) (asked : Moment) (array : List ℕ) : ℕ → List ℕ → Type 0 where
+  row : (i : ℕ) → i < count → NotAfter asked (rowAt rows i) → Earlier rows asked i → FirstRow rows count asked array 0 (seven (rowAt rows i))
+  none : Earlier rows asked count → FirstRow rows count asked array 20 array

@@ -135,7 +135,7 @@ impl Moment {
 
     const YEARS: u32 = 9999;
 
-    const MONTHS: u64 = 119988;
+    pub const MONTHS: u64 = 119988;
 
     const MINUTES: u64 = 5258964960;
 
@@ -200,7 +200,7 @@ impl Moment {
     }
 
     // The same time of day on day n of the calendar.
-    fn at_day(self, n: u32) -> Moment
+    pub fn at_day(self, n: u32) -> Moment
         requires { ⌜ n < days ⌝ }
         ensures { λ r. ⌜ r ≡ atDay n self ⌝ }
     {
@@ -254,7 +254,7 @@ impl Moment {
     }
 
     // The whole months from the first moment on.
-    fn month_number(self) -> u32
+    pub fn month_number(self) -> u32
         requires { ⌜ IsMoment self ⌝ }
         ensures { λ r. ⌜ (r ≡ monthNumber self) × (r < months) ⌝ }
     {

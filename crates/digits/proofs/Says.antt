@@ -1,16 +1,18 @@
 -- Digits say their number. Assumes nothing.
-use Prim.Native.Nat.{ℕ, zero, suc, _+_, _*_, _-_, _/_, _%_, _^_, _≤_, _<_}
+use Prim.Native.Nat.{ℕ, zero, suc, _+_, _*_, _-_, _/_, _%_, _^_, _≤_, _<_, min}
 use native.Mathlib.Nat.{pow-succ', le-refl}
 use native.Mathlib.Numerals.{add-one}
 use native.Mathlib.Omega.{arith}
 use mathlib.Core.Path.{_≡_, refl}
 use mathlib.Core.Bool.{Bool, true, false, cond}
+use mathlib.Core.Logic.{⊎-elim}
 use mathlib.Core.List.{List, [], _∷_, _++_}
 use lib.Dec.{ltb}
 use lib.ListN.{length, getD, drop, drop-of-length-le}
 use lib.Seq.{drop-cons}
 use borrow.Author.Tests.{ltb-true, le-leb}
 use Rattle.digits.specs.Digits.{isDigit, valueFrom, digitOf, digitsOf, widthIn, widthOf, decimalOf}
+use Rattle.digits.proofs.Order.{le-or-lt}
 
 -- the number that the digits from i on say behind v
 module _ (s : List ℕ) (i v : ℕ) where
@@ -26,6 +28,16 @@ value-least v [] = le-refl v
 value-least v (b ∷ bs) =
     let h : v * 10 + (b - 48) ≤ valueFrom (v * 10 + (b - 48)) bs = value-least (v * 10 + (b - 48)) bs in
     omega arith
+
+-- digits behind a number that is cut off at m, and cut off again, say what they say behind the whole
+pub cut-off : (w m : ℕ) (l : List ℕ) → min (valueFrom (min w m) l) m ≡ min (valueFrom w l) m
+cut-off w m l = ⊎-elim whole cut (le-or-lt w m)
+  where
+    whole : w ≤ m → min (valueFrom (min w m) l) m ≡ min (valueFrom w l) m
+    whole h = let same : min w m ≡ w = omega arith in rw same
+
+    cut : m < w → min (valueFrom (min w m) l) m ≡ min (valueFrom w l) m
+    cut h = let same : min w m ≡ m = omega arith in rw same (omega (arith, value-least m l, value-least w l))
 
 -- one digit more behind others
 one-more : (a : List ℕ) (v d : ℕ) → valueFrom v (a ++ (d ∷ [])) ≡ valueFrom v a * 10 + (d - 48)

@@ -1,8 +1,11 @@
 // Digits, and how many a number has.
 ghost use mathlib.Core.Path.{_≡_};
-ghost use Prim.Native.Nat.{_+_, _-_, _≤_, _<_};
+ghost use Prim.Native.Nat.{_+_, _*_, _-_, _≤_, _<_, min};
 ghost use lib.ListN.{length};
 ghost use Rattle.digits.specs.Digits.{isDigit, twoAt, widthOf};
+
+// The first number that no u32 holds.
+pub const TOO_LARGE: u64 = 4294967296;
 
 // True for 0 to 9.
 pub fn is_digit(b: u8) -> bool
@@ -22,6 +25,15 @@ pub fn value(b: u8) -> u32
         return 0;
     }
     (b - b'0') as u32
+}
+
+// The number v with a digit more behind it; what is too large stays so.
+pub fn with_digit(v: u64, b: u8) -> u64
+    requires { ⌜ v ≤ 4294967296 ⌝ }
+    ensures { λ r. ⌜ r ≡ min (v * 10 + (b - 48)) 4294967296 ⌝ }
+{
+    let w = v * 10 + value(b) as u64;
+    if w < TOO_LARGE { w } else { TOO_LARGE }
 }
 
 // The number of the two digits at a place.

@@ -1,4 +1,5 @@
-pub mod ReadyNumbers
+pub mod NextNumbers
 pub mod Readings
+pub mod ReadyNumbers
 pub mod WrittenBack
 pub mod WrittenNumbers

@@ -1,14 +1,14 @@
 -- What an app gets: one number, and what is written into the array that it lends.
 use Prim.Native.Nat.{ℕ, _+_, _-_, _*_}
-use mathlib.Core.Bool.{cond}
+use mathlib.Core.Bool.{cond, _&&_}
 use mathlib.Core.List.{List, [], _∷_, _++_}
 use lib.Dec.{eqb}
 use lib.ListN.{length}
 use lib.Seq.{sets}
-use Rattle.refusals.specs.Table.{NoReading}
+use Rattle.refusals.specs.Table.{NoReading, NoNow}
 use Rattle.refusals.specs.Answers.{Answer, given, refused, refuse, andThen}
 use Rattle.refusals.specs.declared.Refusal.{Refusal}
-use Rattle.calendar.specs.Moments.{momentOf}
+use Rattle.calendar.specs.Moments.{momentOf, seven, isMoment}
 use Rattle.calendar.specs.declared.moments.Moment.{Moment}
 use Rattle.lexer.specs.Keywords.{wordsIn}
 use Rattle.lexer.specs.Words.{folded}
@@ -22,6 +22,9 @@ use Rattle.answer.specs.Answer.{answerOf}
 use Rattle.ready.specs.Ready.{ReadyPhrase, readyOf}
 use Rattle.records.specs.Records.{encodeOf}
 use Rattle.stamp.specs.declared.Stamp.{Stamp}
+use Rattle.rules.specs.Rules.{readRule}
+use Rattle.repeats.specs.Listing.{listOf}
+use Rattle.coming.specs.Next.{nextOf}
 use Rattle.fuzzydate.specs.declared.Chosen.{Chosen}
 use Rattle.fuzzydate.specs.declared.Chosen.the-variants.{As, Neither}
 
@@ -51,11 +54,7 @@ abbrev pub codeOf : {A : Type 0} → Answer A → ℕ
 codeOf (given x) = 0
 codeOf (refused r) = code r
 
--- the seven numbers of a moment
-abbrev pub seven : Moment → List ℕ
-seven t = t .year ∷ t .month ∷ t .day ∷ t .hour ∷ t .minute ∷ t .second ∷ t .millisecond ∷ []
-
--- what they are written over; on a refusal it stays
+-- what the seven numbers of a moment are written over; on a refusal it stays
 abbrev pub momentAfter : Answer Moment → List ℕ → List ℕ
 momentAfter (given t) lent = seven t
 momentAfter (refused r) lent = lent
@@ -83,7 +82,7 @@ stampAfter (refused r) lent = lent
 abbrev pub numbersStamp : ℕ → ℕ → ℕ → ℕ → ℕ → ℕ → ℕ → ℕ → ℕ → Stamp
 numbersStamp y mo d h mi s ms west offset = record { moment = momentOf y mo d h mi s ms; offset = record { west = west; minutes = offset } }
 
--- of a text that is written: 0 for the number and the place, and its length in bytes from bit 32 on
+-- of what is written: 0 for the number and the place, and the count of a text's bytes or of listed rows from bit 32 on
 abbrev pub writtenCode : Answer (List ℕ) → ℕ
 writtenCode (given text) = 4294967296 * length text
 writtenCode (refused r) = code r
@@ -101,3 +100,12 @@ lexemeCode Unknown = 0
 abbrev pub foundAfter : Answer Looked → List ℕ → List ℕ
 foundAfter (given l) lent = lexemeCode (l .found) ∷ l .count ∷ []
 foundAfter (refused r) lent = lent
+
+-- a rule's occurrences from a start on, as many as so many numbers have room for: "8 for a start that is no moment, 18 for a rule outside this,
+-- 19 for a start that doesn't match or lies past UNTIL"
+abbrev pub listIn : List ℕ → Moment → ℕ → Answer (List ℕ)
+listIn s t size = cond (isMoment t) (andThen (readRule s) (λ r. listOf r t size)) (refuse NoNow 0 0)
+
+-- the first occurrence at or after an asked moment: "8 covers the asked moment too; after 18 and 19, 20"
+abbrev pub nextIn : List ℕ → Moment → Moment → Answer Moment
+nextIn s t asked = cond (isMoment t && isMoment asked) (andThen (readRule s) (λ r. nextOf r t asked)) (refuse NoNow 0 0)

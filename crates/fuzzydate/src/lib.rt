@@ -3,15 +3,21 @@ use answer::Answered;
 use answer::answer;
 use calendar::moments::Moment;
 use calendar::moments::Reached;
+use coming::next;
 use lexer::find::Found;
 use lexer::find::look_up;
 use lexer::reading::Reading;
 use ready::make_ready;
 use records::record::encode;
 use records::run::run_ready;
+use refusals::NO_NOW;
 use refusals::NO_READING;
+use refusals::NO_RULE;
 use refusals::Refusal;
 use refusals::Wrote;
+use repeats::listing::list;
+use rules::read::RuleRead;
+use rules::read::read_rule;
 use shown::write_phrase;
 use stamp::Offset;
 use stamp::Stamp;
@@ -21,7 +27,8 @@ use stamp::write::write_stamp;
 ghost use mathlib.Core.Path.{_≡_};
 ghost use Prim.Native.Nat.{_+_, _*_, _≤_};
 ghost use lib.ListN.{length};
-ghost use Rattle.calendar.specs.Moments.{momentOf};
+ghost use Rattle.calendar.specs.Gregorian.{days};
+ghost use Rattle.calendar.specs.Moments.{momentOf, reachedOf};
 ghost use Rattle.answer.specs.Answer.{placed};
 ghost use Rattle.steps.specs.Running.{runOf};
 ghost use Rattle.records.specs.Records.{decodeOf};
@@ -30,7 +37,9 @@ ghost use Rattle.stamp.specs.Stamps.{stampOf, writtenOf};
 ghost use Rattle.shown.specs.Phrases.{shownOf};
 ghost use Rattle.fuzzydate.specs.Called.{readingOf, chosenFrom, answerIn, readyIn, code, codeOf, momentAfter, readyCode, readyAfter};
 ghost use Rattle.fuzzydate.specs.Called.{stampAfter, numbersStamp, writtenCode};
-ghost use Rattle.fuzzydate.specs.Called.{foundIn, foundAfter};
+ghost use Rattle.repeats.specs.Listing.{rowsAfter};
+ghost use Rattle.coming.specs.Next.{answered};
+ghost use Rattle.fuzzydate.specs.Called.{foundIn, foundAfter, listIn, nextIn};
 
 // Where the place of a refusal stands in an answer, and where the length of its part does.
 const PLACE: u64 = 65536;
@@ -65,12 +74,34 @@ fn code(refusal: Refusal) -> u64
     (refusal.number as u64) + PLACE * (refusal.place as u64) + LENGTH * (part as u64)
 }
 
-// How a writing ended as one number: a refusal's number, or the length of the text in bytes.
+// How a writing ended as one number: a refusal's number, or the count of the text's bytes or of the rows.
 fn written(wrote: Wrote) -> u64
-    requires { ⌜ wrote .count ≤ 29 ⌝ }
+    requires { ⌜ wrote .count ≤ days ⌝ }
     ensures { λ r. ⌜ r ≡ wrote .number + 4294967296 * wrote .count ⌝ }
 {
     (wrote.number as u64) + LENGTH * (wrote.count as u64)
+}
+
+// What was reached as one number: 0 and the moment's seven numbers, or a refusal's number and nothing written.
+fn reached(at: Reached, moment: &mut [u32; 7]) -> u64
+    ensures { λ r. ⌜ r ≡ codeOf (placed (reachedOf at)) ⌝ }
+    ensures { λ r. ⌜ now (moment .exit) ≡ momentAfter (placed (reachedOf at)) (now (moment .entry)) ⌝ }
+{
+    match at {
+        Reached::At(t) => {
+            *moment = [
+                t.year,
+                t.month,
+                t.day,
+                t.hour,
+                t.minute,
+                t.second,
+                t.millisecond,
+            ];
+            0
+        }
+        Reached::Refused(number) => number as u64,
+    }
 }
 
 // A phrase at a now, in reading 1 or 2: 0 and the moment's seven numbers, or a refusal and nothing written.
@@ -164,21 +195,7 @@ pub extern "C" fn fuzzy_run(
         second,
         millisecond,
     };
-    match run_ready(ready, now) {
-        Reached::At(t) => {
-            *moment = [
-                t.year,
-                t.month,
-                t.day,
-                t.hour,
-                t.minute,
-                t.second,
-                t.millisecond,
-            ];
-            0
-        }
-        Reached::Refused(number) => number as u64,
-    }
+    reached(run_ready(ready, now), moment)
 }
 
 // A text as an RFC 3339 stamp: 0 and the stamp's nine numbers, or 14 or 12 and nothing written.
@@ -289,4 +306,102 @@ pub extern "C" fn fuzzy_find_word(reading: u32, word: &[u8], found: &mut [u32; 2
             0
         }
     }
+}
+
+// The occurrences of an RFC 5545 rule from a start on, rows of seven numbers from the front of a lent buffer on, as many as it has room for: their
+// count, or 8, 18 or 19 and nothing written.
+#[no_mangle]
+pub extern "C" fn fuzzy_list(
+    rule: &[u8],
+    year: u32,
+    month: u32,
+    day: u32,
+    hour: u32,
+    minute: u32,
+    second: u32,
+    millisecond: u32,
+    moments: &mut [u32],
+) -> u64
+    ensures { λ r. ⌜ r ≡ writtenCode (listIn (now (rule .entry)) (momentOf year month day hour minute second millisecond) (length (now (moments .entry)))) ⌝ }
+    ensures { λ _. ⌜ now (moments .exit) ≡ rowsAfter (momentOf year month day hour minute second millisecond) (now (moments .entry)) (listIn (now (rule .entry)) (momentOf year month day hour minute second millisecond) (length (now (moments .entry)))) ⌝ }
+{
+    let start = Moment {
+        year,
+        month,
+        day,
+        hour,
+        minute,
+        second,
+        millisecond,
+    };
+    if start.valid() {
+        let read = read_rule(rule);
+        let RuleRead::Is(said) = read else {
+            return NO_RULE as u64;
+        };
+        return written(list(said, start, moments));
+    }
+    NO_NOW as u64
+}
+
+// The first occurrence of a rule's text, from a start on, at or after an asked moment.
+fn next_of(rule: &[u8], start: Moment, asked: Moment) -> Reached
+    ensures { λ r. ⌜ r ≡ answered (nextIn (now (rule .entry)) start asked) ⌝ }
+{
+    if start.valid() {
+        if asked.valid() {
+            let read = read_rule(rule);
+            let RuleRead::Is(said) = read else {
+                return Reached::Refused(NO_RULE);
+            };
+            return next(said, start, asked);
+        }
+        return Reached::Refused(NO_NOW);
+    }
+    Reached::Refused(NO_NOW)
+}
+
+// The first occurrence of an RFC 5545 rule, from a start on, at or after an asked moment: 0 and its seven numbers, or 8, 18, 19 or 20 and nothing
+// written.
+#[no_mangle]
+pub extern "C" fn fuzzy_next(
+    rule: &[u8],
+    year: u32,
+    month: u32,
+    day: u32,
+    hour: u32,
+    minute: u32,
+    second: u32,
+    millisecond: u32,
+    asked_year: u32,
+    asked_month: u32,
+    asked_day: u32,
+    asked_hour: u32,
+    asked_minute: u32,
+    asked_second: u32,
+    asked_millisecond: u32,
+    moment: &mut [u32; 7],
+) -> u64
+    ensures { λ r. ⌜ r ≡ codeOf (nextIn (now (rule .entry)) (momentOf year month day hour minute second millisecond) (momentOf «asked_year» «asked_month» «asked_day» «asked_hour» «asked_minute» «asked_second» «asked_millisecond»)) ⌝ }
+    ensures { λ r. ⌜ now (moment .exit) ≡ momentAfter (nextIn (now (rule .entry)) (momentOf year month day hour minute second millisecond) (momentOf «asked_year» «asked_month» «asked_day» «asked_hour» «asked_minute» «asked_second» «asked_millisecond»)) (now (moment .entry)) ⌝ }
+{
+    let start = Moment {
+        year,
+        month,
+        day,
+        hour,
+        minute,
+        second,
+        millisecond,
+    };
+    let asked = Moment {
+        year: asked_year,
+        month: asked_month,
+        day: asked_day,
+        hour: asked_hour,
+        minute: asked_minute,
+        second: asked_second,
+        millisecond: asked_millisecond,
+    };
+    reached(next_of(rule, start, asked), moment)
 }

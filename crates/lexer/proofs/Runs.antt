@@ -1,9 +1,8 @@
 -- Runs of bytes of one class, a byte at a time, and what a run of digits says. Assumes nothing.
 use mathlib.Core.Path.{_≡_, refl}
 use mathlib.Core.Bool.{Bool, true, false, false≢true, cond}
-use mathlib.Core.Logic.{⊎-elim}
 use mathlib.Core.List.{List, [], _∷_}
-use Prim.Native.Nat.{ℕ, suc, _+_, _*_, _-_, _≤_, _<_, min, zero-le}
+use Prim.Native.Nat.{ℕ, suc, _+_, _*_, _-_, _≤_, _<_, zero-le}
 use native.Mathlib.Numerals.{add-one}
 use native.Mathlib.Omega.{arith}
 use lib.Dec.{eqb, ltb}
@@ -12,8 +11,6 @@ use lib.Seq.{drop-cons}
 use borrow.Author.Tests.{eq-eqb, ne-eqb, ltb-true, ltb-false}
 use Rattle.digits.specs.Digits.{isDigit, valueFrom}
 use Rattle.digits.proofs.Again.{test-digit}
-use Rattle.digits.proofs.Order.{le-or-lt}
-use Rattle.digits.proofs.Says.{value-least}
 use Rattle.digits.proofs.Tabled.{steady}
 use Rattle.refusals.specs.Answers.{between}
 use Rattle.lexer.specs.Classes.{Digit, isLetter, classOf, markOf}
@@ -88,13 +85,3 @@ module _ (s : List ℕ) (e : ℕ) where
 
   pub digits-over : (v : ℕ) → isDigitAt s e ≡ false → valueFrom v (between s e (runEnd Digit s e)) ≡ v
   digits-over v h = let none : e + run Digit (drop e s) - e ≡ 0 = omega (arith, digits-end h) in rw none
-
--- digits behind a number that is cut off at m, and cut off again, say what they say behind the whole
-pub cut-off : (w m : ℕ) (l : List ℕ) → min (valueFrom (min w m) l) m ≡ min (valueFrom w l) m
-cut-off w m l = ⊎-elim whole cut (le-or-lt w m)
-  where
-    whole : w ≤ m → min (valueFrom (min w m) l) m ≡ min (valueFrom w l) m
-    whole h = let same : min w m ≡ w = omega arith in rw same
-
-    cut : m < w → min (valueFrom (min w m) l) m ≡ min (valueFrom w l) m
-    cut h = let same : min w m ≡ m = omega arith in rw same (omega (arith, value-least m l, value-least w l))

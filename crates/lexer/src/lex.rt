@@ -13,8 +13,9 @@ use super::table::first_rows;
 use super::table::second_rows;
 use super::word::key_at;
 use super::word::letter;
+use digits::digit::TOO_LARGE;
 use digits::digit::is_digit;
-use digits::digit::value;
+use digits::digit::with_digit;
 use refusals::LARGE_DIGITS;
 use refusals::NONE;
 use refusals::Refusal;
@@ -22,7 +23,7 @@ use refusals::TOO_LONG;
 use refusals::TOO_MANY;
 use refusals::UNKNOWN;
 ghost use mathlib.Core.Path.{_≡_};
-ghost use Prim.Native.Nat.{_+_, _*_, _-_, _≤_, min};
+ghost use Prim.Native.Nat.{_≤_};
 ghost use lib.ListN.{length};
 ghost use lib.Seq.{sets};
 ghost use Rattle.lexer.specs.Keywords.{wordsIn};
@@ -30,9 +31,6 @@ ghost use Rattle.lexer.specs.Table.{sorted, cells};
 ghost use Rattle.lexer.specs.Lex.{isDigitAt, saidDigits, wordAt, numberAt, tokenAt};
 ghost use Rattle.lexer.specs.Lex.{lexFrom, lexed, frontFrom, front, codesOf, startsOf, endedOf, Placed};
 ghost use Rattle.refusals.specs.Answers.{refuse};
-
-// The first number that no u32 holds.
-const TOO_LARGE: u64 = 4294967296;
 
 // One step of lexing: the end, a lexeme with the bytes from start up to end, or a refusal.
 pub enum Token {
@@ -55,15 +53,6 @@ fn is_digit_at(s: &[u8], at: usize) -> bool
         return false;
     }
     is_digit(s[at])
-}
-
-// The number v with a digit more behind it; what is too large stays so.
-fn with_digit(v: u64, b: u8) -> u64
-    requires { ⌜ v ≤ 4294967296 ⌝ }
-    ensures { λ r. ⌜ r ≡ min (v * 10 + (b - 48)) 4294967296 ⌝ }
-{
-    let w = v * 10 + value(b) as u64;
-    if w < TOO_LARGE { w } else { TOO_LARGE }
 }
 
 // The word that begins at a.

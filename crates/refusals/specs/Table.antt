@@ -68,3 +68,15 @@ NotWhole = 16
 -- "a buffer too short"
 abbrev pub NoRoom : ℕ
 NoRoom = 17
+
+-- "18 for a rule outside this"
+abbrev pub NoRule : ℕ
+NoRule = 18
+
+-- "19 for a start that doesn't match or lies past UNTIL"
+abbrev pub NoStart : ℕ
+NoStart = 19
+
+-- "20 exactly if no occurrence in years 1 to 9999 is at or after the moment"
+abbrev pub NoNext : ℕ
+NoNext = 20

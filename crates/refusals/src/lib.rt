@@ -70,3 +70,12 @@ pub const NOT_WHOLE: u8 = 16;
 
 // The buffer is too short.
 pub const NO_ROOM: u8 = 17;
+
+// The rule is outside the RFC 5545 rules that are taken.
+pub const NO_RULE: u8 = 18;
+
+// The start doesn't match the rule, or lies past its UNTIL.
+pub const NO_START: u8 = 19;
+
+// No occurrence in years 1 to 9999 is at or after the moment.
+pub const NO_NEXT: u8 = 20;

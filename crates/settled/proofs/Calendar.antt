@@ -11,8 +11,10 @@ use Rattle.calendar.proofs.moments.Moment.valid.Reads as valid'
 use Rattle.calendar.proofs.moments.Moment.with_date.Reads as with-date'
 use Rattle.calendar.proofs.moments.Moment.with_time.Reads as with-time'
 use Rattle.calendar.proofs.moments.Moment.day_number.Reads as day-number'
+use Rattle.calendar.proofs.moments.Moment.at_day.Reads as at-day'
 use Rattle.calendar.proofs.moments.Moment.on_day.Reads as on-day'
 use Rattle.calendar.proofs.moments.Moment.minutes_step.Reads as minutes-step'
+use Rattle.calendar.proofs.moments.Moment.month_number.Reads as month-number'
 use Rattle.calendar.proofs.moments.Moment.months_step.Reads as months-step'
 use Rattle.calendar.proofs.moments.Moment.years_step.Reads as years-step'
 use Rattle.calendar.proofs.fixed.put_moment.Reads as put-moment'
@@ -48,11 +50,17 @@ with-time = same with-time'.Post _ _ (λ κs a z e p. p)
 pub day-number : Settled day-number'.Post
 day-number = same day-number'.Post _ _ (λ κs a z e p. p .0)
 
+pub at-day : Settled at-day'.Post
+at-day = same at-day'.Post _ _ (λ κs a z e p. p)
+
 pub on-day : Settled on-day'.Post
 on-day = through on-day'.Post _ (λ κs. reached-one) (same on-day'.Post _ _ (λ κs a z e p. p))
 
 pub minutes-step : Settled minutes-step'.Post
 minutes-step = through minutes-step'.Post _ (λ κs. reached-one) (same minutes-step'.Post _ _ (λ κs a z e p. p .0))
+
+pub month-number : Settled month-number'.Post
+month-number = same month-number'.Post _ _ (λ κs a z e p. p .0)
 
 pub months-step : Settled months-step'.Post
 months-step = through months-step'.Post _ (λ κs. reached-one) (same months-step'.Post _ _ (λ κs a z e p. p .0))

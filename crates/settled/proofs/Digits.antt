@@ -4,6 +4,7 @@ use Rattle.digits.proofs.digit.is_digit.Reads as is-digit'
 use Rattle.digits.proofs.digit.two.Reads as two'
 use Rattle.digits.proofs.digit.value.Reads as value'
 use Rattle.digits.proofs.digit.width.Reads as width'
+use Rattle.digits.proofs.digit.with_digit.Reads as with-digit'
 use Rattle.digits.proofs.form.of_form.Reads as of-form'
 use Rattle.digits.proofs.put.put_bytes.Reads as put-bytes'
 use Rattle.digits.proofs.put.put_digits.Reads as put-digits'
@@ -21,6 +22,9 @@ value = same value'.Post _ _ (λ κs a z e p. p .0)
 
 pub width : Settled width'.Post
 width = same width'.Post _ _ (λ κs a z e p. p .0)
+
+pub with-digit : Settled with-digit'.Post
+with-digit = same with-digit'.Post _ _ (λ κs a z e p. p)
 
 pub of-form : Settled of-form'.Post
 of-form = same of-form'.Post _ _ (λ κs a z e p. p)

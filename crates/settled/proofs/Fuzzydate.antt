@@ -7,6 +7,8 @@ use Rattle.fuzzydate.proofs.fuzzy_read_stamp.Reads as fuzzy-read-stamp'
 use Rattle.fuzzydate.proofs.fuzzy_write_stamp.Reads as fuzzy-write-stamp'
 use Rattle.fuzzydate.proofs.fuzzy_find_word.Reads as fuzzy-find-word'
 use Rattle.fuzzydate.proofs.fuzzy_write_phrase.Reads as fuzzy-write-phrase'
+use Rattle.fuzzydate.proofs.fuzzy_list.Reads as fuzzy-list'
+use Rattle.fuzzydate.proofs.fuzzy_next.Reads as fuzzy-next'
 
 pub fuzzy-read : Settled fuzzy-read'.Post × Same fuzzy-read'.Post (λ κs z e. e .1 .1 .1 .1 .1 .1 .1 .1 .1 .0 .now)
 fuzzy-read = (same fuzzy-read'.Post _ _ (λ κs a z e p. p .0), same fuzzy-read'.Post _ _ (λ κs a z e p. p .1))
@@ -28,3 +30,9 @@ fuzzy-find-word = (same fuzzy-find-word'.Post _ _ (λ κs a z e p. p .0), same f
 
 pub fuzzy-write-phrase : Settled fuzzy-write-phrase'.Post × Same fuzzy-write-phrase'.Post (λ κs z e. e .1 .1 .1 .1 .1 .1 .1 .0 .now)
 fuzzy-write-phrase = (same fuzzy-write-phrase'.Post _ _ (λ κs a z e p. p .0), same fuzzy-write-phrase'.Post _ _ (λ κs a z e p. p .1))
+
+pub fuzzy-list : Settled fuzzy-list'.Post × Same fuzzy-list'.Post (λ κs z e. e .1 .1 .1 .1 .1 .1 .1 .1 .0 .now)
+fuzzy-list = (same fuzzy-list'.Post _ _ (λ κs a z e p. p .0), same fuzzy-list'.Post _ _ (λ κs a z e p. p .1))
+
+pub fuzzy-next : Settled fuzzy-next'.Post × Same fuzzy-next'.Post (λ κs z e. e .1 .1 .1 .1 .1 .1 .1 .1 .1 .1 .1 .1 .1 .1 .1 .0 .now)
+fuzzy-next = (same fuzzy-next'.Post _ _ (λ κs a z e p. p .0), same fuzzy-next'.Post _ _ (λ κs a z e p. p .1))

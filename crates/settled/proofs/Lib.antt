@@ -15,5 +15,8 @@ pub mod Ready
 pub mod Records
 pub mod Stamp
 pub mod Shown
+pub mod Rules
+pub mod Repeats
+pub mod Coming
 pub mod Fuzzydate
 pub mod Text

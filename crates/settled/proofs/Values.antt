@@ -24,6 +24,10 @@ use Rattle.stamp.specs.Stamps.{stampAnswer}
 use Rattle.stamp.specs.declared.Stamp.{Stamp}
 use Rattle.stamp.specs.declared.read.StampRead.{StampRead}
 use Rattle.stamp.specs.declared.read.StampRead.the-variants.{Is as IsStamp, Refused as StampRefused}
+use Rattle.rules.specs.Rules.{ruleAnswer}
+use Rattle.rules.specs.declared.Rule.{Rule}
+use Rattle.rules.specs.declared.read.RuleRead.{RuleRead}
+use Rattle.rules.specs.declared.read.RuleRead.the-variants.{Is as IsRule, Refused as RuleRefused}
 use Rattle.answer.specs.Answer.{answerFrom}
 use Rattle.answer.specs.declared.Answered.{Answered}
 use Rattle.answer.specs.declared.Answered.the-variants.{At as AnsweredAt, Refused as AnsweredRefused}
@@ -129,3 +133,14 @@ stamp-back (StampRefused k) = refl
 
 pub stamp-one : (x y : StampRead) → stampAnswer x ≡ stampAnswer y → x ≡ y
 stamp-one = given-back stampAnswer stampRead stamp-back
+
+abbrev ruleRead : Answer Rule → RuleRead
+ruleRead (given r) = IsRule r
+ruleRead (refusedAnswer r) = RuleRefused
+
+rule-back : (x : RuleRead) → ruleRead (ruleAnswer x) ≡ x
+rule-back (IsRule r) = refl
+rule-back RuleRefused = refl
+
+pub rule-one : (x y : RuleRead) → ruleAnswer x ≡ ruleAnswer y → x ≡ y
+rule-one = given-back ruleAnswer ruleRead rule-back

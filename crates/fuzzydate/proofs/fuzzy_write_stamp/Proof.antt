@@ -1,4 +1,5 @@
 use mathlib.Core.Path.{_∙_}
+use native.Mathlib.Omega.{arith}
 use lib.ListN.{length}
 use denote.Ref.{now}
 use borrow.Author.Needs.{needs}
@@ -18,7 +19,7 @@ coded-of :
 coded-of c =
     let a = c .before .before .before .args in
     let stamp = numbersStamp (a .year) (a .month) (a .day) (a .hour) (a .minute) (a .second) (a .millisecond) (a .west) (a .offset) in
-    coded (λ text p. rw (← (p .is)) (text-short stamp)) (writing stamp (length (now (a .text)))) (c .write-stamp .ensures .0)
+    coded (λ text p. rw (← (p .is)) (omega (arith, text-short stamp))) (writing stamp (length (now (a .text)))) (c .write-stamp .ensures .0)
 
 write-stamp-requires : tie.Need-write-stamp-requires
 write-stamp-requires c κs = search needs

@@ -8,10 +8,11 @@ use borrow.Author.Needs.{needs}
 use borrow.Author.Tests.{le-leb, lt-leb}
 use lib.ListN.{length, getD}
 use Rattle.digits.specs.Digits.{valueFrom}
+use Rattle.digits.proofs.Says.{cut-off}
 use Rattle.refusals.specs.Answers.{between}
 use Rattle.lexer.specs.Classes.{Digit}
 use Rattle.lexer.specs.Lex.{runEnd, isDigitAt, numberFrom, numberAt}
-use Rattle.lexer.proofs.Runs.{digit-stands, digits-on, digits-end, digit-more, digits-over, cut-off}
+use Rattle.lexer.proofs.Runs.{digit-stands, digits-on, digits-end, digit-more, digits-over}
 use Rattle.lexer.proofs.lex.number_at.Statement.{statement}
 use Rattle.lexer.proofs.lex.number_at.Tie as tie
 

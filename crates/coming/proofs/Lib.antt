@@ -1,0 +1,15 @@
+pub mod Lengths
+pub mod Division
+pub mod Counts
+pub mod Daily
+pub mod Weekly
+pub mod Dates
+pub mod Turns
+pub mod Monthly
+pub mod Sums
+pub mod Asked
+pub mod NextDay
+pub mod Moments
+pub mod Closed
+pub mod Entries
+pub mod Cases

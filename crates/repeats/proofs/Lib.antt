@@ -1,0 +1,12 @@
+pub mod Held
+pub mod Division
+pub mod Daily
+pub mod Weekly
+pub mod Dates
+pub mod Monthly
+pub mod Turns
+pub mod Sixteen
+pub mod Rules
+pub mod Begins
+pub mod Rows
+pub mod Laws

@@ -1,0 +1,6 @@
+pub mod Held
+pub mod Occurrences
+pub mod Courses
+pub mod Firsts
+pub mod Listing
+pub mod Cases

@@ -1,0 +1,13 @@
+-- `rules::draft::fills` meets its contract. Assumes nothing.
+use borrow.Author.Tests.{eq-eqb, ne-eqb}
+use Rattle.rules.proofs.draft.fills.Statement.{statement}
+use Rattle.rules.proofs.draft.fills.Tie as tie
+
+returns : tie.Need-returns
+returns c = rw (eq-eqb _ _ (c .if1 .taken))
+
+returns-2 : tie.Need-returns-2
+returns-2 c = rw (ne-eqb _ _ (c .if1 .left))
+
+pub fills-spec : {M : Type 1} → statement M
+fills-spec = tie.close (tie.spec returns returns-2)

@@ -1,0 +1,35 @@
+-- `test_repeats::write_list` is safe and ends.
+use mathlib.Core.Path.{sym}
+use lib.Seq.{length-take-le}
+use borrow.Author.Needs.{needs}
+use Rattle.test_repeats.proofs.write_list.Statement.{statement}
+use Rattle.test_repeats.proofs.write_list.Tie as tie
+
+slice-relend-prefix-fuzzy-list : tie.Need-slice-relend-prefix-fuzzy-list
+slice-relend-prefix-fuzzy-list c = search needs
+
+slice-aggregate-fuzzy-list : tie.Need-slice-aggregate-fuzzy-list
+slice-aggregate-fuzzy-list c = sym (length-take-le _ _ (c .before .before .before .pre))
+
+fuzzy-list-requires : tie.Need-fuzzy-list-requires
+fuzzy-list-requires c κs = search needs
+
+write-answer-requires : tie.Need-write-answer-requires
+write-answer-requires c κs = search needs
+
+same-length : tie.Need-same-length
+same-length c = search needs
+
+returns : tie.Need-returns
+returns c = search needs
+
+pub write-list-spec : {M : Type 1} → statement M
+write-list-spec =
+    tie.close
+    (tie.spec
+    slice-relend-prefix-fuzzy-list
+    slice-aggregate-fuzzy-list
+    fuzzy-list-requires
+    write-answer-requires
+    same-length
+    returns)
