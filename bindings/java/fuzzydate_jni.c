@@ -160,6 +160,39 @@ JNIEXPORT jlong JNICALL Java_fuzzydate_Calls_writePhrase(JNIEnv *env, jclass cal
     return give_bytes(env, answer, text, t);
 }
 
+JNIEXPORT jlong JNICALL Java_fuzzydate_Calls_list(JNIEnv *env, jclass calls, jbyteArray rule, jintArray start, jintArray moments) {
+    uint32_t s[FUZZY_MOMENT_NUMBERS], *m;
+    struct bytes r;
+    size_t room;
+    uint64_t answer;
+    (void)calls;
+    if (!take_numbers(env, start, FUZZY_MOMENT_NUMBERS, s) || !has_room(env, moments, 0) || !take_bytes(env, rule, &r)) return 0;
+    room = (size_t)(*env)->GetArrayLength(env, moments);
+    m = calloc(room > 0 ? room : 1, sizeof *m);
+    if (m == NULL) {
+        free(r.first);
+        raise_exception(env, "java/lang/OutOfMemoryError", "no memory for a copy of the moments");
+        return 0;
+    }
+    answer = fuzzy_list(r.first, r.length, SEVEN(s), m, room);
+    free(r.first);
+    give_numbers(env, answer, moments, (jsize)(FUZZY_MOMENT_NUMBERS * fuzzy_length(answer)), m);
+    free(m);
+    return (jlong)answer;
+}
+
+JNIEXPORT jlong JNICALL Java_fuzzydate_Calls_next(JNIEnv *env, jclass calls, jbyteArray rule, jintArray start, jintArray asked, jintArray moment) {
+    uint32_t s[FUZZY_MOMENT_NUMBERS], a[FUZZY_MOMENT_NUMBERS], m[FUZZY_MOMENT_NUMBERS];
+    struct bytes r;
+    uint64_t answer;
+    (void)calls;
+    if (!take_numbers(env, start, FUZZY_MOMENT_NUMBERS, s) || !take_numbers(env, asked, FUZZY_MOMENT_NUMBERS, a)) return 0;
+    if (!has_room(env, moment, FUZZY_MOMENT_NUMBERS) || !take_bytes(env, rule, &r)) return 0;
+    answer = fuzzy_next(r.first, r.length, SEVEN(s), SEVEN(a), m);
+    free(r.first);
+    return give_numbers(env, answer, moment, FUZZY_MOMENT_NUMBERS, m);
+}
+
 JNIEXPORT jint JNICALL Java_fuzzydate_Calls_number(JNIEnv *env, jclass calls, jlong answer) {
     (void)env;
     (void)calls;

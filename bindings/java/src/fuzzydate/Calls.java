@@ -32,6 +32,10 @@ final class Calls {
 
     static native long writePhrase(int[] moment, byte[] text);
 
+    static native long list(byte[] rule, int[] start, int[] moments);
+
+    static native long next(byte[] rule, int[] start, int[] asked, int[] moment);
+
     static native int number(long answer);
 
     static native int place(long answer);

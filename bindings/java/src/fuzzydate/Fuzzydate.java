@@ -2,7 +2,9 @@ package fuzzydate;
 
 import java.nio.charset.StandardCharsets;
 import java.time.LocalDateTime;
+import java.util.ArrayList;
 import java.util.Arrays;
+import java.util.List;
 
 /**
  * Reminder phrases such as "next friday at 3 pm", read at a now that the caller gives.
@@ -13,6 +15,9 @@ import java.util.Arrays;
  */
 public final class Fuzzydate {
     private static final byte[] NO_PHRASE = {};
+
+    /** The days of the calendar: no rule has more occurrences. */
+    private static final int DAYS = 3_652_059;
 
     private Fuzzydate() {}
 
@@ -86,6 +91,44 @@ public final class Fuzzydate {
     public static String writePhrase(LocalDateTime moment) throws Refusal {
         byte[] text = new byte[Calls.PHRASE_SIZE];
         return text(Calls.writePhrase(Moments.numbers(moment, Calls.MOMENT_NUMBERS), text), text);
+    }
+
+    /**
+     * The first occurrences of a repeating rule of RFC 5545 from a start on, in order, up to so many: the start itself, and then every one at its time of
+     * day, as far as COUNT, UNTIL and year 9999 allow. The rule is its text, as "FREQ=WEEKLY;INTERVAL=2;BYDAY=TU"; fuzzy.h says which are taken. Room is
+     * asked for as many as are wanted at most, whatever the rule has.
+     */
+    public static List<LocalDateTime> occurrences(byte[] rule, LocalDateTime start, int most) throws Refusal {
+        if (most < 0) {
+            throw new IllegalArgumentException("there are no fewer occurrences than none: " + most);
+        }
+        int[] moments = new int[Calls.MOMENT_NUMBERS * Math.min(most, DAYS)];
+        int count = Calls.length(Refusal.check(Calls.list(rule, Moments.numbers(start, Calls.MOMENT_NUMBERS), moments), NO_PHRASE));
+        List<LocalDateTime> listed = new ArrayList<>(count);
+        for (int row = 0; row < count; row++) {
+            listed.add(Moments.of(Arrays.copyOfRange(moments, Calls.MOMENT_NUMBERS * row, Calls.MOMENT_NUMBERS * (row + 1))));
+        }
+        return listed;
+    }
+
+    /** The first occurrences of a repeating rule. */
+    public static List<LocalDateTime> occurrences(String rule, LocalDateTime start, int most) throws Refusal {
+        return occurrences(bytes(rule), start, most);
+    }
+
+    /**
+     * Which occurrence comes next: of those from a start on the first at or after the asked moment, found without the ones before it. Where none is left,
+     * by COUNT, UNTIL or year 9999, it is refused.
+     */
+    public static LocalDateTime next(byte[] rule, LocalDateTime start, LocalDateTime asked) throws Refusal {
+        int[] numbers = Moments.numbers(start, Calls.MOMENT_NUMBERS), moment = new int[Calls.MOMENT_NUMBERS];
+        Refusal.check(Calls.next(rule, numbers, Moments.numbers(asked, Calls.MOMENT_NUMBERS), moment), NO_PHRASE);
+        return Moments.of(moment);
+    }
+
+    /** Which occurrence comes next. */
+    public static LocalDateTime next(String rule, LocalDateTime start, LocalDateTime asked) throws Refusal {
+        return next(bytes(rule), start, asked);
     }
 
     private static byte[] bytes(String text) {

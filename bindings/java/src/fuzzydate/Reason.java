@@ -16,7 +16,7 @@ public enum Reason {
     LARGE_SUM,
     /** Something is left behind what was read. */
     LEFT_OVER,
-    /** The now, or the moment to be written, is outside the years 1 to 9999. */
+    /** The now, the start, the asked moment or the one to be written is outside the years 1 to 9999. */
     NO_NOW,
     /** The phrase, or the ready phrase, has no sense. */
     NO_SENSE,
@@ -35,7 +35,13 @@ public enum Reason {
     /** The second or the millisecond isn't 0, which a phrase doesn't show. */
     NOT_WHOLE,
     /** The room that was lent is too short for the text; {@link Fuzzydate} lends enough. */
-    NO_ROOM;
+    NO_ROOM,
+    /** No RFC 5545 rule, or one outside those that are taken. */
+    NO_RULE,
+    /** The start doesn't match the rule, or lies past its UNTIL. */
+    NO_START,
+    /** No occurrence of the rule is at or after the asked moment. */
+    NO_NEXT;
 
     static Reason of(int number) {
         return values()[number - 1];

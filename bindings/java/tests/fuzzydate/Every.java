@@ -1,8 +1,10 @@
 package fuzzydate;
 
 import java.nio.charset.StandardCharsets;
+import java.time.LocalDate;
 import java.time.LocalDateTime;
 import java.time.OffsetDateTime;
+import java.time.temporal.ChronoUnit;
 import java.util.ArrayList;
 import java.util.Arrays;
 import java.util.Collections;
@@ -22,6 +24,8 @@ final class Every {
     private static final LocalDateTime NOW = LocalDateTime.of(2026, 2, 11, 9, 30, 15, 250_000_000);
     private static final LocalDateTime LEAP_DAY = LocalDateTime.of(2024, 2, 29, 12, 0);
     private static final LocalDateTime WHOLE = LocalDateTime.of(2026, 3, 4, 9, 5);
+    private static final LocalDateTime TUESDAY = LocalDateTime.of(2026, 2, 10, 9, 30, 15, 250_000_000);
+    private static final String TUESDAYS = "FREQ=WEEKLY;INTERVAL=2;BYDAY=TU";
     private static final int THREADS = 8;
     private static final int ROUNDS = 5;
 
@@ -229,6 +233,107 @@ final class Every {
         refusal(Reason.NOT_WHOLE, () -> Fuzzydate.writePhrase(WHOLE.withNano(1_000_000)), "a millisecond");
     }
 
+    private LocalDateTime coming(String rule, LocalDateTime asked) throws Refusal {
+        LocalDateTime next = Fuzzydate.next(rule, TUESDAY, asked);
+        same(Fuzzydate.next(rule.getBytes(StandardCharsets.UTF_8), TUESDAY, asked), next, rule + ", as bytes");
+        return next;
+    }
+
+    /** What is listed from Tuesday on, at its time of day; and at each of these which one comes next, and behind it, unless more were not listed. */
+    private void listed(String rule, int most, String... dates) throws Refusal {
+        List<LocalDateTime> wanted = new ArrayList<>();
+        for (String date : dates) {
+            wanted.add(LocalDate.parse(date).atTime(TUESDAY.toLocalTime()));
+        }
+        same(Fuzzydate.occurrences(rule, TUESDAY, most), wanted, rule);
+        same(Fuzzydate.occurrences(rule.getBytes(StandardCharsets.UTF_8), TUESDAY, most), wanted, rule + ", as bytes");
+        for (int i = 0; i < dates.length; i++) {
+            LocalDateTime after = wanted.get(i).plus(1, ChronoUnit.MILLIS);
+            same(coming(rule, wanted.get(i)), wanted.get(i), rule + ", asked at an occurrence");
+            if (i + 1 < dates.length) {
+                same(coming(rule, after), wanted.get(i + 1), rule + ", asked a millisecond after an occurrence");
+            } else if (dates.length < most) {
+                same(refusal(Reason.NO_NEXT, () -> coming(rule, after), rule).getMessage(), "no occurrence is left", rule);
+            }
+        }
+    }
+
+    private void rules() throws Refusal {
+        listed(TUESDAYS, 3, "2026-02-10", "2026-02-24", "2026-03-10");
+        listed("freq=weekly;byday=su,tu,su;interval=02", 4, "2026-02-10", "2026-02-15", "2026-02-24", "2026-03-01");
+        listed("FREQ=DAILY;UNTIL=20260212", 1000, "2026-02-10", "2026-02-11", "2026-02-12");
+        listed("FREQ=DAILY;UNTIL=20260212T093015", 9, "2026-02-10", "2026-02-11");
+        listed("FREQ=DAILY;UNTIL=20260212T093016;WKST=MO", 9, "2026-02-10", "2026-02-11", "2026-02-12");
+        listed("FREQ=MONTHLY;COUNT=2", 9, "2026-02-10", "2026-03-10");
+        listed("FREQ=MONTHLY;BYMONTHDAY=+10", 1, "2026-02-10");
+        listed(TUESDAYS, 0);
+        LocalDateTime last = LocalDateTime.of(9999, 12, 31, 9, 30, 15, 250_000_000);
+        same(Fuzzydate.occurrences("FREQ=DAILY", last.withDayOfMonth(30), 9), Arrays.asList(last.withDayOfMonth(30), last), "the last days");
+        same(coming("FREQ=DAILY", last), last, "the last day");
+        refusal(Reason.NO_NEXT, () -> coming("FREQ=DAILY", last.plus(1, ChronoUnit.MILLIS)), "behind the last day");
+        same(coming(TUESDAYS, LocalDateTime.of(1, 1, 1, 0, 0)), TUESDAY, "asked before the start");
+        same(coming(TUESDAYS, TUESDAY.minus(1, ChronoUnit.MILLIS)), TUESDAY, "asked a millisecond before the start");
+        same(coming(TUESDAYS, TUESDAY.withYear(2027)), LocalDateTime.parse("2027-02-23T09:30:15.250"), "asked a year later");
+        throwsA(IllegalArgumentException.class, () -> Fuzzydate.occurrences(TUESDAYS, TUESDAY, -1), "fewer occurrences than none");
+    }
+
+    /** A rule or a start that both calls refuse alike, with room and without; nothing is written. */
+    private void unlisted(byte[] rule, LocalDateTime start, Reason reason, String message) {
+        int[] from = Moments.numbers(start, 7), asked = Moments.numbers(TUESDAY, 7), numbers = new int[15];
+        for (int most : new int[] {0, 2}) {
+            same(refusal(reason, () -> Fuzzydate.occurrences(rule, start, most), message).getMessage(), message, "a rule not listed");
+        }
+        same(refusal(reason, () -> Fuzzydate.next(rule, start, TUESDAY), message).getMessage(), message, "a rule not asked");
+        same(Calls.list(rule, from, numbers), (long) reason.number(), message);
+        same(Calls.next(rule, from, asked, numbers), (long) reason.number(), message);
+        expect(Arrays.equals(numbers, new int[15]), "nothing written for what is refused");
+    }
+
+    private void unlisted(String rule, LocalDateTime start, Reason reason, String message) {
+        unlisted(rule.getBytes(StandardCharsets.UTF_8), start, reason, message);
+    }
+
+    private void refusedRules() {
+        for (String rule : new String[] {"", "FREQ=YEARLY", "RRULE:FREQ=DAILY", "FREQ=DAILY;", "FREQ=DAILY;COUNT=0", "FREQ=DAILY\0", "FREQ=DAILY\u00e9"}) {
+            unlisted(rule, TUESDAY, Reason.NO_RULE, "no repeating rule that is taken");
+        }
+        for (String rule : new String[] {"FREQ=WEEKLY;BYDAY=MO", "FREQ=MONTHLY;BYMONTHDAY=31", "FREQ=DAILY;UNTIL=20260210T093015"}) {
+            unlisted(rule, TUESDAY, Reason.NO_START, "the start is no occurrence of the rule");
+        }
+        for (int year : new int[] {LocalDateTime.MIN.getYear(), -1, 0, 10000, LocalDateTime.MAX.getYear()}) {
+            unlisted("FREQ=YEARLY", TUESDAY.withYear(year), Reason.NO_NOW, "the moment given is no date and time");
+            refusal(Reason.NO_NOW, () -> Fuzzydate.next(TUESDAYS, TUESDAY, TUESDAY.withYear(year)), "asked in the year " + year);
+        }
+        int[] numbers = new int[7];
+        String once = "FREQ=DAILY;COUNT=1";
+        int[] start = Moments.numbers(TUESDAY, 7), later = Moments.numbers(TUESDAY.plusDays(1), 7);
+        same(Calls.next(once.getBytes(StandardCharsets.UTF_8), start, later, numbers), (long) Reason.NO_NEXT.number(), once);
+        expect(Arrays.equals(numbers, new int[7]), "nothing written where none is left");
+    }
+
+    /** Rows are written as far as there are occurrences and whole rows of room; the numbers behind them stay. */
+    private void rows() {
+        int[] start = Moments.numbers(TUESDAY, 7);
+        for (String rule : new String[] {"FREQ=DAILY", "FREQ=DAILY;COUNT=1"}) {
+            int wanted = rule.equals("FREQ=DAILY") ? 2 : 1;
+            int[] numbers = new int[20];
+            Arrays.fill(numbers, 0xa5);
+            same(Calls.list(rule.getBytes(StandardCharsets.UTF_8), start, numbers), (long) wanted << 32, rule);
+            same(Moments.of(numbers), TUESDAY, rule + ": the first row");
+            for (int i = 7 * wanted; i < 20; i++) {
+                expect(numbers[i] == 0xa5, "numbers behind the rows");
+            }
+        }
+    }
+
+    /** The most that can be wanted. */
+    private void longest() throws Refusal {
+        LocalDateTime first = LocalDateTime.of(1, 1, 1, 9, 30);
+        List<LocalDateTime> months = Fuzzydate.occurrences("FREQ=MONTHLY", first, Integer.MAX_VALUE);
+        same(months.size(), 12 * 9999, "all months");
+        same(months.get(months.size() - 1), LocalDateTime.of(9999, 12, 1, 9, 30), "the last month");
+    }
+
     /** A part of a millisecond is never lost: it is said. */
     private void nanoseconds() throws Refusal {
         byte[] ready = Fuzzydate.makeReady(Reading.FIRST, "today");
@@ -238,6 +343,9 @@ final class Every {
             throwsA(IllegalArgumentException.class, () -> Fuzzydate.run(ready, now), "running at nanoseconds");
             throwsA(IllegalArgumentException.class, () -> Fuzzydate.writePhrase(now), "showing nanoseconds");
             throwsA(IllegalArgumentException.class, () -> new Stamp(now, Offset.UNKNOWN), "a stamp with nanoseconds");
+            throwsA(IllegalArgumentException.class, () -> Fuzzydate.occurrences("FREQ=DAILY", now, 1), "a start with nanoseconds");
+            throwsA(IllegalArgumentException.class, () -> Fuzzydate.next("FREQ=DAILY", now, WHOLE), "a start with nanoseconds to be asked from");
+            throwsA(IllegalArgumentException.class, () -> Fuzzydate.next("FREQ=DAILY", WHOLE, now), "asked at nanoseconds");
         }
         LocalDateTime last = WHOLE.withNano(999_000_000);
         same(Fuzzydate.run(ready, last), last, "999 milliseconds");
@@ -280,6 +388,13 @@ final class Every {
         throwsA(none, () -> Calls.findWord(1, today, null), "nothing to find to");
         throwsA(none, () -> Calls.writePhrase(null, bytes), "no moment to show");
         throwsA(none, () -> Calls.writePhrase(now, null), "no room for a phrase");
+        throwsA(none, () -> Calls.list(null, now, numbers), "no rule");
+        throwsA(none, () -> Calls.list(today, null, numbers), "no start");
+        throwsA(none, () -> Calls.list(today, now, null), "nothing to list to");
+        throwsA(none, () -> Calls.next(null, now, now, numbers), "no rule to be asked");
+        throwsA(none, () -> Calls.next(today, null, now, numbers), "no start to be asked from");
+        throwsA(none, () -> Calls.next(today, now, null, numbers), "no asked moment");
+        throwsA(none, () -> Calls.next(today, now, now, null), "no moment that comes next");
 
         Class<ArrayIndexOutOfBoundsException> few = ArrayIndexOutOfBoundsException.class;
         throwsA(few, () -> Calls.read(1, today, new int[6], numbers), "a now of six numbers");
@@ -291,6 +406,10 @@ final class Every {
         throwsA(few, () -> Calls.writeStamp(new int[8], bytes), "eight numbers of a stamp");
         throwsA(few, () -> Calls.findWord(1, today, new int[1]), "one number to find to");
         throwsA(few, () -> Calls.writePhrase(new int[6], bytes), "six numbers of a moment");
+        throwsA(few, () -> Calls.list(today, new int[6], numbers), "six numbers of a start");
+        throwsA(few, () -> Calls.next(today, new int[6], now, numbers), "six numbers of a start to be asked from");
+        throwsA(few, () -> Calls.next(today, now, new int[6], numbers), "six numbers of an asked moment");
+        throwsA(few, () -> Calls.next(today, now, now, new int[6]), "six numbers for what comes next");
         for (byte b : bytes) {
             expect(b == (byte) 0xa5, "bytes written by a refused call");
         }
@@ -318,6 +437,12 @@ final class Every {
         throwsA(none, () -> Fuzzydate.findWord(null, phrase), "no reading of a word");
         throwsA(none, () -> Fuzzydate.findWord(Reading.FIRST, (byte[]) null), "no word");
         throwsA(none, () -> Fuzzydate.writePhrase(null), "no moment to show");
+        throwsA(none, () -> Fuzzydate.occurrences((byte[]) null, NOW, 1), "no rule");
+        throwsA(none, () -> Fuzzydate.occurrences((String) null, NOW, 1), "no String of a rule");
+        throwsA(none, () -> Fuzzydate.occurrences("FREQ=DAILY", null, 1), "no start");
+        throwsA(none, () -> Fuzzydate.next((byte[]) null, NOW, NOW), "no rule to be asked");
+        throwsA(none, () -> Fuzzydate.next("FREQ=DAILY", null, NOW), "no start to be asked from");
+        throwsA(none, () -> Fuzzydate.next("FREQ=DAILY", NOW, null), "no asked moment");
     }
 
     /** A call that may be refused, with one of these reasons; and whether it was. */
@@ -345,6 +470,7 @@ final class Every {
             random.nextBytes(bytes);
             refusal(Reason.NO_SENSE, () -> Fuzzydate.run(bytes, NOW), "random bytes as a ready phrase");
             refusal(Reason.NO_STAMP, () -> Fuzzydate.readStamp(bytes), "random bytes as a stamp");
+            unlisted(bytes, TUESDAY, Reason.NO_RULE, "no repeating rule that is taken");
             for (Reading reading : Reading.values()) {
                 refusedWithin(Reason.TOO_LONG, Reason.NO_LEAP_DAY, () -> Fuzzydate.read(reading, bytes, NOW));
                 refusedWithin(Reason.TOO_LONG, Reason.LEFT_OVER, () -> Fuzzydate.makeReady(reading, bytes));
@@ -363,6 +489,22 @@ final class Every {
             byte[] damaged = flipped(text, bit);
             refusedWithin(Reason.OUTSIDE, Reason.NO_STAMP, () -> Fuzzydate.readStamp(damaged));
         }
+        damagedRules();
+    }
+
+    /** A rule with a bit changed, as of another number, is refused by both calls alike, or begins with the start in both. */
+    private void damagedRules() {
+        byte[] rule = (TUESDAYS + ";COUNT=3").getBytes(StandardCharsets.US_ASCII);
+        int kept = 0;
+        for (int bit = 0; bit < 8 * rule.length; bit++) {
+            byte[] damaged = flipped(rule, bit);
+            Call list = () -> Fuzzydate.occurrences(damaged, TUESDAY, 1).equals(Collections.singletonList(TUESDAY)) ? damaged : null;
+            Call next = () -> Fuzzydate.next(damaged, TUESDAY, TUESDAY).equals(TUESDAY) ? damaged : null;
+            boolean unlisted = refusedWithin(Reason.NO_RULE, Reason.NO_START, list);
+            same(refusedWithin(Reason.NO_RULE, Reason.NO_START, next), unlisted, "whether a damaged rule is refused");
+            kept += unlisted ? 0 : 1;
+        }
+        expect(kept > 0, "other rules");
     }
 
     private Every all(long seed) throws Refusal {
@@ -373,6 +515,9 @@ final class Every {
         offsets();
         words();
         phrases();
+        rules();
+        refusedRules();
+        rows();
         nanoseconds();
         calls();
         nulls();
@@ -382,12 +527,13 @@ final class Every {
     }
 
     public static void main(String[] arguments) throws Exception {
-        int checks = new Every().all(0).checks;
+        Every first = new Every().all(0);
+        first.longest();
         List<Callable<Void>> threads = new ArrayList<>();
         for (int i = 0; i < THREADS; i++) {
-            int first = 1 + i * ROUNDS;
+            int begin = 1 + i * ROUNDS;
             threads.add(() -> {
-                for (int seed = first; seed < first + ROUNDS; seed++) {
+                for (int seed = begin; seed < begin + ROUNDS; seed++) {
                     new Every().all(seed);
                 }
                 return null;
@@ -399,7 +545,7 @@ final class Every {
         for (Future<Void> end : ended) {
             end.get();
         }
-        System.out.println("bindings/java: every call answered as it should, by " + checks + " checks, and " + ROUNDS + " times in each of " + THREADS
+        System.out.println("bindings/java: every call answered as it should, by " + first.checks + " checks, and " + ROUNDS + " times in each of " + THREADS
                 + " threads at once");
     }
 }
