@@ -26,6 +26,7 @@ def _declare(name, *parts):
         "numbers lent": [numbers],
         "bytes lent": [ctypes.c_char_p],
         "text lent": [ctypes.c_char_p, ctypes.c_size_t],
+        "rows lent": [numbers, ctypes.c_size_t],
     }
     function = getattr(_library, name)
     function.argtypes = [kind for part in parts for kind in kinds[part]]
@@ -40,6 +41,8 @@ _read_stamp = _declare("fuzzy_read_stamp", "bytes", "numbers lent")
 _write_stamp = _declare("fuzzy_write_stamp", "moment", "number", "number", "text lent")
 _find_word = _declare("fuzzy_find_word", "number", "bytes", "numbers lent")
 _write_phrase = _declare("fuzzy_write_phrase", "moment", "text lent")
+_list = _declare("fuzzy_list", "bytes", "moment", "rows lent")
+_next = _declare("fuzzy_next", "bytes", "moment", "moment", "numbers lent")
 
 
 class Reading(enum.IntEnum):
@@ -75,6 +78,9 @@ class Reason(enum.IntEnum):
     NO_READING = 15, "no such reading"
     NOT_WHOLE = 16, "a phrase shows no seconds"
     NO_ROOM = 17, "no room for the text"
+    NO_RULE = 18, "no repeating rule that is taken"
+    NO_START = 19, "the start is no occurrence of the rule"
+    NO_NEXT = 20, "no occurrence is left"
 
 
 class Refusal(Exception):
@@ -177,3 +183,25 @@ def write_phrase(moment):
     """A moment of whole minutes as a phrase for people to edit, which read gives back at every now."""
     text = ctypes.create_string_buffer(_PHRASE_SIZE)
     return text[: _checked(_write_phrase(*_numbers(moment), text, _PHRASE_SIZE))].decode("ascii")
+
+
+def occurrences(rule, start, most):
+    """The first occurrences of a repeating rule of RFC 5545 from a start on, in order, up to so many.
+
+    The start itself, and then every one at its time of day, as far as COUNT, UNTIL and year 9999 allow. The rule is its text, as
+    "FREQ=WEEKLY;INTERVAL=2;BYDAY=TU"; fuzzy.h says which are taken. Room is asked for as many as are wanted at most, whatever the rule has.
+    """
+    # no rule has more occurrences than the calendar has days
+    rule, moments = _bytes(rule), (ctypes.c_uint32 * (_MOMENT_NUMBERS * min(most, 3_652_059)))()
+    count = _checked(_list(rule, len(rule), *_numbers(start), moments, len(moments)))
+    return [_moment(moments[_MOMENT_NUMBERS * row : _MOMENT_NUMBERS * (row + 1)]) for row in range(count)]
+
+
+def next(rule, start, asked):
+    """Which occurrence comes next: of those from a start on the first at or after the asked moment, found without the ones before it.
+
+    Where none is left, by COUNT, UNTIL or year 9999, it is refused.
+    """
+    rule, moment = _bytes(rule), (ctypes.c_uint32 * _MOMENT_NUMBERS)()
+    _checked(_next(rule, len(rule), *_numbers(start), *_numbers(asked), moment))
+    return _moment(moment)

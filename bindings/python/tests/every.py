@@ -13,6 +13,9 @@ from fuzzydate import FoundWord, Reading, Reason, Refusal, Stamp
 NOW = datetime(2026, 2, 11, 9, 30, 15, 250_000)
 LEAP_DAY = datetime(2024, 2, 29, 12)
 WHOLE = datetime(2026, 3, 4, 9, 5)
+TUESDAY = datetime(2026, 2, 10, 9, 30, 15, 250_000)
+TUESDAYS = "FREQ=WEEKLY;INTERVAL=2;BYDAY=TU"
+MILLISECOND = timedelta(milliseconds=1)
 THREADS = 8
 
 
@@ -124,6 +127,82 @@ def phrases():
             expect(fuzzydate.read(reading, fuzzydate.write_phrase(moment), NOW) == moment, "a phrase that was shown")
 
 
+def rules():
+    def on(month, day):
+        return TUESDAY.replace(month=month, day=day)
+
+    cases = [
+        (TUESDAYS, 3, [TUESDAY, on(2, 24), on(3, 10)]),
+        (b"freq=weekly;byday=su,tu,su;interval=02", 4, [TUESDAY, on(2, 15), on(2, 24), on(3, 1)]),
+        ("FREQ=DAILY;UNTIL=20260212", 1000, [TUESDAY, on(2, 11), on(2, 12)]),
+        (bytearray(b"FREQ=DAILY;UNTIL=20260212T093015"), 9, [TUESDAY, on(2, 11)]),
+        ("FREQ=MONTHLY;COUNT=2", 9, [TUESDAY, on(3, 10)]),
+        (TUESDAYS, 0, []),
+    ]
+    for rule, most, wanted in cases:
+        expect(fuzzydate.occurrences(rule, TUESDAY, most) == wanted, rule)
+        for moment, following in zip(wanted, wanted[1:] + [None]):
+            expect(fuzzydate.next(rule, TUESDAY, moment) == moment, rule)
+            if following is not None:
+                expect(fuzzydate.next(rule, TUESDAY, moment + MILLISECOND) == following, rule)
+            elif len(wanted) < most:
+                refused(Reason.NO_NEXT, fuzzydate.next, rule, TUESDAY, moment + MILLISECOND)
+    last = TUESDAY.replace(year=9999, month=12, day=31)
+    expect(fuzzydate.occurrences("FREQ=DAILY", last.replace(day=30), 9) == [last.replace(day=30), last], "the last days")
+    expect(fuzzydate.next("FREQ=DAILY", TUESDAY, last) == last, "the last day")
+    refused(Reason.NO_NEXT, fuzzydate.next, "FREQ=DAILY", TUESDAY, last + MILLISECOND)
+    for asked in (datetime.min, TUESDAY - MILLISECOND):
+        expect(fuzzydate.next(TUESDAYS, TUESDAY, asked) == TUESDAY, "asked before the start")
+
+
+def unlisted(reason, rule):
+    """A rule that both calls refuse alike, with room and without."""
+    for most in (0, 2):
+        refused(reason, fuzzydate.occurrences, rule, TUESDAY, most)
+    refused(reason, fuzzydate.next, rule, TUESDAY, TUESDAY)
+
+
+def refused_rules():
+    for rule in ("", "FREQ=YEARLY", "RRULE:FREQ=DAILY", "FREQ=DAILY;", "FREQ=DAILY;COUNT=0", b"FREQ=DAILY\0", "FREQ=DAILY\u00e9"):
+        unlisted(Reason.NO_RULE, rule)
+    for rule in ("FREQ=WEEKLY;BYDAY=MO", "FREQ=MONTHLY;BYMONTHDAY=31", "FREQ=DAILY;UNTIL=20260210T093015"):
+        unlisted(Reason.NO_START, rule)
+
+
+def rows():
+    """What is lent to listing and asking: rows at the front, all else as before, and nothing on a refusal."""
+    start, daily, once, mondays = (2026, 2, 10, 9, 30, 15, 250), b"FREQ=DAILY", b"FREQ=DAILY;COUNT=1", b"FREQ=WEEKLY;BYDAY=MO"
+    later, no_day = (2026, 2, 11, 9, 30, 15, 250), (2026, 2, 29, 9, 30, 15, 250)
+    kept = [0xA5] * 20
+    for rule, given, answer, written in [
+        (daily, start, 2 << 32, [*start, *later]),
+        (once, start, 1 << 32, [*start]),
+        (b"FREQ=YEARLY", start, Reason.NO_RULE, []),
+        (mondays, start, Reason.NO_START, []),
+        (b"FREQ=YEARLY", no_day, Reason.NO_NOW, []),
+    ]:
+        lent = (ctypes.c_uint32 * 20)(*kept)
+        expect(fuzzydate._list(rule, len(rule), *given, lent, 20) == answer, rule)
+        expect(list(lent) == written + kept[len(written) :], rule)
+    for rule, given, asked, answer, written in [
+        (daily, start, later, 0, [*later]),
+        (once, start, later, Reason.NO_NEXT, []),
+        (b"FREQ=YEARLY", start, later, Reason.NO_RULE, []),
+        (mondays, start, later, Reason.NO_START, []),
+        (mondays, no_day, later, Reason.NO_NOW, []),
+        (daily, start, no_day, Reason.NO_NOW, []),
+    ]:
+        lent = (ctypes.c_uint32 * 20)(*kept)
+        expect(fuzzydate._next(rule, len(rule), *given, *asked, lent) == answer, rule)
+        expect(list(lent) == written + kept[len(written) :], rule)
+
+
+def longest():
+    """The most that can be wanted."""
+    months = fuzzydate.occurrences("FREQ=MONTHLY", datetime.min, 2**70)
+    expect(len(months) == 12 * 9999 and months[-1] == datetime(9999, 12, 1), "all months")
+
+
 def misused():
     ready = fuzzydate.make_ready(1, "today")
     for now in (NOW.replace(microsecond=1), NOW.replace(tzinfo=timezone.utc)):
@@ -131,6 +210,9 @@ def misused():
         raises(ValueError, fuzzydate.run, ready, now)
         raises(ValueError, fuzzydate.write_phrase, now)
         raises(ValueError, fuzzydate.write_stamp, Stamp(now, 0))
+        raises(ValueError, fuzzydate.occurrences, TUESDAYS, now, 1)
+        raises(ValueError, fuzzydate.next, TUESDAYS, now, TUESDAY)
+        raises(ValueError, fuzzydate.next, TUESDAYS, TUESDAY, now)
     for reading in (0, 3, None, 2**32 + 1):
         raises(ValueError, fuzzydate.read, reading, "today", NOW)
     for phrase in (None, 5):
@@ -139,8 +221,11 @@ def misused():
         raises(TypeError, fuzzydate.run, phrase, NOW)
         raises(TypeError, fuzzydate.read_stamp, phrase)
         raises(TypeError, fuzzydate.find_word, 1, phrase)
+        raises(TypeError, fuzzydate.occurrences, phrase, TUESDAY, 1)
+        raises(TypeError, fuzzydate.next, phrase, TUESDAY, TUESDAY)
     raises(UnicodeEncodeError, fuzzydate.read, 1, "\ud800", NOW)
     raises(AttributeError, fuzzydate.read, 1, "today", None)
+    raises(ValueError, fuzzydate.occurrences, TUESDAYS, TUESDAY, -1)
 
 
 def garbage(seed):
@@ -149,6 +234,7 @@ def garbage(seed):
         some = chosen.randbytes(length)
         refused(Reason.NO_SENSE, fuzzydate.run, some, NOW)
         refused(Reason.NO_STAMP, fuzzydate.read_stamp, some)
+        unlisted(Reason.NO_RULE, some)
         expect(fuzzydate.find_word(2, some).comparisons <= 8, "comparisons")
         try:
             fuzzydate.read(2, some, NOW)
@@ -166,7 +252,7 @@ def as_the_header(header):
 
 
 def every(seed):
-    for part in (moments, refusals, below, stamps, words, phrases, misused):
+    for part in (moments, refusals, below, stamps, words, phrases, rules, refused_rules, rows, misused):
         part()
     garbage(seed)
 
@@ -174,6 +260,7 @@ def every(seed):
 with open(sys.argv[1]) as header:
     as_the_header(header.read())
 every(0)
+longest()
 with ThreadPoolExecutor(THREADS) as pool:
     list(pool.map(every, range(1, 1 + 2 * THREADS)))
 print(f"bindings/python: every call answered as it should, and in {THREADS} threads at once")
