@@ -25,7 +25,7 @@ public enum Reading: UInt32, Sendable {
 /// Why something is refused, under the names and in the order of fuzzy.h, which says more of each.
 public enum Reason: UInt32, Sendable {
     case tooLong = 1, unknown, largeDigits, tooMany, nothing, largeSum, leftOver, noNow, noSense, noDate, noTime, outside, noLeapDay
-    case noStamp, noReading, notWhole, noRoom
+    case noStamp, noReading, notWhole, noRoom, noRule, noStart, noNext
 
     /// What is wrong, in plain words.
     public var words: String { String(cString: fuzzy_word(rawValue)) }
@@ -139,6 +139,39 @@ public enum Fuzzydate {
         let answer = fuzzy_write_phrase(m.year, m.month, m.day, m.hour, m.minute, m.second, m.millisecond, &text, text.count)
         return String(decoding: text.prefix(try checked(answer)), as: UTF8.self)
     }
+
+    /// The first occurrences of a repeating rule of RFC 5545 from a start on, in order, up to so many: the start itself, and then every one at its time of
+    /// day, as far as COUNT, UNTIL and year 9999 allow. The rule is its text, as "FREQ=WEEKLY;INTERVAL=2;BYDAY=TU"; fuzzy.h says which are taken. Room is
+    /// asked for as many as are wanted at most, whatever the rule has.
+    public static func occurrences(_ rule: [UInt8], from s: Moment, most: UInt) throws -> [Moment] {
+        let size = Int(FUZZY_MOMENT_NUMBERS)
+        var moments = numbers(FUZZY_MOMENT_NUMBERS * Int32(min(most, days)))
+        let answer = fuzzy_list(
+            rule, rule.count, s.year, s.month, s.day, s.hour, s.minute, s.second, s.millisecond, &moments, moments.count)
+        return (0..<(try checked(answer))).map { Moment(Array(moments[size * $0..<size * ($0 + 1)])) }
+    }
+
+    public static func occurrences(_ rule: String, from start: Moment, most: UInt) throws -> [Moment] {
+        try occurrences(Array(rule.utf8), from: start, most: most)
+    }
+
+    /// Which occurrence comes next: of those from a start on the first at or after the asked moment, found without the ones before it. Where none is left,
+    /// by COUNT, UNTIL or year 9999, it is refused.
+    public static func next(_ rule: [UInt8], from s: Moment, asked a: Moment) throws -> Moment {
+        var moment = numbers(FUZZY_MOMENT_NUMBERS)
+        let answer = fuzzy_next(
+            rule, rule.count, s.year, s.month, s.day, s.hour, s.minute, s.second, s.millisecond, a.year, a.month, a.day, a.hour, a.minute, a.second,
+            a.millisecond, &moment)
+        _ = try checked(answer)
+        return Moment(moment)
+    }
+
+    public static func next(_ rule: String, from start: Moment, asked: Moment) throws -> Moment {
+        try next(Array(rule.utf8), from: start, asked: asked)
+    }
+
+    /// The days of the calendar: no rule has more occurrences.
+    private static let days: UInt = 3_652_059
 
     private static func numbers(_ count: Int32) -> [UInt32] {
         Array(repeating: 0, count: Int(count))
