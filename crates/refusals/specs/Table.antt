@@ -68,3 +68,15 @@ NotWhole = 16
 -- "a buffer too short"
 abbrev pub NoRoom : ℕ
 NoRoom = 17
+
+-- "21 for the file"
+abbrev pub NoZone : ℕ
+NoZone = 21
+
+-- "22 for a moment at or past the last transition"
+abbrev pub PastLast : ℕ
+PastLast = 22
+
+-- "23 for a time that doesn't occur"
+abbrev pub NoInstant : ℕ
+NoInstant = 23

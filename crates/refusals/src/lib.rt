@@ -70,3 +70,12 @@ pub const NOT_WHOLE: u8 = 16;
 
 // The buffer is too short.
 pub const NO_ROOM: u8 = 17;
+
+// The file is no zone: no TZif file of version 2 or later, or one that passes a bound.
+pub const NO_ZONE: u8 = 21;
+
+// The moment is at or past the zone's last transition.
+pub const PAST_LAST: u8 = 22;
+
+// The civil time doesn't occur in the zone.
+pub const NO_INSTANT: u8 = 23;
