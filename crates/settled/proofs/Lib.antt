@@ -15,5 +15,6 @@ pub mod Ready
 pub mod Records
 pub mod Stamp
 pub mod Shown
+pub mod Tzif
 pub mod Fuzzydate
 pub mod Text
