@@ -16,5 +16,6 @@ pub mod Records
 pub mod Stamp
 pub mod Shown
 pub mod Tzif
+pub mod Zones
 pub mod Fuzzydate
 pub mod Text

@@ -24,6 +24,9 @@ use Rattle.stamp.specs.Stamps.{stampAnswer}
 use Rattle.stamp.specs.declared.Stamp.{Stamp}
 use Rattle.stamp.specs.declared.read.StampRead.{StampRead}
 use Rattle.stamp.specs.declared.read.StampRead.the-variants.{Is as IsStamp, Refused as StampRefused}
+use Rattle.zones.specs.Civil.{answerOf}
+use Rattle.zones.specs.declared.search.Resolved.{Resolved}
+use Rattle.zones.specs.declared.search.Resolved.the-variants.{At as ResolvedAt, Refused as ResolvedRefused}
 use Rattle.answer.specs.Answer.{answerFrom}
 use Rattle.answer.specs.declared.Answered.{Answered}
 use Rattle.answer.specs.declared.Answered.the-variants.{At as AnsweredAt, Refused as AnsweredRefused}
@@ -129,3 +132,14 @@ stamp-back (StampRefused k) = refl
 
 pub stamp-one : (x y : StampRead) → stampAnswer x ≡ stampAnswer y → x ≡ y
 stamp-one = given-back stampAnswer stampRead stamp-back
+
+abbrev resolvedOf : Answer ℕ → Resolved
+resolvedOf (given s) = ResolvedAt s
+resolvedOf (refusedAnswer r) = ResolvedRefused (r .number)
+
+resolved-back : (x : Resolved) → resolvedOf (answerOf x) ≡ x
+resolved-back (ResolvedAt s) = refl
+resolved-back (ResolvedRefused k) = refl
+
+pub resolved-one : (x y : Resolved) → answerOf x ≡ answerOf y → x ≡ y
+resolved-one = given-back answerOf resolvedOf resolved-back

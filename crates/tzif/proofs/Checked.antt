@@ -89,11 +89,11 @@ unfolding zoneOf
 checked-zone l p e = rw e
 
 module _ (l : List ℕ) (p : Places) (k : Known l p) where
-  rows-bounded : (i n : ℕ) → i + n ≤ p .count → AllBounded (rowsFrom l p i n)
+  pub rows-bounded : (i n : ℕ) → i + n ≤ p .count → AllBounded (rowsFrom l p i n)
   rows-bounded i zero h = tt
   rows-bounded i (suc n) h = (k .row i (omega arith), rows-bounded (suc i) n (omega arith))
 
-  rows-ascending : (i n from : ℕ) → i + n ≤ p .count → (i < p .count → from ≤ timeAt l (p .times) i) → Ascending from (rowsFrom l p i n)
+  pub rows-ascending : (i n from : ℕ) → i + n ≤ p .count → (i < p .count → from ≤ timeAt l (p .times) i) → Ascending from (rowsFrom l p i n)
   rows-ascending i zero from h low = tt
   rows-ascending i (suc n) from h low = (low (omega arith), rows-ascending (suc i) n (timeAt l (p .times) i) (omega arith) next)
     where
