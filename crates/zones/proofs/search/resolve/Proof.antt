@@ -5,6 +5,7 @@ use mathlib.Core.Path.{_≡_, sym, ap, _∙_}
 use mathlib.Core.Bool.{and-eq-true-iff}
 use lib.Dec.{leb, ltb}
 use borrow.Author.Tests.{leb-true}
+use Rattle.refusals.specs.Answers.{Answer}
 use Rattle.tzif.specs.File.{zoneIn}
 use Rattle.tzif.proofs.Checked.{known}
 use Rattle.zones.specs.Civil.{resolve}
@@ -20,14 +21,22 @@ Inv-loop file p c count k₀ k = (k ≤ p .count) × (resolve (zoneIn file p) c 
 abbrev μ-loop : tie.MeasureT-loop
 μ-loop file p c count k₀ k = p .count - k
 
+-- what is asked for, and what the pieces from the one behind k transitions on say
+module _ (start : tie.Start Inv-loop μ-loop) where
+  abbrev asked : Answer ℕ
+  asked = resolve (zoneIn (start .args .file .now) (start .args .p)) (start .args .c)
+
+  abbrev said : ℕ → Answer ℕ
+  said k = resolveAt (start .args .file .now) (start .args .p) k (start .args .c)
+
 -- past a piece that does not hold it
 onward : (c : tie.Else1 Inv-loop μ-loop)
-    → resolve (zoneIn (c .before .before .before .before .before .before .before .before .before .args .file .now) (c .before .before .before .before .before .before .before .before .before .args .p)) (c .before .before .before .before .before .before .before .before .before .args .c)
-    ≡ resolveAt (c .before .before .before .before .before .before .before .before .before .args .file .now) (c .before .before .before .before .before .before .before .before .before .args .p) (c .before .before .before .before .before .before .loop .k + 1) (c .before .before .before .before .before .before .before .before .before .args .c)
+    → asked (c .before .before .before .before .before .before .before .before .before)
+    ≡ said (c .before .before .before .before .before .before .before .before .before)
+    (c .before .before .before .before .before .before .loop .k + 1)
 onward c =
     let piece = c .before .before in
-    let at = piece .before .before .before .before in
-    at .loop .inv .1
+    piece .before .before .before .before .loop .inv .1
     ∙ resolve-step _ _ _ _ (piece .before .before .before .loop-test .taken)
     ∙ rw (
       ← (piece .start-of .ensures .0),
