@@ -8,11 +8,12 @@ use mathlib.Core.List.{List}
 use mathlib.Core.Logic.{⊎-elim}
 use lib.Dec.{ltb, leb, eqb}
 use lib.ListN.{length}
-use borrow.Author.Tests.{ne-eqb, ltb-true}
+use borrow.Author.Tests.{eq-eqb, ne-eqb, ltb-true}
 use Rattle.refusals.specs.Answers.{given}
-use Rattle.tzif.specs.Zones.{yearOne, Ascending, Bounded, AllBounded, IsZone}
+use Rattle.digits.proofs.Order.{le-or-lt}
+use Rattle.tzif.specs.Zones.{Zone, yearOne, Ascending, Bounded, AllBounded, IsZone}
 use Rattle.tzif.specs.File.{octetAt, blockLength, timeAt, offsetAt, isHeader, secondAt, headerAt, isBlock, isAbove, lastAt, placesAt, blockOf, checkedOf}
-use Rattle.tzif.specs.File.{rowAt, rowsFrom, zoneIn, zoneOf}
+use Rattle.tzif.specs.File.{rowAt, rowsFrom, zoneIn, zoneBy, zoneOf}
 use Rattle.tzif.specs.declared.file.Header.{Header}
 use Rattle.tzif.specs.declared.file.Places.{Places}
 use Rattle.tzif.specs.declared.file.Checked.{Checked}
@@ -83,6 +84,17 @@ pub time-high : (l : List ℕ) (p : Places) → Known l p → (i : ℕ) → i < 
 unfolding yearOne
 time-high l p k i h = k .row i h .high
 
+-- and of the last one
+pub last-high : (l : List ℕ) (p : Places) → Known l p → p .last < 9223372290225540608
+unfolding lastAt
+last-high l p k = ⊎-elim some none (le-or-lt 1 (p .count))
+  where
+    some : 1 ≤ p .count → p .last < 9223372290225540608
+    some h = rw (k .last, ne-eqb (p .count) 0 (λ e. omega arith)) (time-high l p k (p .count - 1) (omega arith))
+
+    none : p .count < 1 → p .last < 9223372290225540608
+    none h = rw (k .last, eq-eqb (p .count) 0 (omega arith)) (omega arith)
+
 -- its zone is the one that is read at them
 pub checked-zone : (l : List ℕ) (p : Places) → checkedOf l ≡ Is p → zoneOf l ≡ given (zoneIn l p)
 unfolding zoneOf
@@ -109,3 +121,12 @@ module _ (l : List ℕ) (p : Places) (k : Known l p) where
     ascending = rows-ascending 0 (p .count) 0 (omega arith) (λ m. omega arith);
     bounded = rows-bounded 0 (p .count) (omega arith);
   }
+
+-- so every file's zone is
+pub zone-is : (l : List ℕ) (z : Zone) → zoneOf l ≡ given z → IsZone z
+unfolding zoneOf
+zone-is l z e = go (checkedOf l) refl e
+  where
+    go : (x : Checked) → checkedOf l ≡ x → zoneBy l x ≡ given z → IsZone z
+    go Refused f h = let y : _≡_ {A = ℕ} 0 1 = cc in absurd (omega arith)
+    go (Is p) f h = let same : zoneIn l p ≡ z = cc in subst IsZone same (known-zone l p (known l p f))

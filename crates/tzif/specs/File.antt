@@ -170,10 +170,11 @@ rowsFrom l p i (suc n) = rowAt l p i ∷ rowsFrom l p (suc i) n
 unfoldable pub zoneIn : List ℕ → Places → Zone
 zoneIn l p = record { first = offsetAt l (p .types) 0; rows = rowsFrom l p 0 (p .count) }
 
-abbrev zoneBy : List ℕ → Checked → Answer Zone
+-- or 21
+abbrev pub zoneBy : List ℕ → Checked → Answer Zone
 zoneBy l Refused = refuse NoZone 0 0
 zoneBy l (Is p) = given (zoneIn l p)
 
--- the zone of a file, or 21
+-- the zone of a file
 unfoldable pub zoneOf : List ℕ → Answer Zone
 zoneOf l = zoneBy l (checkedOf l)

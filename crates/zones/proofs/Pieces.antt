@@ -17,7 +17,7 @@ use Rattle.tzif.specs.Zones.{Row, Ascending, AllBounded}
 use Rattle.tzif.specs.File.{timeAt, offsetAt, lastAt, offsetBehind, rowAt, rowsFrom, zoneIn}
 use Rattle.tzif.specs.declared.file.Places.{Places}
 use Rattle.tzif.proofs.Checked.{Known, rows-bounded, rows-ascending}
-use Rattle.zones.specs.Civil.{shiftAt, resolveFrom, resolve}
+use Rattle.zones.specs.Civil.{shiftAt, lastOf, resolveFrom, lastIn, resolve}
 use Rattle.zones.specs.Search.{passedBy, firstPiece, resolveAt}
 use Rattle.zones.proofs.Searched.{behindBy, atOf, shiftOf, shift-passed, skips, stops}
 
@@ -83,6 +83,20 @@ module _ (l : List ℕ) (p : Places) where
       let rs = rowsFrom l p 0 (p .count) in
       shift-passed o rs s ∙ ap (behindBy shiftOf o rs) (sym e) ∙ behind-offset k h
 
+  -- the last of n transitions
+  last-rows : (from i n : ℕ) → lastOf from (rowsFrom l p i (suc n)) ≡ timeAt l (p .times) (i + n)
+  last-rows from i zero = ap (timeAt l (p .times)) (sym (add-zero i))
+  last-rows from i (suc n) =
+      let next : suc i + n ≡ i + suc n = omega arith in
+      last-rows (timeAt l (p .times) i) (suc i) n ∙ ap (timeAt l (p .times)) next
+
+  last-count : (n : ℕ) → lastAt l (p .times) n ≡ lastOf 0 (rowsFrom l p 0 n)
+  unfolding lastAt
+  last-count zero = refl
+  last-count (suc n) =
+      let back : suc n - 1 ≡ 0 + n = omega arith in
+      rw (ne-eqb (suc n) 0 (λ e. omega arith), back) (sym (last-rows 0 0 n))
+
   -- one transition more
   last-on : (k : ℕ) → lastAt l (p .times) (k + 1) ≡ timeAt l (p .times) k
   unfolding lastAt
@@ -110,6 +124,11 @@ module _ (l : List ℕ) (p : Places) where
   resolve-last c = let none : p .count - p .count ≡ 0 = omega arith in rw none
 
   module _ (k : Known l p) where
+    -- the last transition is the zone's
+    pub last-is : p .last ≡ lastIn (zoneIn l p)
+    unfolding zoneIn
+    last-is = k .last ∙ last-count (p .count)
+
     -- times in order
     pub rising : (i j : ℕ) → i ≤ j → j < p .count → timeAt l (p .times) i ≤ timeAt l (p .times) j
     rising i zero h m = let same : i ≡ 0 = omega arith in rw same (omega arith)

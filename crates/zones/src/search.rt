@@ -9,7 +9,7 @@ ghost use mathlib.Core.Bool.{_&&_};
 ghost use Prim.Native.Nat.{_+_, _≤_, _<_};
 ghost use lib.Dec.{leb, ltb};
 ghost use Rattle.tzif.specs.File.{IsChecked, lastAt, zoneIn};
-ghost use Rattle.zones.specs.Civil.{shiftAt, resolve, answerOf};
+ghost use Rattle.zones.specs.Civil.{shiftAt, civilOf, resolve, answerOf};
 ghost use Rattle.zones.specs.Search.{passedBy, firstPiece, resolveAt};
 
 // The instant of a civil second, or a refusal's number.
@@ -46,6 +46,14 @@ pub fn shift_at(file: &[u8], p: Places, s: u64) -> u64
 {
     let k = passed(file, p, s);
     offset_behind(file, p, k)
+}
+
+// The civil second of an instant before the last transition.
+pub fn civil_of(file: &[u8], p: Places, s: u64) -> u64
+    requires { ⌜ IsChecked (now file) p × (s < p .last) ⌝ }
+    ensures { λ r. ⌜ r ≡ civilOf (zoneIn (now (file .entry)) p) s ⌝ }
+{
+    s + shift_at(file, p, s)
 }
 
 // The first piece that can hold a civil second.
