@@ -28,6 +28,9 @@ use Rattle.rules.specs.Rules.{ruleAnswer}
 use Rattle.rules.specs.declared.Rule.{Rule}
 use Rattle.rules.specs.declared.read.RuleRead.{RuleRead}
 use Rattle.rules.specs.declared.read.RuleRead.the-variants.{Is as IsRule, Refused as RuleRefused}
+use Rattle.zones.specs.Civil.{answerOf}
+use Rattle.zones.specs.declared.search.Resolved.{Resolved}
+use Rattle.zones.specs.declared.search.Resolved.the-variants.{At as ResolvedAt, Refused as ResolvedRefused}
 use Rattle.answer.specs.Answer.{answerFrom}
 use Rattle.answer.specs.declared.Answered.{Answered}
 use Rattle.answer.specs.declared.Answered.the-variants.{At as AnsweredAt, Refused as AnsweredRefused}
@@ -144,3 +147,14 @@ rule-back RuleRefused = refl
 
 pub rule-one : (x y : RuleRead) → ruleAnswer x ≡ ruleAnswer y → x ≡ y
 rule-one = given-back ruleAnswer ruleRead rule-back
+
+abbrev resolvedOf : Answer ℕ → Resolved
+resolvedOf (given s) = ResolvedAt s
+resolvedOf (refusedAnswer r) = ResolvedRefused (r .number)
+
+resolved-back : (x : Resolved) → resolvedOf (answerOf x) ≡ x
+resolved-back (ResolvedAt s) = refl
+resolved-back (ResolvedRefused k) = refl
+
+pub resolved-one : (x y : Resolved) → answerOf x ≡ answerOf y → x ≡ y
+resolved-one = given-back answerOf resolvedOf resolved-back
