@@ -1,0 +1,10 @@
+pub mod Reached
+pub mod Resolved
+pub mod Joins
+pub mod Seconds
+pub mod Clocks
+pub mod Follows
+pub mod OneOffset
+pub mod Refuses
+pub mod Calls
+pub mod NewYork
