@@ -1,7 +1,7 @@
 -- The definitions by which promises speak of enums are different for different answers: each has a way back. Assumes nothing.
 use mathlib.Core.Path.{_≡_, refl, sym, ap, _∙_}
 use Prim.Native.Nat.{ℕ}
-use Rattle.calendar.specs.Moments.{Outcome, moment, refused, reachedOf}
+use Rattle.calendar.specs.Moments.{Reach, Outcome, moment, refused, reachedOf}
 use Rattle.calendar.specs.declared.moments.Reached.{Reached}
 use Rattle.calendar.specs.declared.moments.Reached.the-variants.{At, Refused}
 use Rattle.dates.specs.Parsed.{Parsed, is, nothing, overflow}
@@ -148,9 +148,9 @@ rule-back RuleRefused = refl
 pub rule-one : (x y : RuleRead) → ruleAnswer x ≡ ruleAnswer y → x ≡ y
 rule-one = given-back ruleAnswer ruleRead rule-back
 
-abbrev resolvedOf : Answer ℕ → Resolved
-resolvedOf (given s) = ResolvedAt s
-resolvedOf (refusedAnswer r) = ResolvedRefused (r .number)
+abbrev resolvedOf : Reach ℕ → Resolved
+resolvedOf (moment s) = ResolvedAt s
+resolvedOf (refused k) = ResolvedRefused k
 
 resolved-back : (x : Resolved) → resolvedOf (answerOf x) ≡ x
 resolved-back (ResolvedAt s) = refl

@@ -6,14 +6,15 @@ use mathlib.Core.List.{List}
 use lib.Dec.{leb, ltb}
 use borrow.Author.Tests.{leb-true, ltb-true}
 use Rattle.refusals.specs.Answers.{andThen}
-use Rattle.calendar.specs.Moments.{refused}
+use Rattle.calendar.specs.Moments.{refused, seconds}
 use Rattle.lexer.specs.Keywords.{wordsIn}
 use Rattle.lexer.specs.declared.reading.Reading.{Reading}
 use Rattle.phrase.specs.Read.{readOf}
 use Rattle.answer.specs.Answer.{placed}
 use Rattle.ready.specs.Ready.{readyOf}
 use Rattle.ready.proofs.ReadyPhrases.{Enters, ready-answers-in}
-use Rattle.zoned.specs.Zones.{Zone, civilOf, lastIn, civilOne, seconds, inYears, IsZone}
+use Rattle.tzif.specs.Zones.{Zone, IsZone}
+use Rattle.zones.specs.Civil.{civilOf, lastIn, civilOne, inYears}
 use Rattle.zoned.specs.InZone.{Instant, inZone, enterAt, evaluateAt, runAt}
 use Rattle.zoned.proofs.Joins.{Good, zone-lawful}
 

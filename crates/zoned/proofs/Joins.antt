@@ -6,16 +6,16 @@ use mathlib.Core.Bool.{Bool, true, false}
 use mathlib.Core.List.{List, [], _∷_}
 use mathlib.Core.Logic.{⊎-elim}
 use borrow.Author.Tests.{le-leb, lt-leb, lt-ltb, le-ltb}
-use Rattle.calendar.specs.Moments.{Reach, moment, refused, andThen}
+use Rattle.calendar.specs.Moments.{Reach, moment, refused, andThen, seconds, secondNumber}
 use Rattle.calendar.specs.declared.moments.Moment.{Moment}
 use Rattle.calendar.proofs.Outcomes.{then-assoc}
 use Rattle.evaluation.specs.Worlds.{Lawful}
-use Rattle.zoned.specs.Zones.{Row, Zone, shiftAt, lastOf, civilOf, lastIn, resolve, yearOne, civilOne, seconds}
-use Rattle.zoned.specs.Zones.{secondNumber, secondOfMoment, Bounded, AllBounded, IsZone}
+use Rattle.tzif.specs.Zones.{Row, Zone, yearOne, Bounded, AllBounded, IsZone}
+use Rattle.zones.specs.Civil.{shiftAt, lastOf, civilOf, lastIn, resolve, civilOne, secondOfMoment}
 use Rattle.zoned.specs.InZone.{Instant, instantBy, withMillisecond, arrive, fixedFrom, instantAt, inZone}
 use Rattle.digits.proofs.Order.{le-or-lt}
 use Rattle.zoned.proofs.Reached.{through}
-use Rattle.zoned.proofs.Resolved.{resolve-earliest}
+use Rattle.zones.proofs.Resolved.{resolve-earliest}
 
 -- every offset is below the bound
 shift-below : (o : ℕ) (rs : List Row) → o < 183600 → AllBounded rs → (s : ℕ) → shiftAt o rs s < 183600

@@ -1,7 +1,5 @@
 pub mod Reached
-pub mod Resolved
 pub mod Joins
-pub mod Seconds
 pub mod Clocks
 pub mod Follows
 pub mod OneOffset

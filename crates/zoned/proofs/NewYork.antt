@@ -1,8 +1,8 @@
 -- The bounds are met: New York's zone of the worked cases is one.
 use native.Mathlib.Omega.{arith}
 use mathlib.Core.Logic.{inr}
-use Rattle.zoned.specs.Zones.{yearOne, IsZone}
-use Rattle.zoned.specs.ZoneCases.{newYork}
+use Rattle.tzif.specs.Zones.{yearOne, IsZone}
+use Rattle.zones.specs.Cases.{newYork}
 
 pub new-york-zone : IsZone newYork
 unfolding yearOne

@@ -8,15 +8,16 @@ use mathlib.Core.List.{[], _∷_}
 use mathlib.Core.Logic.{⊎-elim}
 use borrow.Author.Tests.{lt-leb}
 use Rattle.digits.proofs.Order.{le-or-lt}
-use Rattle.calendar.specs.Moments.{moment, Outcome, IsMoment, minutesStep}
+use Rattle.calendar.specs.Moments.{moment, Outcome, IsMoment, minutesStep, seconds, momentAt}
 use Rattle.phrase.specs.Tree.{DateTime}
 use Rattle.evaluation.specs.Worlds.{offset}
 use Rattle.evaluation.specs.Evaluate.{evaluateIn, evaluate}
 use Rattle.answer.proofs.Leads.{Leads, leads, refuses}
-use Rattle.zoned.specs.Zones.{Row, Zone, shiftAt, civilOf, lastIn, resolve, civilOne, seconds, momentAt, momentOfSecond, secondOfMoment, IsZone}
+use Rattle.tzif.specs.Zones.{Row, Zone, IsZone}
+use Rattle.zones.specs.Civil.{shiftAt, civilOf, lastIn, resolve, civilOne, momentOfSecond, secondOfMoment}
 use Rattle.zoned.specs.InZone.{Instant, instantBy, arrive, fixedFrom, clockOf, inZone}
 use Rattle.zoned.proofs.Reached.{through}
-use Rattle.zoned.proofs.Seconds.{later-second, earlier-second}
+use Rattle.calendar.proofs.Seconds.{later-second, earlier-second}
 use Rattle.zoned.proofs.Joins.{Good, high, arrive-past, arrive-in, arrive-low, back-in, back-out, fixed-keeps, zone-lawful}
 use Rattle.zoned.proofs.Clocks.{settle-civil, good-moment}
 use Rattle.zoned.proofs.Follows.{Led, Follows, tree-follows}

@@ -7,7 +7,7 @@ use mathlib.Core.List.{[], _∷_}
 use mathlib.Core.Logic.{_⊎_, inl, inr, ⊎-elim}
 use borrow.Author.Tests.{lt-leb}
 use Rattle.digits.proofs.Order.{le-or-lt}
-use Rattle.calendar.specs.Moments.{Reach, moment, refused, andThen, Outcome, minutesStep, monthsStep, yearsStep, withTime, firstMoment}
+use Rattle.calendar.specs.Moments.{Reach, moment, refused, andThen, Outcome, minutesStep, monthsStep, yearsStep, withTime, firstMoment, momentAt}
 use Rattle.calendar.specs.declared.moments.Moment.{Moment}
 use Rattle.calendar.proofs.Places.{minute-at}
 use Rattle.dates.specs.Durations.{Duration, part, concat}
@@ -20,9 +20,10 @@ use Rattle.evaluation.specs.Worlds.{World, offset}
 use Rattle.evaluation.specs.Steps.{unitIn, partIn, durationIn}
 use Rattle.evaluation.specs.Times.{timeAt}
 use Rattle.evaluation.specs.Evaluate.{dateExprAt, evaluateIn, evaluate}
-use Rattle.zoned.specs.Zones.{Row, Zone, shiftAt, civilOf, lastIn, yearOne, civilOne, resolve, momentAt, momentOfSecond, secondOfMoment, IsZone}
+use Rattle.tzif.specs.Zones.{Row, Zone, yearOne, IsZone}
+use Rattle.zones.specs.Civil.{shiftAt, civilOf, lastIn, civilOne, resolve, momentOfSecond, secondOfMoment}
 use Rattle.zoned.specs.InZone.{Instant, withMillisecond, arrive, fixedFrom, clockOf, inZone}
-use Rattle.zoned.proofs.Resolved.{only-22-23}
+use Rattle.zones.proofs.Resolved.{only-22-23}
 use Rattle.zoned.proofs.Joins.{Good, border, arrive-past, arrive-in, arrive-low, back-in, back-out}
 use Rattle.zoned.proofs.Follows.{Follows, part-led, tree-led}
 use Rattle.zoned.proofs.OneOffset.{Shown, single, one-shift, follows}

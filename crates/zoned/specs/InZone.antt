@@ -11,7 +11,8 @@ use Rattle.evaluation.specs.Worlds.{World}
 use Rattle.evaluation.specs.Evaluate.{evaluateIn}
 use Rattle.steps.specs.Running.{runIn}
 use Rattle.steps.specs.declared.plan.Step.{Step}
-use Rattle.zoned.specs.Zones.{Zone, civilOf, lastIn, resolve, inYears, momentOfSecond, secondOfMoment}
+use Rattle.tzif.specs.Zones.{Zone}
+use Rattle.zones.specs.Civil.{civilOf, lastIn, resolve, inYears, momentOfSecond, secondOfMoment}
 
 -- an instant: its second, 2^63 added, and the millisecond
 pub record Instant : Type 0 where
@@ -29,7 +30,7 @@ withMillisecond ms r = andThen r (λ s. moment (instantBy s ms))
 module _ (z : Zone) where
   -- a second that a fixed length leads to: "22 .. before 12 at a fixed step on the instant"
   abbrev pub arrive : ℕ → Reach ℕ
-  arrive s = cond (ltb s (lastIn z)) (cond (inYears (civilOf z s)) (moment s) (refused refusal.Outside)) (refused 22)
+  arrive s = cond (ltb s (lastIn z)) (cond (inYears (civilOf z s)) (moment s) (refused refusal.Outside)) (refused refusal.PastLast)
 
   -- so many minutes from a second, back or on: "Fixed steps after a time or after now act on the instant"
   abbrev pub fixedFrom : Bool → ℕ → ℕ → Reach ℕ
@@ -54,7 +55,7 @@ module _ (z : Zone) where
 
   -- a call at an instant: 8 for, "before the last transition, a civil now outside years 1 to 9999"; "22 .. for now itself"
   abbrev pub enterSecond : Instant → (Instant → Reach Instant) → Reach Instant
-  enterSecond n go = cond (ltb (n .second) (lastIn z)) (cond (inYears (civilOf z (n .second))) (go n) (refused refusal.NoNow)) (refused 22)
+  enterSecond n go = cond (ltb (n .second) (lastIn z)) (cond (inYears (civilOf z (n .second))) (go n) (refused refusal.NoNow)) (refused refusal.PastLast)
 
   -- "8 for milliseconds above 999", and "22 .. just after 8"
   abbrev pub enterAt : Instant → (Instant → Reach Instant) → Reach Instant

@@ -17,20 +17,9 @@ use Rattle.evaluation.specs.Weekdays.{daysBack}
 use Rattle.evaluation.specs.Evaluate.{evaluateIn}
 use Rattle.steps.specs.Running.{runIn}
 use Rattle.ready.specs.Made.{exprSteps, treeSteps, stepsOf}
-use Rattle.zoned.specs.Zones.{Row, Zone, yearOne}
+use Rattle.tzif.specs.Zones.{yearOne}
+use Rattle.zones.specs.Cases.{newYork}
 use Rattle.zoned.specs.InZone.{Instant, instantBy, evaluateAt, runAt}
-
--- a transition
-abbrev row : ℕ → ℕ → Row
-row a o = record { at = a; shift = o }
-
--- local time, then -05:00 and -04:00: a gap at 2026-03-08 02:00, an overlap at 2026-11-01 01:00, and the last transition 2027-03-07T23:00:00Z
-abbrev pub newYork : Zone
-newYork =
-    record {
-      first = 72238;
-      rows = row 9223372034137125008 72000 ∷ row 9223372038627729008 75600 ∷ row 9223372038648288608 72000 ∷ row 9223372038659236208 75600 ∷ [];
-    }
 
 -- a reading at an instant, and its answer
 pub record Case : Type 0 where

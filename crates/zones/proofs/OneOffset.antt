@@ -5,7 +5,7 @@ use mathlib.Core.Path.{_≡_}
 use mathlib.Core.List.{List, [], _∷_}
 use mathlib.Core.Logic.{⊎-elim}
 use borrow.Author.Tests.{le-leb, lt-leb, lt-ltb, le-ltb}
-use Rattle.refusals.specs.Answers.{given}
+use Rattle.calendar.specs.Moments.{moment}
 use Rattle.digits.proofs.Order.{le-or-lt}
 use Rattle.tzif.specs.Zones.{Row, Zone, Ascending}
 use Rattle.zones.specs.Civil.{shiftAt, lastOf, resolveFrom, civilOf, lastIn, resolve}
@@ -25,7 +25,7 @@ one-shift o from (r ∷ q ∷ rs) s h l k =
     (le-or-lt (r .at) s)
 
 -- the instant before it
-one-resolve : (o from : ℕ) (rs : List Row) (c : ℕ) → OneOffset o rs → from + o ≤ c → c < lastOf from rs + o → resolveFrom from o rs c ≡ given (c - o)
+one-resolve : (o from : ℕ) (rs : List Row) (c : ℕ) → OneOffset o rs → from + o ≤ c → c < lastOf from rs + o → resolveFrom from o rs c ≡ moment (c - o)
 one-resolve o from [] c h l k = absurd (omega arith)
 one-resolve o from (r ∷ []) c h l k = rw (le-leb (from + o) c l, lt-ltb c (r .at + o) k)
 one-resolve o from (r ∷ q ∷ rs) c h l k =
@@ -36,5 +36,5 @@ module _ (z : Zone) (h : OneOffset (z .first) (z .rows)) where
   pub one-civil : (s : ℕ) → s < lastIn z → civilOf z s ≡ s + z .first
   one-civil s k = rw (one-shift (z .first) 0 (z .rows) s h (omega arith) k)
 
-  pub one-instant : (c : ℕ) → z .first ≤ c → c < lastIn z + z .first → resolve z c ≡ given (c - z .first)
+  pub one-instant : (c : ℕ) → z .first ≤ c → c < lastIn z + z .first → resolve z c ≡ moment (c - z .first)
   one-instant c l k = one-resolve (z .first) 0 (z .rows) c h (omega arith) k

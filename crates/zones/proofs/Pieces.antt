@@ -11,7 +11,7 @@ use lib.Dec.{leb, ltb}
 use lib.ListN.{drop}
 use borrow.Author.Tests.{le-leb, lt-leb, ne-eqb}
 use Rattle.refusals.specs.Table.{PastLast, NoInstant}
-use Rattle.refusals.specs.Answers.{Answer, given, refuse}
+use Rattle.calendar.specs.Moments.{Reach, moment, refused}
 use Rattle.digits.proofs.Order.{le-or-lt, Tri, below, equal, above, tri}
 use Rattle.tzif.specs.Zones.{Row, Ascending, AllBounded}
 use Rattle.tzif.specs.File.{timeAt, offsetAt, lastAt, offsetBehind, rowAt, rowsFrom, zoneIn}
@@ -110,7 +110,7 @@ module _ (l : List ℕ) (p : Places) where
   pub resolve-step : (k c : ℕ) → k < p .count
       → resolveAt l p k c
       ≡ cond (leb (lastAt l (p .times) k + offsetBehind l p k) c && ltb c (timeAt l (p .times) k + offsetBehind l p k))
-      (given (c - offsetBehind l p k)) (resolveAt l p (k + 1) c)
+      (moment (c - offsetBehind l p k)) (resolveAt l p (k + 1) c)
   unfolding resolveAt
   resolve-step k c h =
       let more : p .count - k ≡ suc (p .count - (k + 1)) = omega arith in
@@ -119,7 +119,7 @@ module _ (l : List ℕ) (p : Places) where
   -- the last piece
   pub resolve-last : (c : ℕ)
       → resolveAt l p (p .count) c
-      ≡ cond (leb (lastAt l (p .times) (p .count) + offsetBehind l p (p .count)) c) (refuse PastLast 0 0) (refuse NoInstant 0 0)
+      ≡ cond (leb (lastAt l (p .times) (p .count) + offsetBehind l p (p .count)) c) (refused PastLast) (refused NoInstant)
   unfolding resolveAt
   resolve-last c = let none : p .count - p .count ≡ 0 = omega arith in rw none
 
@@ -163,7 +163,7 @@ module _ (l : List ℕ) (p : Places) where
         near m = let same : i ≡ 0 = rw (lt-leb 183599 c m) at e in rw same (resolve-near c)
 
     -- no piece behind one that ends at c or later has it
-    pub resolve-stop : (i c : ℕ) → i < p .count → c ≤ timeAt l (p .times) i → resolveAt l p (i + 1) c ≡ refuse NoInstant 0 0
+    pub resolve-stop : (i c : ℕ) → i < p .count → c ≤ timeAt l (p .times) i → resolveAt l p (i + 1) c ≡ refused NoInstant
     unfolding resolveAt
     resolve-stop i c h m =
         rw (last-on i, offset-on i)

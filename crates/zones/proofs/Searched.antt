@@ -7,7 +7,7 @@ use mathlib.Core.Logic.{⊎-elim}
 use lib.ListN.{drop}
 use borrow.Author.Tests.{le-leb, lt-leb, le-ltb}
 use Rattle.refusals.specs.Table.{NoInstant}
-use Rattle.refusals.specs.Answers.{refuse}
+use Rattle.calendar.specs.Moments.{refused}
 use Rattle.digits.proofs.Order.{le-or-lt}
 use Rattle.tzif.specs.Zones.{Row, Ascending, AllBounded}
 use Rattle.zones.specs.Civil.{shiftAt, resolveFrom}
@@ -47,7 +47,7 @@ skips from o (r ∷ rs) c e h b k =
 
 -- and no piece that begins at c or later has it
 pub stops : (from o : ℕ) (rs : List Row) (c : ℕ) → 0 < o → AllBounded rs → Ascending from rs → c ≤ from
-    → resolveFrom from o rs c ≡ refuse NoInstant 0 0
+    → resolveFrom from o rs c ≡ refused NoInstant
 stops from o [] c h b a k = rw (lt-leb (from + o) c (omega arith))
 stops from o (r ∷ rs) c h b a k =
     rw (lt-leb (from + o) c (omega arith)) (stops (r .at) (r .shift) rs c (b .0 .some) (b .1) (a .1) (omega (arith, a .0)))

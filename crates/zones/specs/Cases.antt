@@ -2,7 +2,7 @@
 use Prim.Native.Nat.{ℕ, _+_, _-_}
 use mathlib.Core.Path.{_≡_, refl}
 use mathlib.Core.List.{List, [], _∷_, map}
-use Rattle.refusals.specs.Answers.{Answer, given, refuse}
+use Rattle.calendar.specs.Moments.{Reach, moment, refused}
 use Rattle.tzif.specs.Zones.{Row, Zone}
 use Rattle.zones.specs.Civil.{shiftAt, resolve}
 
@@ -20,36 +20,36 @@ abbrev row : ℕ → ℕ → Row
 row a o = record { at = a; shift = o }
 
 -- New York's clocks: local time, then -05:00 and -04:00
-abbrev newYork : Zone
+abbrev pub newYork : Zone
 newYork = record { first = 72238; rows = row 9223372034137125008 72000 ∷ row march 75600 ∷ row november 72000 ∷ row last 75600 ∷ [] }
 
 -- a civil second and its instant
 pub record Case : Type 0 where
   pub civil : ℕ
-  pub instant : Answer ℕ
+  pub instant : Reach ℕ
 
-abbrev case : ℕ → Answer ℕ → Case
+abbrev case : ℕ → Reach ℕ → Case
 case c a = record { civil = c; instant = a }
 
 unfoldable pub cases : List Case
 cases =
     -- the gap: its first and its last second don't occur
-    case (march + 71999) (given (march - 1))
-    ∷ case (march + 72000) (refuse 23 0 0)
-    ∷ case (march + 75599) (refuse 23 0 0)
-    ∷ case (march + 75600) (given march)
+    case (march + 71999) (moment (march - 1))
+    ∷ case (march + 72000) (refused 23)
+    ∷ case (march + 75599) (refused 23)
+    ∷ case (march + 75600) (moment march)
     -- the overlap: its first and its last second are the earlier of two
-    ∷ case (november + 71999) (given (november - 3601))
-    ∷ case (november + 72000) (given (november - 3600))
-    ∷ case (november + 75599) (given (november - 1))
-    ∷ case (november + 75600) (given (november + 3600))
+    ∷ case (november + 71999) (moment (november - 3601))
+    ∷ case (november + 72000) (moment (november - 3600))
+    ∷ case (november + 75599) (moment (november - 1))
+    ∷ case (november + 75600) (moment (november + 3600))
     -- the last transition
-    ∷ case (last + 71999) (given (last - 1))
-    ∷ case (last + 72000) (refuse 23 0 0)
-    ∷ case (last + 75599) (refuse 23 0 0)
-    ∷ case (last + 75600) (refuse 22 0 0)
+    ∷ case (last + 71999) (moment (last - 1))
+    ∷ case (last + 72000) (refused 23)
+    ∷ case (last + 75599) (refused 23)
+    ∷ case (last + 75600) (refused 22)
     -- before the first transition type 0 holds
-    ∷ case (9223372034137125008 + 72237) (given 9223372034137125007)
+    ∷ case (9223372034137125008 + 72237) (moment 9223372034137125007)
     ∷ []
 
 pub cases-as-listed : map (λ c. resolve newYork (c .civil)) cases ≡ map (λ c. c .instant) cases
@@ -63,5 +63,5 @@ pub shifts-as-listed :
 shifts-as-listed = refl
 
 -- "all, if there is none"
-pub none-known : resolve (record { first = 90000; rows = [] }) march ≡ refuse 22 0 0
+pub none-known : resolve (record { first = 90000; rows = [] }) march ≡ refused 22
 none-known = refl

@@ -4,7 +4,7 @@ use mathlib.Core.Bool.{Bool, cond, _&&_}
 use mathlib.Core.List.{List, [], _∷_}
 use lib.Dec.{leb, ltb}
 use Rattle.refusals.specs.Table.{PastLast, NoInstant}
-use Rattle.refusals.specs.Answers.{Answer, given, refuse}
+use Rattle.calendar.specs.Moments.{Reach, moment, refused}
 use Rattle.calendar.specs.Moments.{secondNumber, seconds, momentAt}
 use Rattle.calendar.specs.declared.moments.Moment.{Moment}
 use Rattle.tzif.specs.Zones.{Row, Zone, yearOne}
@@ -22,10 +22,10 @@ lastOf from [] = from
 lastOf from (r ∷ rs) = lastOf (r .at) rs
 
 -- the pieces in order: the first that has c. 22: "a moment at or past the last transition". 23: "a time that doesn't occur".
-abbrev pub resolveFrom : ℕ → ℕ → List Row → ℕ → Answer ℕ
-resolveFrom from o [] c = cond (leb (from + o) c) (refuse PastLast 0 0) (refuse NoInstant 0 0)
+abbrev pub resolveFrom : ℕ → ℕ → List Row → ℕ → Reach ℕ
+resolveFrom from o [] c = cond (leb (from + o) c) (refused PastLast) (refused NoInstant)
 resolveFrom from o (r ∷ rs) c =
-    cond (leb (from + o) c && ltb c (r .at + o)) (given (c - o)) (resolveFrom (r .at) (r .shift) rs c)
+    cond (leb (from + o) c && ltb c (r .at + o)) (moment (c - o)) (resolveFrom (r .at) (r .shift) rs c)
 
 module _ (z : Zone) where
   -- the civil second of an instant
@@ -37,13 +37,13 @@ module _ (z : Zone) where
   lastIn = lastOf 0 (z .rows)
 
   -- the instant of a civil second: "A civil time that occurs twice is the earlier"
-  abbrev pub resolve : ℕ → Answer ℕ
+  abbrev pub resolve : ℕ → Reach ℕ
   resolve c = resolveFrom 0 (z .first) (z .rows) c
 
 -- the code's answer
-abbrev pub answerOf : Resolved → Answer ℕ
-answerOf (At s) = given s
-answerOf (Refused k) = refuse k 0 0
+abbrev pub answerOf : Resolved → Reach ℕ
+answerOf (At s) = moment s
+answerOf (Refused k) = refused k
 
 -- the first civil second of year 1
 abbrev pub civilOne : ℕ

@@ -3,7 +3,7 @@ use Prim.Native.Nat.{ℕ, suc, _-_}
 use mathlib.Core.Bool.{cond}
 use mathlib.Core.List.{List, [], _∷_}
 use lib.Dec.{leb}
-use Rattle.refusals.specs.Answers.{Answer}
+use Rattle.calendar.specs.Moments.{Reach}
 use Rattle.tzif.specs.Zones.{Row}
 use Rattle.tzif.specs.File.{lastAt, offsetBehind, rowsFrom}
 use Rattle.tzif.specs.declared.file.Places.{Places}
@@ -19,5 +19,5 @@ unfoldable pub firstPiece : ℕ → List Row → ℕ
 firstPiece c rs = cond (leb 183599 c) (passedBy (c - 183599) rs) 0
 
 -- what the pieces from the one behind k transitions on say of c
-unfoldable pub resolveAt : List ℕ → Places → ℕ → ℕ → Answer ℕ
+unfoldable pub resolveAt : List ℕ → Places → ℕ → ℕ → Reach ℕ
 resolveAt l p k c = resolveFrom (lastAt l (p .times) k) (offsetBehind l p k) (rowsFrom l p k (p .count - k)) c

@@ -5,7 +5,7 @@ use mathlib.Core.Path.{_≡_, sym, ap, _∙_}
 use mathlib.Core.Bool.{and-eq-true-iff}
 use lib.Dec.{leb, ltb}
 use borrow.Author.Tests.{leb-true}
-use Rattle.refusals.specs.Answers.{Answer}
+use Rattle.calendar.specs.Moments.{Reach}
 use Rattle.tzif.specs.File.{zoneIn}
 use Rattle.tzif.proofs.Checked.{known}
 use Rattle.zones.specs.Civil.{resolve}
@@ -23,10 +23,10 @@ abbrev μ-loop : tie.MeasureT-loop
 
 -- what is asked for, and what the pieces from the one behind k transitions on say
 module _ (start : tie.Start Inv-loop μ-loop) where
-  abbrev asked : Answer ℕ
+  abbrev asked : Reach ℕ
   asked = resolve (zoneIn (start .args .file .now) (start .args .p)) (start .args .c)
 
-  abbrev said : ℕ → Answer ℕ
+  abbrev said : ℕ → Reach ℕ
   said k = resolveAt (start .args .file .now) (start .args .p) k (start .args .c)
 
 -- past a piece that does not hold it
