@@ -31,6 +31,10 @@ use Rattle.rules.specs.declared.read.RuleRead.the-variants.{Is as IsRule, Refus
 use Rattle.zones.specs.Civil.{answerOf}
 use Rattle.zones.specs.declared.search.Resolved.{Resolved}
 use Rattle.zones.specs.declared.search.Resolved.the-variants.{At as ResolvedAt, Refused as ResolvedRefused}
+use Rattle.zones.specs.Instants.{arrivedOf}
+use Rattle.zones.specs.declared.instants.Instant.{Instant}
+use Rattle.zones.specs.declared.instants.Arrived.{Arrived}
+use Rattle.zones.specs.declared.instants.Arrived.the-variants.{At as ArrivedAt, Refused as ArrivedRefused}
 use Rattle.answer.specs.Answer.{answerFrom}
 use Rattle.answer.specs.declared.Answered.{Answered}
 use Rattle.answer.specs.declared.Answered.the-variants.{At as AnsweredAt, Refused as AnsweredRefused}
@@ -158,3 +162,14 @@ resolved-back (ResolvedRefused k) = refl
 
 pub resolved-one : (x y : Resolved) → answerOf x ≡ answerOf y → x ≡ y
 resolved-one = given-back answerOf resolvedOf resolved-back
+
+abbrev arrived : Reach Instant → Arrived
+arrived (moment x) = ArrivedAt x
+arrived (refused k) = ArrivedRefused k
+
+arrived-back : (x : Arrived) → arrived (arrivedOf x) ≡ x
+arrived-back (ArrivedAt x) = refl
+arrived-back (ArrivedRefused k) = refl
+
+pub arrived-one : (x y : Arrived) → arrivedOf x ≡ arrivedOf y → x ≡ y
+arrived-one = given-back arrivedOf arrived arrived-back

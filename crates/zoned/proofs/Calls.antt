@@ -15,8 +15,10 @@ use Rattle.ready.specs.Ready.{readyOf}
 use Rattle.ready.proofs.ReadyPhrases.{Enters, ready-answers-in}
 use Rattle.tzif.specs.Zones.{Zone, IsZone}
 use Rattle.zones.specs.Civil.{civilOf, lastIn, civilOne, inYears}
-use Rattle.zoned.specs.InZone.{Instant, inZone, enterAt, evaluateAt, runAt}
-use Rattle.zoned.proofs.Joins.{Good, zone-lawful}
+use Rattle.zones.specs.Instants.{Good}
+use Rattle.zones.specs.declared.instants.Instant.{Instant}
+use Rattle.zoned.specs.InZone.{inZone, enterAt, evaluateAt, runAt}
+use Rattle.zoned.proofs.Joins.{zone-lawful}
 
 -- by a test, the same where it holds
 where-true : {A : Type 0} (b : Bool) (r : A) {p q : A} → (b ≡ true → p ≡ q) → cond b p r ≡ cond b q r

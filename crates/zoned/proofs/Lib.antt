@@ -1,6 +1,4 @@
-pub mod Reached
 pub mod Joins
-pub mod Clocks
 pub mod Follows
 pub mod OneOffset
 pub mod Refuses
