@@ -2,5 +2,6 @@ pub mod Joins
 pub mod Follows
 pub mod OneOffset
 pub mod Refuses
+pub mod Ahead
 pub mod Calls
 pub mod NewYork

@@ -1,2 +1,3 @@
 pub mod InZone
+pub mod Local
 pub mod ZoneCases
