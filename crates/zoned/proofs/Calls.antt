@@ -1,12 +1,12 @@
 -- Demand 3 with zone and instant in place of now: at every instant, the refusals of now included.
-use Prim.Native.Nat.{ℕ, _+_}
+use Prim.Native.Nat.{ℕ}
 use mathlib.Core.Path.{_≡_, refl}
-use mathlib.Core.Bool.{Bool, true, false, cond, and-eq-true-iff}
+use mathlib.Core.Bool.{Bool, true, false, cond}
 use mathlib.Core.List.{List}
-use lib.Dec.{leb, ltb}
-use borrow.Author.Tests.{leb-true, ltb-true}
+use lib.Dec.{ltb}
+use borrow.Author.Tests.{ltb-true}
 use Rattle.refusals.specs.Answers.{andThen}
-use Rattle.calendar.specs.Moments.{refused, seconds}
+use Rattle.calendar.specs.Moments.{refused}
 use Rattle.lexer.specs.Keywords.{wordsIn}
 use Rattle.lexer.specs.declared.reading.Reading.{Reading}
 use Rattle.phrase.specs.Read.{readOf}
@@ -14,10 +14,11 @@ use Rattle.answer.specs.Answer.{placed}
 use Rattle.ready.specs.Ready.{readyOf}
 use Rattle.ready.proofs.ReadyPhrases.{Enters, ready-answers-in}
 use Rattle.tzif.specs.Zones.{Zone, IsZone}
-use Rattle.zones.specs.Civil.{civilOf, lastIn, civilOne, inYears}
+use Rattle.zones.specs.Civil.{civilOf, lastIn, inYears}
 use Rattle.zones.specs.Instants.{Good}
 use Rattle.zones.specs.declared.instants.Instant.{Instant}
 use Rattle.zoned.specs.InZone.{inZone, enterAt, evaluateAt, runAt}
+use Rattle.zoned.proofs.Acts.{years-good}
 use Rattle.zoned.proofs.Joins.{zone-lawful}
 
 -- by a test, the same where it holds
@@ -33,10 +34,7 @@ module _ (z : Zone) (n : Instant) where
         where-true (ltb (n .millisecond) 1000) (refused 8)
         (λ _. where-true (ltb (n .second) (lastIn z)) (refused 22)
         (λ h. where-true (inYears (civilOf z (n .second))) (refused 8)
-        (λ k. e n (record {
-          known = ltb-true (n .second) (lastIn z) h;
-          low = leb-true civilOne (civilOf z (n .second)) (and-eq-true-iff (leb civilOne (civilOf z (n .second))) (ltb (civilOf z (n .second)) (civilOne + seconds)) .0 k .0);
-        }))));
+        (λ k. e n (years-good z (n .second) (ltb-true (n .second) (lastIn z) h) k))));
   }
 
   -- for every reading and every phrase: a phrase made ready and run in the zone gives the answer of the phrase there
