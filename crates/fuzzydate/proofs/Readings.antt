@@ -20,7 +20,7 @@ use Rattle.answer.specs.Answer.{answerOf}
 use Rattle.answer.proofs.PhraseAtNow.{settled}
 use Rattle.steps.proofs.Small.{all-smaller}
 use Rattle.steps.specs.declared.plan.Step.{Step}
-use Rattle.ready.specs.Ready.{ReadyPhrase, readyOf, runReady}
+use Rattle.ready.specs.Ready.{readyOf, runReady}
 use Rattle.ready.proofs.ReadyPhrases.{MadeReady, made-ready, ready-answers}
 use Rattle.records.specs.Records.{encodeOf, decodeOf}
 use Rattle.records.proofs.Lists.{decoded-back}

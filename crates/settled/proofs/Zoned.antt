@@ -1,5 +1,5 @@
 -- The promises of `zoned`. Assumes nothing.
-use Rattle.settled.proofs.Settled.{Same, Settled, same, through}
+use Rattle.settled.proofs.Settled.{Settled, same, through}
 use Rattle.settled.proofs.Values.{located-one}
 use Rattle.zoned.proofs.local.run_in_zone.Reads as run-in-zone'
 
