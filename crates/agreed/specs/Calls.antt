@@ -10,7 +10,7 @@ use Rattle.refusals.specs.Answers.{Answer, given}
 use Rattle.zones.specs.declared.instants.Instant.{Instant}
 use Rattle.zoned.specs.Local.{IsLocal}
 use Rattle.zoned.specs.declared.local.Local.{Local}
-use Rattle.fuzzydate.specs.Called.{momentAfter, instantOf as instantBy, dueAfter, localAfter}
+use Rattle.fuzzydate.specs.Called.{momentAfter, instantFrom, dueAfter, localAfter}
 use Rattle.fuzzydate.proofs.fuzzy_read.Reads as read'
 use Rattle.fuzzydate.proofs.fuzzy_run.Reads as run'
 use Rattle.fuzzydate.proofs.fuzzy_read_in_zone.Reads as zone-read'
@@ -143,7 +143,7 @@ abbrev pub readZoneSeen : (reading : ℕ) → Seen ZoneNow ZoneArrays (ReadZoneI
 readZoneSeen reading =
     record {
       bytesOf = λ c. c .call .given .1 .0 .now;
-      nowOf = λ c. let a = c .call .given .1 .1 in record { file = a .0 .now; at = instantBy (a .1 .0) (a .1 .1 .0) };
+      nowOf = λ c. let a = c .call .given .1 .1 in record { file = a .0 .now; at = instantFrom (a .1 .0) (a .1 .1 .0) };
       arrayOf = λ c. let a = c .call .given .1 .1 .1 .1 .1 in record { due = a .0 .now; local = a .1 .0 .now };
       resultOf = λ c. c .call .result;
       arrayAfter = λ c. let a = c .call .exit .1 .1 .1 .1 .1 in record { due = a .0 .now; local = a .1 .0 .now };
@@ -154,7 +154,7 @@ abbrev pub runZoneSeen : Seen ZoneNow ZoneArrays (Call zone-run'.Post)
 runZoneSeen =
     record {
       bytesOf = λ c. c .given .0 .now;
-      nowOf = λ c. let a = c .given .1 in record { file = a .0 .now; at = instantBy (a .1 .0) (a .1 .1 .0) };
+      nowOf = λ c. let a = c .given .1 in record { file = a .0 .now; at = instantFrom (a .1 .0) (a .1 .1 .0) };
       arrayOf = λ c. let a = c .given .1 .1 .1 .1 in record { due = a .0 .now; local = a .1 .0 .now };
       resultOf = λ c. c .result;
       arrayAfter = λ c. let a = c .exit .1 .1 .1 .1 in record { due = a .0 .now; local = a .1 .0 .now };
