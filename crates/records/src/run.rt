@@ -85,15 +85,15 @@ pub fn step_at(b: &[u8], i: usize) -> Step
     step_from(words_at(b, SIZE * i))
 }
 
-// The first n steps in order, up to the first refusal.
-pub fn walk(b: &[u8], n: usize, at: Moment) -> Reached
-    requires { ⌜ (16 * n ≤ length (now b)) × IsMoment at ⌝ }
-    ensures { λ r. ⌜ reachedOf r ≡ walkOf (stepsAt n (now (b .entry)) 0) at at ⌝ }
+// The steps of the records from `first` up to `end` in order, from a moment and at a now, up to the first refusal.
+pub fn walk(b: &[u8], first: usize, end: usize, at: Moment, from: Moment) -> Reached
+    requires { ⌜ (16 * end ≤ length (now b)) × (IsMoment at × IsMoment from) ⌝ }
+    ensures { λ r. ⌜ reachedOf r ≡ walkOf (stepsAt (end - first) (now (b .entry)) (16 * first)) at from ⌝ }
     ensures { λ r. ⌜ Valid (reachedOf r) ⌝ }
 {
-    let mut t = at;
-    let mut done = 0;
-    while done < n {
+    let mut t = from;
+    let mut done = first;
+    while done < end {
         match act(step_at(b, done), at, t) {
             Reached::At(u) => {
                 t = u;
@@ -114,7 +114,7 @@ pub fn run_ready(b: &[u8], at: Moment) -> Reached
 {
     if at.valid() {
         if is_list(b) {
-            return walk(b, b.len() / SIZE, at);
+            return walk(b, 0, b.len() / SIZE, at, at);
         }
         return Reached::Refused(NO_SENSE);
     }

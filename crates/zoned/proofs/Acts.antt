@@ -1,46 +1,47 @@
--- Every start but now, and every move but a fixed length, acts on the civil time; and instants that are stood at are kept.
-use Prim.Native.Nat.{ℕ, _+_, _<_}
+-- What a step does in a zone is what its kind asks for; and instants that are stood at are kept.
+use Prim.Native.Nat.{ℕ, _+_, _-_, _*_, _<_}
+use native.Mathlib.Omega.{arith}
 use mathlib.Core.Path.{_≡_, refl, ap, subst}
 use mathlib.Core.Bool.{true, and-eq-true-iff}
-use mathlib.Core.List.{[], _∷_}
+use mathlib.Core.List.{List}
 use lib.Dec.{leb, ltb}
 use borrow.Author.Tests.{leb-true}
-use types.Run.{OneOf, miss}
-use denote.Enum.Declared.{tagOf}
 use Rattle.calendar.specs.Moments.{moment, seconds}
-use Rattle.steps.specs.Running.{startIn, startAt, moveIn, moveBy}
-use Rattle.steps.specs.declared.plan.Start.{Start}
+use Rattle.calendar.specs.declared.moments.Moment.{Moment}
+use Rattle.calendar.proofs.Outcomes.{then-moment}
+use Rattle.steps.specs.Running.{actIn, actOf, walkOf}
 use Rattle.steps.specs.declared.plan.Start.the-variants.{Now, Senseless, OnDate, InWeek, FromToday}
-use Rattle.steps.specs.declared.plan.Move.{Move}
 use Rattle.steps.specs.declared.plan.Move.the-variants.{Minutes, Months, Years, BackTo, ForwardTo}
-use Rattle.steps.proofs.plan.Start.{the-type as start-type}
-use Rattle.steps.proofs.plan.Move.{the-type as move-type}
+use Rattle.steps.specs.declared.plan.Step.{Step}
+use Rattle.steps.specs.declared.plan.Step.the-variants.{From, By, AtTime}
+use Rattle.records.specs.Words.{stepFrom}
+use Rattle.records.specs.Records.{wordsAt, stepsAt}
 use Rattle.tzif.specs.Zones.{Zone}
 use Rattle.zones.specs.Civil.{civilOf, lastIn, civilOne, inYears}
-use Rattle.zones.specs.Instants.{arrivedOf, clockOf, Good, Shown, Kept}
+use Rattle.zones.specs.Instants.{arrivedOf, Good, Shown, Kept}
 use Rattle.zones.specs.declared.instants.Instant.{Instant}
 use Rattle.zones.specs.declared.instants.Arrived.{Arrived}
 use Rattle.zones.specs.declared.instants.Arrived.the-variants.{At}
 use Rattle.zoned.specs.InZone.{inZone}
+use Rattle.zoned.specs.Kinds.{kindOf, actBy}
+
+-- one record is one step
+pub one-step : (i : ℕ) (l : List ℕ) (n t : Moment) → walkOf (stepsAt (i + 1 - i) l (16 * i)) n t ≡ actOf (stepFrom (wordsAt l (16 * i))) n t
+one-step i l n t = let one : i + 1 - i ≡ 1 = omega arith in rw one (then-moment (actOf (stepFrom (wordsAt l (16 * i))) n t))
 
 module _ (z : Zone) where
-  -- starts, by their numbers
-  pub start-civil :
-      (s : Start) (x : Instant) → OneOf (1 ∷ 2 ∷ 3 ∷ 4 ∷ []) (tagOf start-type s) → startIn (inZone z) s x ≡ inZone z .settle (startAt s (clockOf z x))
-  start-civil Now x k = absurd (miss (1 ∷ 2 ∷ 3 ∷ 4 ∷ []) 0 tt k)
-  start-civil Senseless x k = refl
-  start-civil (OnDate d) x k = refl
-  start-civil (InWeek s d) x k = refl
-  start-civil (FromToday d) x k = refl
-
-  -- and moves
-  pub move-civil :
-      (m : Move) (x : Instant) → OneOf (1 ∷ 2 ∷ 3 ∷ 4 ∷ []) (tagOf move-type m) → moveIn (inZone z) m x ≡ inZone z .settle (moveBy m (clockOf z x))
-  move-civil (Minutes back count) x k = absurd (miss (1 ∷ 2 ∷ 3 ∷ 4 ∷ []) 0 tt k)
-  move-civil (Months back count) x k = refl
-  move-civil (Years back count) x k = refl
-  move-civil (BackTo d) x k = refl
-  move-civil (ForwardTo d) x k = refl
+  pub by-kind : (s : Step) (n x : Instant) → actIn (inZone z) s n x ≡ actBy z (kindOf s) s n x
+  by-kind (From Now) n x = refl
+  by-kind (From Senseless) n x = refl
+  by-kind (From (OnDate d)) n x = refl
+  by-kind (From (InWeek s d)) n x = refl
+  by-kind (From (FromToday d)) n x = refl
+  by-kind (By (Minutes back k)) n x = refl
+  by-kind (By (Months back k)) n x = refl
+  by-kind (By (Years back k)) n x = refl
+  by-kind (By (BackTo d)) n x = refl
+  by-kind (By (ForwardTo d)) n x = refl
+  by-kind (AtTime time) n x = refl
 
   -- a second before the last transition with its civil time in years 1 to 9999 can be stood at
   pub years-good : (s : ℕ) → s < lastIn z → inYears (civilOf z s) ≡ true → Good z s

@@ -20,7 +20,8 @@ use Rattle.records.proofs.Runs.{all-steps}
 use Rattle.tzif.specs.Zones.{Zone}
 use Rattle.zones.specs.Instants.{clockOf, instantAt}
 use Rattle.zones.specs.declared.instants.Instant.{Instant}
-use Rattle.zoned.specs.InZone.{inZone, upToTime}
+use Rattle.zoned.specs.InZone.{inZone}
+use Rattle.zoned.specs.Kinds.{upToTime}
 
 module _ (z : Zone) where
   -- a step ahead of the time, where the rest is split

@@ -37,7 +37,8 @@ use Rattle.zones.specs.Instants.{withMillisecond, arrive, fixedFrom, fixedStep,
 use Rattle.zones.specs.declared.instants.Instant.{Instant}
 use Rattle.zones.proofs.Resolved.{only-22-23}
 use Rattle.zones.proofs.Bounds.{below, fixed-keeps, settle-keeps, good-moment, file-zone}
-use Rattle.zoned.specs.InZone.{inZone, runAt, upToTime}
+use Rattle.zoned.specs.InZone.{inZone, runAt}
+use Rattle.zoned.specs.Kinds.{upToTime}
 use Rattle.zoned.specs.Local.{IsLocal, localAt, shownIn, runInZone, evaluateInZone}
 use Rattle.zoned.specs.declared.local.Local.{Local}
 use Rattle.zoned.proofs.Acts.{years-good}

@@ -1,14 +1,14 @@
 -- The world of a zone, and a reading or a list of steps at an instant there.
-use Prim.Native.Nat.{ℕ, suc}
+use Prim.Native.Nat.{ℕ}
 use mathlib.Core.Bool.{cond}
-use mathlib.Core.List.{List, [], _∷_}
+use mathlib.Core.List.{List}
 use lib.Dec.{ltb}
 use Rattle.calendar.specs.Moments.{Reach, refused, andThen}
 use Rattle.phrase.specs.Tree.{DateTime}
 use Rattle.refusals.specs.Table as refusal
 use Rattle.evaluation.specs.Worlds.{World}
 use Rattle.evaluation.specs.Evaluate.{evaluateIn}
-use Rattle.steps.specs.Running.{isTimeStep, runIn}
+use Rattle.steps.specs.Running.{runIn}
 use Rattle.steps.specs.declared.plan.Step.{Step}
 use Rattle.tzif.specs.Zones.{Zone}
 use Rattle.zones.specs.Civil.{civilOf, lastIn, inYears}
@@ -39,8 +39,3 @@ module _ (z : Zone) where
   -- a list of steps: 9 behind 22 of now
   unfoldable pub runAt : List Step → Instant → Reach Instant
   runAt ss n = enterAt n (runIn inZone ss)
-
--- the steps of a list up to its time of day, that one included; all where there is none
-abbrev pub upToTime : List Step → ℕ
-upToTime [] = 0
-upToTime (s ∷ ss) = cond (isTimeStep s) 1 (suc (upToTime ss))

@@ -8,7 +8,6 @@ use refusals::PAST_LAST;
 use steps::plan::Move;
 use steps::plan::Start;
 use steps::plan::Step;
-use steps::run::act;
 use steps::run::one_if_time;
 use steps::run::times_due;
 use tzif::file::Places;
@@ -24,56 +23,78 @@ ghost use mathlib.Core.Bool.{true};
 ghost use Prim.Native.Nat.{_+_, _-_, _*_, _/_, _≤_};
 ghost use lib.ListN.{length};
 ghost use Rattle.tzif.specs.File.{IsChecked, zoneIn};
-ghost use Rattle.zones.specs.Instants.{arrivedOf, clockOf, Shown, Kept};
-ghost use Rattle.steps.specs.Running.{actOf, startIn, moveIn, actIn, walkIn, leadIn, isList};
-ghost use Rattle.records.specs.Records.{stepsAt, decodeOf};
-ghost use Rattle.zoned.specs.InZone.{inZone, upToTime, runAt};
+ghost use Rattle.zones.specs.Instants.{arrivedOf, Shown, Kept};
+ghost use Rattle.steps.specs.Running.{actIn, walkIn, leadIn, isList};
+ghost use Rattle.records.specs.Words.{stepFrom};
+ghost use Rattle.records.specs.Records.{wordsAt, stepsAt, decodeOf};
+ghost use Rattle.zoned.specs.InZone.{inZone, runAt};
+ghost use Rattle.zoned.specs.Kinds.{startKind, moveKind, kindOf, civilStep, upToTime};
 
-// A step on the civil time of x, with its result settled.
-fn act_civil(file: &[u8], p: Places, step: Step, n: Instant, x: Instant) -> Arrived
-    requires { ⌜ IsChecked (now file) p × (Shown (zoneIn (now file) p) n × Shown (zoneIn (now file) p) x) ⌝ }
-    ensures { λ r. ⌜ arrivedOf r ≡ inZone (zoneIn (now (file .entry)) p) .settle (actOf step (clockOf (zoneIn (now (file .entry)) p) n) (clockOf (zoneIn (now (file .entry)) p) x)) ⌝ }
-    ensures { λ r. ⌜ Kept (zoneIn (now (file .entry)) p) (arrivedOf r) ⌝ }
-{
-    let now = clock_of(file, p, n);
-    let t = clock_of(file, p, x);
-    settle(file, p, act(step, now, t))
+// What a step asks for in a zone: nothing, a fixed length on the instant, or an act on the civil time.
+enum Kind {
+    Stays,
+    Fixed { back: bool, count: u64 },
+    Civil,
 }
 
-// A start from x.
-fn start_in(file: &[u8], p: Places, start: Start, n: Instant, x: Instant) -> Arrived
-    requires { ⌜ IsChecked (now file) p × (Shown (zoneIn (now file) p) n × Shown (zoneIn (now file) p) x) ⌝ }
-    ensures { λ r. ⌜ arrivedOf r ≡ startIn (inZone (zoneIn (now (file .entry)) p)) start x ⌝ }
-    ensures { λ r. ⌜ Kept (zoneIn (now (file .entry)) p) (arrivedOf r) ⌝ }
+// Of a start. Here and below every start and every move is named, so that a new one has to be placed.
+fn start_kind(start: Start) -> Kind
+    ensures { λ r. ⌜ r ≡ startKind start ⌝ }
 {
-    if let Start::Now = start {
-        return Arrived::At(x);
+    match start {
+        Start::Now => Kind::Stays,
+        Start::Senseless => Kind::Civil,
+        Start::OnDate(_) => Kind::Civil,
+        Start::InWeek(_, _) => Kind::Civil,
+        Start::FromToday(_) => Kind::Civil,
     }
-    act_civil(file, p, Step::From(start), n, x)
 }
 
-// A move from x: a fixed length acts on the instant, any other on the civil time.
-fn move_in(file: &[u8], p: Places, way: Move, n: Instant, x: Instant) -> Arrived
-    requires { ⌜ IsChecked (now file) p × (Shown (zoneIn (now file) p) n × Shown (zoneIn (now file) p) x) ⌝ }
-    ensures { λ r. ⌜ arrivedOf r ≡ moveIn (inZone (zoneIn (now (file .entry)) p)) way x ⌝ }
-    ensures { λ r. ⌜ Kept (zoneIn (now (file .entry)) p) (arrivedOf r) ⌝ }
+// Of a move.
+fn move_kind(way: Move) -> Kind
+    ensures { λ r. ⌜ r ≡ moveKind way ⌝ }
 {
-    if let Move::Minutes { back, count } = way {
-        return fixed_step(file, p, back, count, x);
+    match way {
+        Move::Minutes { back, count } => Kind::Fixed { back, count },
+        Move::Months { .. } => Kind::Civil,
+        Move::Years { .. } => Kind::Civil,
+        Move::BackTo(_) => Kind::Civil,
+        Move::ForwardTo(_) => Kind::Civil,
     }
-    act_civil(file, p, Step::By(way), n, x)
 }
 
-// One step in the zone from x, at its now n.
-fn act_in(file: &[u8], p: Places, step: Step, n: Instant, x: Instant) -> Arrived
-    requires { ⌜ IsChecked (now file) p × (Shown (zoneIn (now file) p) n × Shown (zoneIn (now file) p) x) ⌝ }
-    ensures { λ r. ⌜ arrivedOf r ≡ actIn (inZone (zoneIn (now (file .entry)) p)) step n x ⌝ }
-    ensures { λ r. ⌜ Kept (zoneIn (now (file .entry)) p) (arrivedOf r) ⌝ }
+// Of a step.
+fn kind_of(step: Step) -> Kind
+    ensures { λ r. ⌜ r ≡ kindOf step ⌝ }
 {
     match step {
-        Step::From(start) => start_in(file, p, start, n, x),
-        Step::By(way) => move_in(file, p, way, n, x),
-        Step::AtTime(_) => act_civil(file, p, step, n, x),
+        Step::From(start) => start_kind(start),
+        Step::By(way) => move_kind(way),
+        Step::AtTime(_) => Kind::Civil,
+    }
+}
+
+// The step of record i on the civil time of x, at the now n, with its result settled.
+fn act_civil(b: &[u8], i: usize, file: &[u8], p: Places, n: Instant, x: Instant) -> Arrived
+    requires { ⌜ (16 * i + 16 ≤ length (now b)) × (IsChecked (now file) p × (Shown (zoneIn (now file) p) n × Shown (zoneIn (now file) p) x)) ⌝ }
+    ensures { λ r. ⌜ arrivedOf r ≡ civilStep (zoneIn (now (file .entry)) p) (stepFrom (wordsAt (now (b .entry)) (16 * i))) n x ⌝ }
+    ensures { λ r. ⌜ Kept (zoneIn (now (file .entry)) p) (arrivedOf r) ⌝ }
+{
+    let at = clock_of(file, p, n);
+    let t = clock_of(file, p, x);
+    settle(file, p, walk(b, i, i + 1, at, t))
+}
+
+// The step of record i in the zone from x, at its now n.
+fn act_in(b: &[u8], i: usize, file: &[u8], p: Places, n: Instant, x: Instant) -> Arrived
+    requires { ⌜ (16 * i + 16 ≤ length (now b)) × (IsChecked (now file) p × (Shown (zoneIn (now file) p) n × Shown (zoneIn (now file) p) x)) ⌝ }
+    ensures { λ r. ⌜ arrivedOf r ≡ actIn (inZone (zoneIn (now (file .entry)) p)) (stepFrom (wordsAt (now (b .entry)) (16 * i))) n x ⌝ }
+    ensures { λ r. ⌜ Kept (zoneIn (now (file .entry)) p) (arrivedOf r) ⌝ }
+{
+    match kind_of(step_at(b, i)) {
+        Kind::Stays => Arrived::At(x),
+        Kind::Fixed { back, count } => fixed_step(file, p, back, count, x),
+        Kind::Civil => act_civil(b, i, file, p, n, x),
     }
 }
 
@@ -87,7 +108,7 @@ fn walk_in(b: &[u8], k: usize, file: &[u8], p: Places, n: Instant, from: Instant
     let mut x = from;
     let mut i = k;
     while i < count {
-        match act_in(file, p, step_at(b, i), n, x) {
+        match act_in(b, i, file, p, n, x) {
             Arrived::At(y) => {
                 x = y;
             }
@@ -123,7 +144,8 @@ fn lead_in(b: &[u8], file: &[u8], p: Places, n: Instant) -> Arrived
 {
     if times_due(step_at(b, 0)) == 1 {
         let k = up_to_time(b);
-        let x = settle(file, p, walk(b, k, clock_of(file, p, n)));
+        let at = clock_of(file, p, n);
+        let x = settle(file, p, walk(b, 0, k, at, at));
         let Arrived::At(y) = x else {
             return x;
         };

@@ -1,6 +1,5 @@
 use Prim.Native.Nat.{_+_, _-_, _*_}
-use native.Mathlib.Nat.{sub-zero}
-use mathlib.Core.Path.{_≡_, sym, _∙_}
+use mathlib.Core.Path.{_≡_, refl, sym, _∙_}
 use Rattle.calendar.specs.Moments.{IsMoment, andThen, reachedOf}
 use Rattle.calendar.specs.declared.moments.Reached.{Reached}
 use Rattle.calendar.proofs.Outcomes.{moment-valid, refused-valid, at-moment}
@@ -13,10 +12,11 @@ use Rattle.records.proofs.run.walk.Statement.{statement}
 use Rattle.records.proofs.run.walk.Tie as tie
 
 abbrev Inv-loop : tie.InvT-loop
-Inv-loop b n at t₀ done₀ t done = IsMoment t × (walkOf (stepsAt n b 0) at at ≡ walkOf (stepsAt (n - done) b (16 * done)) at t)
+Inv-loop b first end at t₀ done₀ t done =
+    IsMoment t × (walkOf (stepsAt (end - first) b (16 * first)) at t₀ ≡ walkOf (stepsAt (end - done) b (16 * done)) at t)
 
 abbrev μ-loop : tie.MeasureT-loop
-μ-loop b n at t₀ done₀ t done = n - done
+μ-loop b first end at t₀ done₀ t done = end - done
 
 -- one turn: the whole way is what the step of this record gives, and then the way from the next one on
 turned :
@@ -24,16 +24,16 @@ turned :
     let loop = c .before .before .before .loop in
     let args = c .before .before .before .before .before .args in
     let b = args .b .now in
-    walkOf (stepsAt (args .n) b 0) (args .at) (args .at)
-    ≡ andThen (reachedOf r) (walkOf (stepsAt (args .n - (loop .done + 1)) b (16 * (loop .done + 1))) (args .at))
+    walkOf (stepsAt (args .end - args .first) b (16 * args .first)) (args .at) (args .from)
+    ≡ andThen (reachedOf r) (walkOf (stepsAt (args .end - (loop .done + 1)) b (16 * (loop .done + 1))) (args .at))
 turned c r e =
     let loop = c .before .before .before .loop in
     let args = c .before .before .before .before .before .args in
-    let next = steps-next (args .n) (loop .done) (args .b .now) (c .before .before .loop-test .taken) in
+    let next = steps-next (args .end) (loop .done) (args .b .now) (c .before .before .loop-test .taken) in
     loop .inv .1 ∙ rw (next, ← (c .before .step-at .ensures), ← (c .act .ensures .0), e)
 
 loop-holds : tie.Need-loop-holds Inv-loop μ-loop
-loop-holds c = (c .before .pre .1, rw sub-zero)
+loop-holds c = (c .before .pre .1 .1, refl)
 
 step-at-requires : tie.Need-step-at-requires Inv-loop μ-loop
 step-at-requires c κs = search needs

@@ -1,5 +1,6 @@
 use Prim.Native.Nat.{_-_, _*_, _/_}
 use native.Mathlib.Omega.{arith}
+use native.Mathlib.Nat.{sub-zero}
 use mathlib.Core.Path.{_≡_, sym, _∙_}
 use lib.ListN.{length}
 use Rattle.calendar.specs.Moments.{andThen}
@@ -53,7 +54,7 @@ led c x e =
     let due = sym (c .before .before .before .before .before .times-due .ensures) ∙ c .before .before .before .before .if1 .taken in
     let first = rw (c .before .before .before .before .before .before .step-at .ensures) at due in
     let lead = lead-dated (zoneIn (a .file .now) (a .p)) (a .b .now) (entry .pre .1 .1) (a .n) (k .result) (k .ensures .0) (k .ensures .1) first in
-    let walked = rw (c .before .before .clock-of .ensures .0) at (c .before .walk .ensures .0) in
+    let walked = rw (sub-zero, c .before .before .clock-of .ensures .0) at (c .before .walk .ensures .0) in
     lead ∙ rw (← walked, ← (c .settle .ensures .0), e)
 
 returns : tie.Need-returns

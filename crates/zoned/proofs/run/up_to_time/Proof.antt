@@ -10,7 +10,7 @@ use Rattle.records.specs.Words.{stepFrom}
 use Rattle.records.specs.Records.{wordsAt, stepsAt}
 use Rattle.records.proofs.Lists.{steps-next}
 use Rattle.records.proofs.Runs.{no-step}
-use Rattle.zoned.specs.InZone.{upToTime}
+use Rattle.zoned.specs.Kinds.{upToTime}
 use borrow.Author.Needs.{needs}
 use Rattle.zoned.proofs.run.up_to_time.Statement.{statement}
 use Rattle.zoned.proofs.run.up_to_time.Tie as tie

@@ -27,23 +27,20 @@ abbrev μ-loop : tie.MeasureT-loop
 -- one turn: the whole way is what the step of this record gives, and then the way from the next one on
 turned :
     (c : tie.After-act-in Inv-loop μ-loop) (r : Arrived) → c .act-in .result ≡ r →
-    let loop = c .before .before .before .loop in
-    let args = c .before .before .before .before .before .before .args in
+    let loop = c .before .before .loop in
+    let args = c .before .before .before .before .before .args in
     let z = zoneIn (args .file .now) (args .p) in
     let b = args .b .now in
     walkIn (inZone z) (stepsAt (length b / 16 - args .k) b (16 * args .k)) (args .n) (args .from)
     ≡ andThen (arrivedOf r) (walkIn (inZone z) (stepsAt (length b / 16 - (loop .i + 1)) b (16 * (loop .i + 1))) (args .n))
 turned c r e =
-    let loop = c .before .before .before .loop in
-    let b = c .before .before .before .before .before .before .args .b .now in
-    let next = steps-next (length b / 16) (loop .i) b (c .before .before .loop-test .taken) in
-    loop .inv .1 ∙ rw (next, ← (c .before .step-at .ensures), ← (c .act-in .ensures .0), e)
+    let loop = c .before .before .loop in
+    let b = c .before .before .before .before .before .args .b .now in
+    let next = steps-next (length b / 16) (loop .i) b (c .before .loop-test .taken) in
+    loop .inv .1 ∙ rw (next, ← (c .act-in .ensures .0), e)
 
 loop-holds : tie.Need-loop-holds Inv-loop μ-loop
 loop-holds c = (c .before .before .pre .1 .1, refl)
-
-step-at-requires : tie.Need-step-at-requires Inv-loop μ-loop
-step-at-requires c κs = search needs
 
 act-in-requires : tie.Need-act-in-requires Inv-loop μ-loop
 act-in-requires c κs = search needs
@@ -84,7 +81,6 @@ walk-in-spec =
     Inv-loop
     μ-loop
     loop-holds
-    step-at-requires
     act-in-requires
     enum-known-y
     enum-known-number
