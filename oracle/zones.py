@@ -451,6 +451,12 @@ def is_read(data):
     return not isinstance(zone_of(data, False), Refused)
 
 
+def put(data):
+    """The lines that have a file's bytes."""
+    parts = [data[at:at + 30_000] for at in range(0, len(data), 30_000)]
+    return [kind + part.hex().encode() for kind, part in zip([b"Z"] + len(parts) * [b"A"], parts or [b""])]
+
+
 def at_second(second):
     return b"@%x" % (second % 2**64)
 
@@ -540,28 +546,36 @@ class Lines:
             numbers[2] += 1
         return struct.pack("<4I", kind + 256 * form, *numbers)
 
+    def now(self, zone):
+        """An instant's second, mostly before the last transition."""
+        second = self.second(zone)
+        return second if second < zone.last or self.dice.one_in(4) else zone.times[-1] - 1 if zone.times else 0
+
+    def call(self, zone):
+        d = self.dice
+        if d.one_in(6):
+            return b"R" + self.records().hex().encode()
+        text = self.phrase(zone)
+        text = text if isinstance(text, bytes) else text.encode()
+        return (b"0" if d.one_in(100) else d.pick([b"1", b"2", b"a", b"b"])) + text.replace(b"\n", b" ")
+
     def calls(self, zone, number):
         d = self.dice
-        done = []
+        done = [b"M%x" % d.pick([0, 1, 250, 999])]
         for _ in range(number):
             if d.one_in(3):
-                done.append(at_second(self.second(zone)))
-            if d.one_in(15):
-                done += [b"M%x" % d.pick([0, 1, 250, 999, 999, 1000, 2**32 - 1])]
-            if d.one_in(6):
-                done.append(b"R" + self.records().hex().encode())
-            else:
-                text = self.phrase(zone)
-                text = text if isinstance(text, bytes) else text.encode()
-                done.append((b"0" if d.one_in(100) else d.pick([b"1", b"2", b"a", b"b"])) + text.replace(b"\n", b" "))
-        return done + [b"M0"]
+                done.append(at_second(self.now(zone)))
+            done.append(self.call(zone))
+            if d.one_in(40):
+                done += [b"M%x" % d.pick([1000, 2**32 - 1]), self.call(zone), b"M0"]
+        return done
 
     def one_file(self):
         """A file with its calls; then damaged, with a few more."""
         d = self.dice
         data = d.pick(self.real) if d.one_in(2) else self.made()
         zone = zone_of(data, False)
-        done = [b"Z" + data.hex().encode(), at_second(self.second(zone)), *self.calls(zone, 40)]
+        done = [*put(data), at_second(self.now(zone)), *self.calls(zone, 40)]
         for _ in range(d.pick([0, 2, 5])):
             at = d.below(len(data)) if d.one_in(2) else d.below(min(len(data), 300))
             done += [b"S%x%02x" % (at, d.below(256)), *self.calls(zone, 2), b"S%x%02x" % (at, data[at])]
@@ -578,9 +592,19 @@ class Lines:
 def every_file(files):
     """Each file with "now" at an instant of today and at its transitions' seconds, the second before and the one behind."""
     for data in files:
-        yield from [b"Z" + data.hex().encode(), at_second(year_start(2026)), b"1now", b"anoon", b"1a month ago"]
+        yield from [*put(data), at_second(year_start(2026)), b"1now", b"anoon", b"1a month ago"]
         if is_read(data):
             yield from (b"W%x" % ((time - 1) % 2**64) for time in zone_of(data, False).times if time != 0)
+
+
+def largest():
+    """As many transitions as 65,536 bytes hold, and one byte too many."""
+    count = (MOST_BYTES - len(built(kinds=[(0, 0, 0), (0, 0, 0)]))) // 9
+    times = [year_start(2) + k * (year_start(9999) - year_start(2)) // count for k in range(count)]
+    data = built(times, [k % 2 for k in range(count)], [(-3600, 0, 0), (3600, 0, 0)])
+    yield from put(data.ljust(MOST_BYTES, b"\n"))
+    yield from (b"W%x" % ((time - 1) % 2**64) for time in times[::97])
+    yield from [b"T%x" % MOST_BYTES, b"1now", b"T%x" % (MOST_BYTES + 1), b"1now"]
 
 
 def main():
@@ -588,7 +612,7 @@ def main():
     with tempfile.TemporaryDirectory() as folder:
         files = files_in("/usr/share/zoneinfo") | files_in(compiled(folder))
     real = [data for data in files if is_read(data)]
-    lines = [*every_file(files), *Lines(int(seed), real).lines(int(number))]
+    lines = [*every_file(files), *largest(), *Lines(int(seed), real).lines(int(number))]
     print(len(files), "different files,", len(real), "of them read;", len(lines), "lines", flush=True)
     with open(lines_file, "wb") as out:
         out.write(in_pieces(lines))

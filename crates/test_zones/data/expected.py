@@ -14,7 +14,7 @@ from collections import Counter
 crate = pathlib.Path(__file__).resolve().parent.parent
 sys.path.insert(0, str(crate.parents[1] / "oracle"))
 import zones  # noqa: E402
-from zones import COUNTED, at_second, built, civil_phrase, year_start  # noqa: E402
+from zones import COUNTED, at_second, built, civil_phrase, put, year_start  # noqa: E402
 
 DAY = 86_400
 
@@ -48,7 +48,7 @@ turn = kinds()
 
 
 def new_york(data):
-    yield b"Z" + data.hex().encode()
+    yield from put(data)
     for now in NOWS:
         yield at_second(now)
         yield b"Mfa"
@@ -85,7 +85,7 @@ def at_time(zone, civil):
 def real(data):
     """Around every transition: its second, the one before and the one behind; civil times at both ends and inside of what is skipped or repeated."""
     zone = zones.zone_of(data, True)
-    yield from [b"Z" + data.hex().encode(), at_second(year_start(2000) + 12_345)]
+    yield from [*put(data), at_second(year_start(2000) + 12_345)]
     for k, (time, before, behind) in enumerate(in_order(zone)):
         yield b"W%x" % ((time - 1) % 2**64)
         low, high = sorted((time + before, time + behind))
@@ -101,7 +101,7 @@ def real(data):
 
 def made(data, *more):
     """A file, and "now" and a time of day at instants of it."""
-    yield b"Z" + data.hex().encode()
+    yield from put(data)
     for second in (0, *more):
         yield from [at_second(second), b"1now", next(turn) + b"noon"]
 
@@ -168,19 +168,19 @@ def sizes():
     data = built([ENDS], footer=b"\n")
     for size in (65_535, 65_536, 65_537, 65_538):
         # what is behind the second newline; a second newline at the very end; none
-        yield from [b"Z" + (data + b"\n").hex().encode(), b"F%x41" % size, b"1now"]
-        yield from [b"Z" + data.hex().encode(), b"F%x41" % (size - 1), b"F%x0a" % size, b"1now"]
-        yield from [b"Z" + data.hex().encode(), b"F%x41" % size, b"1now"]
+        yield from [*put(data + b"\n"), b"F%x41" % size, b"1now"]
+        yield from [*put(data), b"F%x41" % (size - 1), b"F%x0a" % size, b"1now"]
+        yield from [*put(data), b"F%x41" % size, b"1now"]
         # a first block that takes up the rest
         room = size - len(built([ENDS])) + 7
         first = dict.fromkeys(COUNTED, 0) | {"char": room, "block": b""}
         head, rest = built([ENDS], before=first)[:44], built([ENDS], before=first)[44:]
-        yield from [b"Z" + head.hex().encode(), b"F%x54" % (44 + room), b"A" + rest.hex().encode(), b"1now"]
+        yield from [*put(head), b"F%x54" % (44 + room), b"A" + rest.hex().encode(), b"1now"]
 
 
 def damaged(data):
     """A small file cut at every byte, and with each byte changed: those of the headers to more values."""
-    yield from [b"Z" + data.hex().encode(), at_second(0)]
+    yield from [*put(data), at_second(0)]
     for size in range(len(data) + 1):
         yield from [b"T%x" % size, b"1now"]
     second = data.index(b"TZif", 4)
@@ -199,7 +199,7 @@ def thrice():
     for offsets in ((72_000, 0, -72_000, 0), (-72_000, 0, 72_000, 0), (0, 36_000, -36_000, 72_000), (93_599, -89_999, 93_599, -89_999)):
         times = [base, base + 3600, base + 7200, base + 400 * DAY]
         kinds = [(offset, 0, 0) for offset in (0, *offsets)]
-        yield from [b"Z" + built(times, range(1, 5), kinds).hex().encode(), at_second(base - 5 * DAY)]
+        yield from [*put(built(times, range(1, 5), kinds)), at_second(base - 5 * DAY)]
         yield from (next(turn) + civil_phrase(base + 1800 * step).encode() for step in range(-60, 60))
         yield from (b"W%x" % (time - 1) for time in times)
 
