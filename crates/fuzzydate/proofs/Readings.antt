@@ -15,6 +15,7 @@ use Rattle.calendar.specs.declared.moments.Moment.{Moment}
 use Rattle.lexer.specs.Keywords.{wordsIn}
 use Rattle.lexer.specs.declared.reading.Reading.{Reading}
 use Rattle.lexer.specs.declared.reading.Reading.the-variants.{First, Second}
+use Rattle.phrase.specs.Read.{readOf}
 use Rattle.answer.specs.Answer.{answerOf}
 use Rattle.answer.proofs.PhraseAtNow.{settled}
 use Rattle.steps.proofs.Small.{all-smaller}
@@ -23,7 +24,10 @@ use Rattle.ready.specs.Ready.{ReadyPhrase, readyOf, runReady}
 use Rattle.ready.proofs.ReadyPhrases.{MadeReady, made-ready, ready-answers}
 use Rattle.records.specs.Records.{encodeOf, decodeOf}
 use Rattle.records.proofs.Lists.{decoded-back}
-use Rattle.fuzzydate.specs.Called.{readingOf, answerIn, readyIn}
+use Rattle.zones.specs.declared.instants.Instant.{Instant}
+use Rattle.zoned.specs.Local.{runInZone, evaluateInZone}
+use Rattle.zoned.proofs.Calls.{zone-calls-alike}
+use Rattle.fuzzydate.specs.Called.{readingOf, answerIn, readyIn, readInZone}
 
 -- either reading, or 15
 by-number : (P : Answer Reading → Type 0) (k : ℕ) → ((reading : Reading) → P (given reading)) → P (refuse NoReading 0 0) → P (readingOf k)
@@ -62,6 +66,15 @@ pub ready-in-answers : (k : ℕ) (s : List ℕ) (n : Moment) → runReady (ready
 ready-in-answers k s n =
     by-number (λ w. runReady (andThen w (λ r. readyOf r (wordsIn r) s)) n ≡ andThen w (λ r. answerOf r (wordsIn r) s n)) k
     (λ reading. ready-answers reading s n)
+    refl
+
+-- and run at any instant of any file's zone, the answer of the phrase there
+pub ready-in-zone : (k : ℕ) (s file : List ℕ) (n : Instant) → andThen (readyIn k s) (λ ss. runInZone ss file n) ≡ readInZone k s file n
+ready-in-zone k s file n =
+    by-number
+    (λ w. andThen (andThen w (λ r. readyOf r (wordsIn r) s)) (λ ss. runInZone ss file n)
+    ≡ andThen w (λ r. andThen (readOf r (wordsIn r) s) (λ x. evaluateInZone (x .tree) file n))) k
+    (λ reading. zone-calls-alike reading s file n)
     refl
 
 -- the records of any phrase decode to the steps that it was made into

@@ -5,6 +5,7 @@ use mathlib.Core.List.{List}
 use lib.Dec.{ltb}
 use Rattle.refusals.specs.Answers.{Answer, given, refuse, andThen}
 use Rattle.calendar.specs.Moments.{Reach}
+use Rattle.calendar.specs.declared.moments.Moment.{Moment}
 use Rattle.numbers.specs.Slices.{oneIf}
 use Rattle.phrase.specs.Tree.{DateTime}
 use Rattle.answer.specs.Answer.{placed}
@@ -19,18 +20,18 @@ use Rattle.zoned.specs.declared.local.Local.{Local}
 use Rattle.zoned.specs.declared.local.Located.{Located}
 use Rattle.zoned.specs.declared.local.Located.the-variants.{At, Refused}
 
--- what the clocks show by the offset in force, which has 90,000 added: west of UTC or not, and how many seconds
-abbrev pub shownBy : ℕ → Zone → Instant → Local
-shownBy o z x = record {
-  civil = clockOf z x;
-  second = x .second;
+-- what clocks show by the offset in force, which has 90,000 added: west of UTC or not, and by how many seconds
+abbrev pub shownBy : ℕ → Moment → ℕ → Local
+shownBy o t s = record {
+  civil = t;
+  second = s;
   west = oneIf (ltb o 90000);
   offset = cond (ltb o 90000) (90000 - o) (o - 90000);
 }
 
--- at an instant
+-- in a zone at an instant
 abbrev pub localAt : Zone → Instant → Local
-localAt z x = shownBy (shiftAt (z .first) (z .rows) (x .second)) z x
+localAt z x = shownBy (shiftAt (z .first) (z .rows) (x .second)) (clockOf z x) (x .second)
 
 -- the code's answer: "All others hand back an empty part. So do refusals added later, with place 0."
 abbrev pub locatedOf : Located → Answer Local

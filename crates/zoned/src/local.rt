@@ -10,10 +10,11 @@ use zones::instants::Instant;
 use zones::instants::clock_of;
 use zones::search::shift_at;
 ghost use mathlib.Core.Path.{_≡_};
+ghost use Prim.Native.Nat.{_<_};
 ghost use Rattle.tzif.specs.File.{IsChecked, zoneIn};
 ghost use Rattle.zones.specs.Instants.{Shown};
 ghost use Rattle.records.specs.Records.{decodeOf};
-ghost use Rattle.zoned.specs.Local.{localAt, locatedOf, runInZone};
+ghost use Rattle.zoned.specs.Local.{shownBy, localAt, locatedOf, runInZone};
 
 // What the clocks of a zone show at an instant: its second, the civil moment, and the offset from UTC, west of it or not, in seconds.
 pub struct Local {
@@ -32,14 +33,11 @@ pub enum Located {
 // The offset of UTC itself, 90,000 added as to every offset.
 const UTC: u64 = 90000;
 
-// What the clocks show at an instant.
-fn local_at(file: &[u8], p: Places, x: Instant) -> Local
-    requires { ⌜ IsChecked (now file) p × Shown (zoneIn (now file) p) x ⌝ }
-    ensures { λ r. ⌜ r ≡ localAt (zoneIn (now (file .entry)) p) x ⌝ }
+// What clocks show by the offset in force.
+fn shown_by(shift: u64, civil: Moment, second: u64) -> Local
+    requires { ⌜ shift < 183600 ⌝ }
+    ensures { λ r. ⌜ r ≡ shownBy shift civil second ⌝ }
 {
-    let civil = clock_of(file, p, x);
-    let second = x.second;
-    let shift = shift_at(file, p, second);
     if shift < UTC {
         return Local {
             civil,
@@ -54,6 +52,16 @@ fn local_at(file: &[u8], p: Places, x: Instant) -> Local
         west: 0,
         offset: (shift - UTC) as u32,
     }
+}
+
+// What the clocks of a zone show at an instant.
+fn local_at(file: &[u8], p: Places, x: Instant) -> Local
+    requires { ⌜ IsChecked (now file) p × Shown (zoneIn (now file) p) x ⌝ }
+    ensures { λ r. ⌜ r ≡ localAt (zoneIn (now (file .entry)) p) x ⌝ }
+{
+    let civil = clock_of(file, p, x);
+    let shift = shift_at(file, p, x.second);
+    shown_by(shift, civil, x.second)
 }
 
 // A ready phrase at an instant of a file's zone: 21 for the file, then what running it there refuses.
