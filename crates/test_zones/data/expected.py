@@ -2,7 +2,8 @@
 """What phrases mean at instants of zones, worked out apart from the code: writes this program's stdin and the stdout that it must give.
 
 Real zones are those of Debian's tzdata, compiled by its zic so that they reach 2100, and some as Debian ships them; their civil times and instants are
-those of Python's zoneinfo, which is given the very bytes. All else is oracle/zones.py's, a model of document 02.
+those of Python's zoneinfo, which is given the very bytes. All else is oracle/zones.py's, a model of document 02. The lists were made with tzdata 2025b
+and the zic of glibc 2.36.
 Use: python3 expected.py   (it writes ../stdin and ../stdout, and prints what is in them)
 """
 import pathlib
@@ -53,7 +54,7 @@ def new_york(data):
         yield at_second(now)
         yield b"Mfa"
         for phrase in PHRASES:
-            yield from [next(turn) + phrase.encode(), next(turn) + phrase.encode()]
+            yield from (next(turn) + phrase.encode() for _ in range(4 if now in NOWS[:4] else 2))
     yield b"M0"
     # what is refused first: 15, 1 to 7, 21, 8, 22, then 9 and the steps
     yield at_second(1772951400)
@@ -138,7 +139,9 @@ def counts():
     for isut in range(4):
         for isstd in range(4):
             yield from made(built([ENDS], kinds=[KIND, KIND], isut=bytes(isut), isstd=bytes(isstd)))
-    yield from made(built([ENDS], kinds=[], names=b""))
+    for names in (b"", b"EST\0"):
+        yield from made(built(kinds=[], names=names))
+        yield from made(built([ENDS], kinds=[], names=names))
     yield from made(built([ENDS], leap=bytes(12)))
     yield from made(built([ENDS], leap=struct.pack(">ql", 78_796_800, 1)))
     for version in b"\0\1" + b"0123459A~\x7f\x80\xff":
@@ -219,7 +222,7 @@ def every(chosen):
     yield from damaged(files["Africa/Monrovia"])
     yield from thrice()
     dice = zones.Lines(5545, [files[name] for name in ("America/St_Johns", "Asia/Manila", "Antarctica/Casey")])
-    yield from dice.lines(3000)
+    yield from dice.lines(2000)
 
 
 with tempfile.TemporaryDirectory() as folder:
