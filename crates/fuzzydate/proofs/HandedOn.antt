@@ -1,5 +1,5 @@
 -- A ready phrase handed on by its number: the bytes that it says are those of the steps, whatever the array held.
-use Prim.Native.Nat.{ℕ, _*_, _/_, _%_, _≤_, min}
+use Prim.Native.Nat.{ℕ, _/_, _%_, _≤_}
 use native.Mathlib.Omega.{arith}
 use mathlib.Core.Path.{_≡_, refl, ap, _∙_}
 use mathlib.Core.List.{List}

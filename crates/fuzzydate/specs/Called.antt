@@ -117,8 +117,8 @@ abbrev pub nextIn : List ℕ → Moment → Moment → Answer Moment
 nextIn s t asked = cond (isMoment t && isMoment asked) (andThen (readRule s) (λ r. nextOf r t asked)) (refuse NoNow 0 0)
 
 -- an instant by a caller's numbers: seconds since 1970 with a sign, in 64 bits, and a millisecond
-abbrev pub instantOf : ℕ → ℕ → Instant
-instantOf second ms = instantBy (turned second) ms
+abbrev pub instantFrom : ℕ → ℕ → Instant
+instantFrom second ms = instantBy (turned second) ms
 
 -- a phrase at an instant of a file's zone, in the reading of a number: 15, 1 to 7, then "21 for the file, just before 8"
 abbrev pub readInZone : ℕ → List ℕ → List ℕ → Instant → Answer Local

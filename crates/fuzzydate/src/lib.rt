@@ -44,7 +44,7 @@ ghost use Rattle.fuzzydate.specs.Called.{stampAfter, numbersStamp, writt
 ghost use Rattle.repeats.specs.Listing.{rowsAfter};
 ghost use Rattle.coming.specs.Next.{answered};
 ghost use Rattle.zoned.specs.Local.{locatedOf, runInZone};
-ghost use Rattle.fuzzydate.specs.Called.{foundIn, foundAfter, listIn, nextIn, instantOf, readInZone, dueAfter, localAfter};
+ghost use Rattle.fuzzydate.specs.Called.{foundIn, foundAfter, listIn, nextIn, instantFrom, readInZone, dueAfter, localAfter};
 
 // Where the place of a refusal stands in an answer, and where the length of its part does.
 const PLACE: u64 = 65536;
@@ -448,9 +448,9 @@ pub extern "C" fn fuzzy_run_in_zone(
     due: &mut [u64; 1],
     moment: &mut [u32; 9],
 ) -> u64
-    ensures { λ r. ⌜ r ≡ codeOf (runInZone (decodeOf (now (ready .entry))) (now (zone .entry)) (instantOf second millisecond)) ⌝ }
-    ensures { λ _. ⌜ now (due .exit) ≡ dueAfter (runInZone (decodeOf (now (ready .entry))) (now (zone .entry)) (instantOf second millisecond)) (now (due .entry)) ⌝ }
-    ensures { λ _. ⌜ now (moment .exit) ≡ localAfter (runInZone (decodeOf (now (ready .entry))) (now (zone .entry)) (instantOf second millisecond)) (now (moment .entry)) ⌝ }
+    ensures { λ r. ⌜ r ≡ codeOf (runInZone (decodeOf (now (ready .entry))) (now (zone .entry)) (instantFrom second millisecond)) ⌝ }
+    ensures { λ _. ⌜ now (due .exit) ≡ dueAfter (runInZone (decodeOf (now (ready .entry))) (now (zone .entry)) (instantFrom second millisecond)) (now (due .entry)) ⌝ }
+    ensures { λ _. ⌜ now (moment .exit) ≡ localAfter (runInZone (decodeOf (now (ready .entry))) (now (zone .entry)) (instantFrom second millisecond)) (now (moment .entry)) ⌝ }
 {
     let now = Instant {
         second: turned(second),
@@ -470,9 +470,9 @@ pub extern "C" fn fuzzy_read_in_zone(
     due: &mut [u64; 1],
     moment: &mut [u32; 9],
 ) -> u64
-    ensures { λ r. ⌜ r ≡ codeOf (readInZone reading (now (phrase .entry)) (now (zone .entry)) (instantOf second millisecond)) ⌝ }
-    ensures { λ _. ⌜ now (due .exit) ≡ dueAfter (readInZone reading (now (phrase .entry)) (now (zone .entry)) (instantOf second millisecond)) (now (due .entry)) ⌝ }
-    ensures { λ _. ⌜ now (moment .exit) ≡ localAfter (readInZone reading (now (phrase .entry)) (now (zone .entry)) (instantOf second millisecond)) (now (moment .entry)) ⌝ }
+    ensures { λ r. ⌜ r ≡ codeOf (readInZone reading (now (phrase .entry)) (now (zone .entry)) (instantFrom second millisecond)) ⌝ }
+    ensures { λ _. ⌜ now (due .exit) ≡ dueAfter (readInZone reading (now (phrase .entry)) (now (zone .entry)) (instantFrom second millisecond)) (now (due .entry)) ⌝ }
+    ensures { λ _. ⌜ now (moment .exit) ≡ localAfter (readInZone reading (now (phrase .entry)) (now (zone .entry)) (instantFrom second millisecond)) (now (moment .entry)) ⌝ }
 {
     let mut ready = [0; 384];
     let made = fuzzy_make_ready(reading, phrase, &mut ready);

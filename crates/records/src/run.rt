@@ -13,7 +13,7 @@ use steps::run::is_start;
 use steps::run::one_if_time;
 use steps::run::times_due;
 ghost use mathlib.Core.Path.{_≡_};
-ghost use mathlib.Core.Bool.{true, _&&_};
+ghost use mathlib.Core.Bool.{_&&_};
 ghost use Prim.Native.Nat.{_+_, _-_, _*_, _/_, _≤_};
 ghost use lib.ListN.{length};
 ghost use Rattle.calendar.specs.Moments.{IsMoment, reachedOf, Valid};

@@ -1,5 +1,5 @@
 -- The promises of `zones`. Assumes nothing.
-use Rattle.settled.proofs.Settled.{Same, Settled, same, through}
+use Rattle.settled.proofs.Settled.{Settled, same, through}
 use Rattle.settled.proofs.Values.{resolved-one, arrived-one}
 use Rattle.zones.proofs.civil.in_years.Reads as in-years'
 use Rattle.zones.proofs.civil.moment_of_second.Reads as moment-of-second'

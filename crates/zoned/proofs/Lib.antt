@@ -6,3 +6,4 @@ pub mod Acts
 pub mod Ahead
 pub mod Calls
 pub mod NewYork
+pub mod Settles

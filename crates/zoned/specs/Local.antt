@@ -1,10 +1,10 @@
 -- A list of steps or a reading at an instant of a file's zone, and what the clocks show where it ends.
-use Prim.Native.Nat.{ℕ, _-_}
+use Prim.Native.Nat.{ℕ, _-_, _≤_, _<_}
 use mathlib.Core.Bool.{cond}
 use mathlib.Core.List.{List}
 use lib.Dec.{ltb}
 use Rattle.refusals.specs.Answers.{Answer, given, refuse, andThen}
-use Rattle.calendar.specs.Moments.{Reach}
+use Rattle.calendar.specs.Moments.{Reach, IsMoment}
 use Rattle.calendar.specs.declared.moments.Moment.{Moment}
 use Rattle.numbers.specs.Slices.{oneIf}
 use Rattle.phrase.specs.Tree.{DateTime}
@@ -28,6 +28,12 @@ shownBy o t s = record {
   west = oneIf (ltb o 90000);
   offset = cond (ltb o 90000) (90000 - o) (o - 90000);
 }
+
+-- what they can show: a moment of the calendar, west 0 or 1, and an offset below 26 hours
+pub record IsLocal (x : Local) : Type 0 where
+  pub civil : IsMoment (x .civil)
+  pub west : x .west ≤ 1
+  pub offset : x .offset < 93600
 
 -- in a zone at an instant
 abbrev pub localAt : Zone → Instant → Local

@@ -8,7 +8,7 @@ use mathlib.Core.Logic.{⊎-elim}
 use borrow.Author.Tests.{le-leb, lt-leb, lt-ltb, le-ltb}
 use Rattle.digits.proofs.Order.{le-or-lt}
 use Rattle.refusals.specs.Table.{Outside, PastLast}
-use Rattle.calendar.specs.Moments.{Reach, moment, refused, andThen, Outcome, IsMoment, Valid, seconds, secondNumber}
+use Rattle.calendar.specs.Moments.{Reach, moment, refused, andThen, IsMoment, seconds, secondNumber}
 use Rattle.calendar.specs.declared.moments.Moment.{Moment}
 use Rattle.tzif.specs.Zones.{Row, Zone, yearOne, AllBounded, IsZone}
 use Rattle.tzif.specs.File.{IsChecked, zoneIn}

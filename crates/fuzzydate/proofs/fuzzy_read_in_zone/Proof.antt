@@ -6,7 +6,7 @@ use denote.Ref.{now}
 use Rattle.steps.specs.declared.plan.Step.{Step}
 use Rattle.records.specs.Records.{decodeOf}
 use Rattle.zoned.specs.Local.{runInZone}
-use Rattle.fuzzydate.specs.Called.{readyCode, instantOf}
+use Rattle.fuzzydate.specs.Called.{readyCode, instantFrom}
 use Rattle.fuzzydate.proofs.Readings.{ready-in-zone, read-back}
 use Rattle.fuzzydate.proofs.HandedOn.{HandedOn, handed-on, not-handed}
 use borrow.Author.Needs.{needs}
@@ -38,7 +38,7 @@ returns : tie.Need-returns
 returns c =
     let then = c .before .before .before .before in
     let a = then .before .before .before .before .before .args in
-    let n = instantOf (a .second) (a .millisecond) in
+    let n = instantFrom (a .second) (a .millisecond) in
     let h = handed then in
     let made = rw (h .is) at (ready-in-zone (a .reading) (now (a .phrase)) (now (a .zone)) n) in
     let steps = ap decodeOf (h .bytes) ∙ read-back (a .reading) (now (a .phrase)) (h .is) in
@@ -49,7 +49,7 @@ returns c =
 returns-2 : tie.Need-returns-2
 returns-2 c =
     let a = c .before .before .before .before .before .args in
-    let n = instantOf (a .second) (a .millisecond) in
+    let n = instantFrom (a .second) (a .millisecond) in
     let said = c .before .fuzzy-make-ready .ensures .0 in
     let none = not-handed (a .reading) (now (a .phrase)) said (c .if1 .left) in
     let whole = rw (none .is) at (ready-in-zone (a .reading) (now (a .phrase)) (now (a .zone)) n) in

@@ -8,7 +8,6 @@ use Rattle.records.specs.Records.{stepsAt, decodeOf}
 use Rattle.tzif.specs.File.{zoneIn}
 use Rattle.zones.specs.Instants.{arrivedOf}
 use Rattle.zones.specs.declared.instants.Arrived.{Arrived}
-use Rattle.zones.proofs.Bounds.{refused-kept}
 use Rattle.zoned.specs.InZone.{inZone}
 use Rattle.zoned.proofs.Acts.{at-shown}
 use Rattle.zoned.proofs.Ahead.{some-record, lead-dated, lead-now}

@@ -1,4 +1,4 @@
-use mathlib.Core.Path.{_≡_, sym, subst, _∙_}
+use mathlib.Core.Path.{_≡_, sym, subst}
 use Rattle.tzif.specs.File.{zoneIn}
 use Rattle.zones.specs.Instants.{arrivedOf, fixedStep, Kept}
 use Rattle.zones.proofs.Bounds.{last-before, file-zone, fixed-kept}

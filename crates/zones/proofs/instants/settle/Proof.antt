@@ -1,7 +1,6 @@
-use mathlib.Core.Path.{_≡_, sym, subst, ap}
-use Rattle.calendar.specs.Moments.{Reach, Outcome, andThen}
+use mathlib.Core.Path.{sym, subst}
 use Rattle.calendar.proofs.Outcomes.{at-moment}
-use Rattle.zones.specs.Instants.{Kept, instantAt}
+use Rattle.zones.specs.Instants.{Kept}
 use Rattle.zones.proofs.Bounds.{file-zone, instant-kept, refused-kept}
 use borrow.Author.Needs.{needs}
 use Rattle.zones.proofs.instants.settle.Statement.{statement}
