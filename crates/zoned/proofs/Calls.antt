@@ -59,11 +59,11 @@ then-together :
 then-together (given x) f g = refl
 then-together (refused r) f g = refl
 
--- what reading refuses stays before another refusal
-refused-behind :
+-- an answer that does not look at the steps does not look at the reading
+unseen :
     (w : ReadPhrase) (none : Answer Local) → andThen (andThen w (λ x. given (stepsOf (x .tree)))) (λ ss. none) ≡ andThen w (λ x. none)
-refused-behind (given x) none = refl
-refused-behind (refused q) none = refl
+unseen (given x) none = refl
+unseen (refused q) none = refl
 
 -- with the file, and what the clocks show: 21 behind 1 to 7
 module _ (reading : Reading) (s file : List ℕ) (n : Instant) where
@@ -72,7 +72,7 @@ module _ (reading : Reading) (s file : List ℕ) (n : Instant) where
       andThen (readyOf reading (wordsIn reading) s) (λ ss. andThen (zoneBy file k) (λ z. shownIn z (runAt z ss n)))
       ≡ andThen (readOf reading (wordsIn reading) s) (λ x. andThen (zoneBy file k) (λ z. shownIn z (evaluateAt z (x .tree) n)))
   unfolding readyOf
-  by-check Refused e = refused-behind (readOf reading (wordsIn reading) s) (refuse NoZone 0 0)
+  by-check Refused e = unseen (readOf reading (wordsIn reading) s) (refuse NoZone 0 0)
   by-check (Is p) e =
       let z = zoneIn file p in
       let show : Instant → Answer Local = λ x. given (localAt z x) in
