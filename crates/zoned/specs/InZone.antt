@@ -1,5 +1,4 @@
 -- The world of a zone, and a reading or a list of steps at an instant there.
-use Prim.Native.Nat.{ℕ}
 use mathlib.Core.Bool.{cond}
 use mathlib.Core.List.{List}
 use lib.Dec.{ltb}
