@@ -40,6 +40,10 @@ extern "C" {
 /* The room that any moment's phrase needs, in bytes. */
 #define FUZZY_PHRASE_SIZE 26
 
+/* What the clocks of a zone show at an instant: a moment's seven numbers, then west and offset. The offset is in seconds, below 26 hours east of
+ * UTC where west is 0, and below 25 hours west of it where west is 1, then never 0. */
+#define FUZZY_LOCAL_NUMBERS 9
+
 /* The two readings of a phrase; the first is the Rust library's. They differ in what "in" behind a weekday means: at Wednesday, 11 February 2026,
  * "tuesday in two weeks" is 27 January in the first and 3 March in the second; and in what the year behind month and day is: any number in the first,
  * so that "march 3 5 pm" is refused, and four digits in the second, in which it is 17:00 on 3 March. The second also takes "24th" with any ending,
@@ -49,7 +53,8 @@ enum fuzzy_reading {
     FUZZY_SECOND = 2
 };
 
-/* Why a phrase or a ready phrase is refused. They are tested in this order, but for 15, which is tested first. */
+/* Why a phrase or a ready phrase is refused. They are tested in this order, but for 15, which is tested first, and those of zones: 21 is tested just
+ * before 8, 22 of the now just behind it, and 22 and 23 of any other moment where it arises. */
 enum fuzzy_refusal {
     FUZZY_TOO_LONG = 1,        /* the phrase has more than 256 bytes */
     FUZZY_UNKNOWN = 2,         /* a word that is no keyword, or a byte with no meaning */
@@ -70,7 +75,10 @@ enum fuzzy_refusal {
     FUZZY_NO_ROOM = 17,        /* the lent text is too short */
     FUZZY_NO_RULE = 18,        /* no RFC 5545 rule, or one outside those that are taken */
     FUZZY_NO_START = 19,       /* the start does not match the rule, or lies past its UNTIL */
-    FUZZY_NO_NEXT = 20         /* no occurrence of the rule is at or after the asked moment */
+    FUZZY_NO_NEXT = 20,        /* no occurrence of the rule is at or after the asked moment */
+    FUZZY_NO_ZONE = 21,        /* no zone: no TZif file of version 2 or later, or one that passes a bound */
+    FUZZY_PAST_LAST = 22,      /* at or past the last transition of the zone's file */
+    FUZZY_NO_INSTANT = 23      /* a civil time that does not occur in the zone */
 };
 
 /* A phrase at a now, in one of the two readings. 0: the moment's seven numbers are in `moment`. Else a refusal. Where the phrase states a
@@ -134,6 +142,23 @@ uint64_t fuzzy_next(const uint8_t *rule, size_t rule_length, uint32_t year, uint
                     uint32_t second, uint32_t millisecond, uint32_t asked_year, uint32_t asked_month, uint32_t asked_day, uint32_t asked_hour,
                     uint32_t asked_minute, uint32_t asked_second, uint32_t asked_millisecond, uint32_t moment[FUZZY_MOMENT_NUMBERS]);
 
+/* A ready phrase at an instant in a zone. The instant is a second, counted from 1970-01-01T00:00:00Z and below 0 before it, and a millisecond of it; the
+ * zone is the bytes of its TZif file. 0: the second of the instant that is meant is in `due`, and what the clocks show there, its millisecond too, is in
+ * `moment`. Minutes, hours, days and weeks from now or from a stated time are lengths of time; dates, weekdays, months and years go by the clocks: at
+ * 09:00 on the day before clocks go forward by an hour, "1 day from now" is 10:00 and "tomorrow" is 09:00. Of a civil time that occurs twice the earlier
+ * is meant. Else, in this order, 21; 8 for a millisecond above 999 or, before the last transition, a civil now outside the years 1 to 9999; 22 for a now
+ * at or past the last transition (any now, where the file has none); 9 for bytes that are no ready phrase; and what the steps refuse, 10 to 13, 22 and 23.
+ *   A zone's file is one of RFC 9636, version 2 or later, of at most 65,536 bytes, with times that ascend, indexes in range, no leap seconds, offsets above
+ * -25 and below 26 hours, and no transition in the UTC years 0 and 1 or after 9998. Of its footer only the newlines are looked at: what is known ends with
+ * the last transition. */
+uint64_t fuzzy_run_in_zone(const uint8_t *ready, size_t ready_length, const uint8_t *zone, size_t zone_length, int64_t second, uint32_t millisecond,
+                           int64_t *due, uint32_t moment[FUZZY_LOCAL_NUMBERS]);
+
+/* A phrase at an instant in a zone, in one of the two readings: what fuzzy_run_in_zone gives for the phrase made ready. Else what fuzzy_make_ready
+ * refuses, before the refusals there. */
+uint64_t fuzzy_read_in_zone(uint32_t reading, const uint8_t *phrase, size_t phrase_length, const uint8_t *zone, size_t zone_length, int64_t second,
+                            uint32_t millisecond, int64_t *due, uint32_t moment[FUZZY_LOCAL_NUMBERS]);
+
 /* Which refusal an answer is; 0 where it is none. */
 static inline unsigned fuzzy_number(uint64_t answer) { return (unsigned)(answer & 0xffffu); }
 
@@ -168,6 +193,9 @@ static inline const char *fuzzy_word(unsigned number) {
     case FUZZY_NO_RULE: return "no repeating rule that is taken";
     case FUZZY_NO_START: return "the start is no occurrence of the rule";
     case FUZZY_NO_NEXT: return "no occurrence is left";
+    case FUZZY_NO_ZONE: return "no zone file that is taken";
+    case FUZZY_PAST_LAST: return "later than the zone's file knows";
+    case FUZZY_NO_INSTANT: return "the zone's clocks skip that time";
     default: return "no answer of this library";
     }
 }

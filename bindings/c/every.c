@@ -1,4 +1,4 @@
-/* Calls every function with good, damaged and empty input, and looks at every byte that must not change. */
+/* Calls every function with good, damaged and empty input, and looks at every byte that must not change: every ZONE, the file bindings/zones/New_York. */
 #include "fuzzy.h"
 
 #include <stdio.h>
@@ -32,6 +32,8 @@ struct lent {
         uint8_t text[2 * FUZZY_STAMP_SIZE];
         uint32_t found[FUZZY_FOUND_NUMBERS];
         uint32_t moments[MOST_ROWS * FUZZY_MOMENT_NUMBERS];
+        int64_t due;
+        uint32_t local[FUZZY_LOCAL_NUMBERS];
     } in;
     uint8_t after[GUARD];
 };
@@ -419,7 +421,136 @@ static void asked_rules(const char *many, size_t n) {
     unasked("FREQ=WEEKLY;BYDAY=MO", 20, no_time, last, FUZZY_NO_NOW);
 }
 
-int main(void) {
+/* the most bytes of a zone's file, and one more */
+static uint8_t zone[65537];
+static size_t zone_length;
+
+/* 01:30:00 on 8 March 2026, half an hour before New York's clocks go forward; the last transition that the file has */
+#define BEFORE_GAP 1772951400
+#define LAST 1805007600
+
+/* a phrase at an instant in the zone, read, and run where it can be made ready: the same answer, and the same written by both */
+static uint64_t in_zone(uint32_t reading, const char *phrase, size_t n, int64_t second, uint32_t ms, struct lent *due, struct lent *local) {
+    struct lent ready = fresh(), d = fresh(), l = fresh();
+    uint64_t made = fuzzy_make_ready(reading, (const uint8_t *)phrase, n, ready.in.ready);
+    uint64_t answer = fuzzy_read_in_zone(reading, (const uint8_t *)phrase, n, zone, zone_length, second, ms, &due->in.due, local->in.local);
+    if (fuzzy_number(made) != 0) {
+        expect(answer == made, "reading in a zone refuses as making ready does");
+        return answer;
+    }
+    expect(fuzzy_run_in_zone(ready.in.ready, fuzzy_length(made), zone, zone_length, second, ms, &d.in.due, l.in.local) == answer, "running in a zone");
+    expect(memcmp(&d, due, sizeof d) == 0 && memcmp(&l, local, sizeof l) == 0, "what running in a zone writes");
+    return answer;
+}
+
+/* an instant and what New York's clocks show there, month to second, in 2026 and an offset of so many hours to the west; the milliseconds are kept or 0 */
+static void due_at(const char *phrase, int64_t second, int64_t due, uint32_t mo, uint32_t d, uint32_t h, uint32_t mi, uint32_t ms, uint32_t hours) {
+    const uint32_t wanted[FUZZY_LOCAL_NUMBERS] = {2026, mo, d, h, mi, 0, ms, 1, 3600 * hours};
+    uint32_t reading;
+    for (reading = FUZZY_FIRST; reading <= FUZZY_SECOND; reading++) {
+        struct lent at = fresh(), local = fresh();
+        expect(in_zone(reading, phrase, strlen(phrase), second, 250, &at, &local) == 0, "a phrase in a zone");
+        expect(at.in.due == due, "its instant");
+        expect(memcmp(local.in.local, wanted, sizeof wanted) == 0, "what the clocks show");
+        expect(kept_from(&at, sizeof due) && kept_from(&local, sizeof wanted), "nothing written but the instant and what the clocks show");
+    }
+}
+
+/* a refusal in the zone, and nothing written */
+static void undue(uint32_t reading, const char *phrase, size_t n, int64_t second, uint32_t ms, unsigned number) {
+    struct lent due = fresh(), local = fresh();
+    expect(fuzzy_number(in_zone(reading, phrase, n, second, ms, &due, &local)) == number, "the number of a refusal in a zone");
+    expect(kept_from(&due, 0) && kept_from(&local, 0), "nothing written on a refusal in a zone");
+}
+
+/* the same at half past one in the first reading */
+static void undue_phrase(const char *phrase, unsigned number) {
+    undue(FUZZY_FIRST, phrase, strlen(phrase), BEFORE_GAP, 250, number);
+}
+
+static void zones(const char *many, size_t n) {
+    due_at("now", BEFORE_GAP, BEFORE_GAP, 3, 8, 1, 30, 250, 5);
+    due_at("today 3:00", BEFORE_GAP, 1772953200, 3, 8, 3, 0, 0, 4);
+    due_at("an hour from now", BEFORE_GAP, 1772955000, 3, 8, 3, 30, 250, 4);
+    due_at("1 day from now", 1772892000, 1772978400, 3, 8, 10, 0, 250, 4);
+    due_at("tomorrow", 1772892000, 1772974800, 3, 8, 9, 0, 250, 4);
+    due_at("2 months from now", 1770535800, 1775629800, 4, 8, 2, 30, 250, 4);
+    due_at("now", 1793514600, 1793514600, 11, 1, 1, 30, 250, 5);
+    due_at("today", 1793514600, 1793511000, 11, 1, 1, 30, 250, 4);
+    undue(FUZZY_FIRST, "a month from now", 16, 1770535800, 250, FUZZY_NO_INSTANT);
+    undue_phrase("today 2:00", FUZZY_NO_INSTANT);
+    undue_phrase("today 2:59", FUZZY_NO_INSTANT);
+    undue_phrase("2 years from now", FUZZY_PAST_LAST);
+    undue_phrase("four billion days from now", FUZZY_PAST_LAST);
+    undue_phrase("four billion days ago", FUZZY_OUTSIDE);
+    undue_phrase("four billion months from now", FUZZY_OUTSIDE);
+    undue(FUZZY_FIRST, "a year from now", 15, 1709226000, 250, FUZZY_NO_LEAP_DAY);
+    undue_phrase("january 1, 99", FUZZY_NO_TIME);
+    undue_phrase("1000/1/1", FUZZY_NO_DATE);
+    undue_phrase("this month", FUZZY_NO_SENSE);
+    undue(FUZZY_SECOND, "now", 3, LAST, 0, FUZZY_PAST_LAST);
+    undue(FUZZY_SECOND, "this month", 10, LAST, 0, FUZZY_PAST_LAST);
+    undue(FUZZY_SECOND, "now", 3, LAST, 1000, FUZZY_NO_NOW);
+    undue(FUZZY_SECOND, "now", 3, BEFORE_GAP, UINT32_MAX, FUZZY_NO_NOW);
+    undue(FUZZY_SECOND, "now", 3, INT64_MIN, 0, FUZZY_NO_NOW);
+    undue(FUZZY_SECOND, "now", 3, INT64_MAX, 0, FUZZY_PAST_LAST);
+    undue(0, "now", 3, BEFORE_GAP, 1000, FUZZY_NO_READING);
+    undue(FUZZY_FIRST, many, n, BEFORE_GAP, 1000, FUZZY_TOO_LONG);
+    undue(FUZZY_FIRST, "5/2", 3, LAST, 1000, FUZZY_LEFT_OVER);
+}
+
+/* bytes that are no zone, by both calls: behind what making ready refuses, before everything else */
+static void unzoned(void) {
+    undue(FUZZY_FIRST, "now", 3, BEFORE_GAP, 0, FUZZY_NO_ZONE);
+    undue(FUZZY_SECOND, "this month", 10, LAST, 1000, FUZZY_NO_ZONE);
+    undue(FUZZY_FIRST, "", 0, BEFORE_GAP, 0, FUZZY_NOTHING);
+    undue(UINT32_MAX, "", 0, BEFORE_GAP, 0, FUZZY_NO_READING);
+}
+
+/* a zone with a bit changed: refused, or another zone, in which "tomorrow" may be refused too */
+static void damaged(void) {
+    struct lent due = fresh(), local = fresh();
+    uint64_t answer = in_zone(FUZZY_FIRST, "tomorrow", 8, BEFORE_GAP, 250, &due, &local);
+    int written = answer == 0;
+    expect(written || answer == FUZZY_NO_NOW || answer == FUZZY_OUTSIDE || answer >= FUZZY_NO_ZONE, "an answer in a damaged zone");
+    expect(kept_from(&due, written ? sizeof due.in.due : 0), "nothing written but the instant in a damaged zone");
+    expect(kept_from(&local, written ? sizeof local.in.local : 0), "nothing written but what the clocks of a damaged zone show");
+}
+
+/* the file cut short, with each bit changed, and with as many bytes behind it as a zone may have, and one more; then bytes that are no file */
+static void files(const char *many, size_t n) {
+    size_t whole = zone_length, i;
+    for (zone_length = 0; zone_length < whole; zone_length++) unzoned();
+    for (i = 0; i < 8 * whole; i++) {
+        zone[i / 8] ^= (uint8_t)(1u << i % 8);
+        damaged();
+        zone[i / 8] ^= (uint8_t)(1u << i % 8);
+    }
+    zone_length = sizeof zone - 1;
+    due_at("now", BEFORE_GAP, BEFORE_GAP, 3, 8, 1, 30, 250, 5);
+    zone_length = sizeof zone;
+    unzoned();
+    memcpy(zone, many, n);
+    for (zone_length = 0; zone_length <= n; zone_length += 64) unzoned();
+}
+
+/* ready phrases that are none, in a zone */
+static void unready(const char *many) {
+    struct lent due = fresh(), local = fresh();
+    expect(fuzzy_run_in_zone((const uint8_t *)"", 0, zone, zone_length, 0, 0, &due.in.due, local.in.local) == FUZZY_NO_SENSE, "no step in a zone");
+    expect(fuzzy_run_in_zone((const uint8_t *)many, 400, zone, zone_length, 0, 0, &due.in.due, local.in.local) == FUZZY_NO_SENSE, "25 records");
+    expect(fuzzy_run_in_zone((const uint8_t *)"", 0, zone, zone_length, LAST, 0, &due.in.due, local.in.local) == FUZZY_PAST_LAST, "22 before 9");
+    expect(kept_from(&due, 0) && kept_from(&local, 0), "nothing written for what is no ready phrase");
+}
+
+static void take_zone(const char *name) {
+    FILE *file = fopen(name, "rb");
+    if (file == NULL) return;
+    zone_length = fread(zone, 1, sizeof zone, file);
+    fclose(file);
+}
+
+int main(int count, char **arguments) {
     static char many[4096];
     struct lent l = fresh();
     size_t i;
@@ -480,6 +611,10 @@ int main(void) {
     phrases();
     rules(many, sizeof many);
     asked_rules(many, sizeof many);
+    if (count == 2) take_zone(arguments[1]);
+    zones(many, sizeof many);
+    unready(many);
+    files(many, sizeof many);
 
     printf(failed ? "some calls failed\n" : "every call answered as it should\n");
     return failed;

@@ -1,5 +1,5 @@
 /* Reads phrases at one now, a ready phrase at two, one phrase in both readings, and stamps, looks words up, shows a moment as a phrase, lists a
- * rule's occurrences and says which comes next. Copy what you need. */
+ * rule's occurrences and says which comes next, and reads phrases in the zone of a file: example ZONE. Copy what you need. */
 #include "fuzzy.h"
 
 #include <stdio.h>
@@ -80,7 +80,37 @@ static void show_next(const char *rule, uint32_t year) {
     show(rule, answer, moment);
 }
 
-int main(void) {
+/* A zone's file, and room for one byte more than any has, so that a longer one is refused. */
+struct zone {
+    uint8_t bytes[65537];
+    size_t length;
+};
+
+/* Reads a zone's file; 0 where there is none. */
+static int read_zone(const char *name, struct zone *zone) {
+    FILE *file = fopen(name, "rb");
+    if (file == NULL) {
+        return 0;
+    }
+    zone->length = fread(zone->bytes, 1, sizeof zone->bytes, file);
+    fclose(file);
+    return 1;
+}
+
+/* Shows what the clocks of a zone show at the instant that a phrase means there, and that instant's second, or what is wrong and where. */
+static void show_in_zone(const struct zone *zone, const char *phrase, int64_t second) {
+    uint32_t local[FUZZY_LOCAL_NUMBERS];
+    int64_t due;
+    uint64_t answer =
+        fuzzy_read_in_zone(FUZZY_FIRST, (const uint8_t *)phrase, strlen(phrase), zone->bytes, zone->length, second, 0, &due, local);
+    show(phrase, answer, local);
+    if (answer == 0) {
+        printf("  %u seconds %s of UTC, at the second %lld\n", (unsigned)local[8], local[7] == 0 ? "east" : "west", (long long)due);
+    }
+}
+
+int main(int count, char **arguments) {
+    static struct zone new_york;
     static const char *const phrases[] = {"next friday at 3 pm", "an hour ago", "forty days ago", "5/2"};
     uint8_t ready[FUZZY_READY_SIZE];
     uint32_t moment[FUZZY_MOMENT_NUMBERS];
@@ -137,5 +167,15 @@ int main(void) {
     show_next("FREQ=WEEKLY;INTERVAL=2;BYDAY=TU", 2026);
     show_next("FREQ=WEEKLY;INTERVAL=2;BYDAY=TU", 2027);
     show_next("FREQ=DAILY;UNTIL=20260212", 2027);
+
+    /* half an hour before New York's clocks go forward, and in the hour that occurs twice, for the second time */
+    if (count != 2 || !read_zone(arguments[1], &new_york)) {
+        return 1;
+    }
+    show_in_zone(&new_york, "an hour from now", 1772951400);
+    show_in_zone(&new_york, "today 3:00", 1772951400);
+    show_in_zone(&new_york, "today 2:30", 1772951400);
+    show_in_zone(&new_york, "2 years from now", 1772951400);
+    show_in_zone(&new_york, "today 1:30", 1793514600);
     return 0;
 }

@@ -1,6 +1,6 @@
-/* Prints the most bytes of stack that reading, making ready, running, listing and asking for what comes next were seen to use, over the replayed list
- * and over phrases that nest as deeply as 256 bytes let them, and over a rule of each FREQ: stack LIST. A call runs on a stack of its own that is full of
- * a pattern; what an empty call uses is taken off. */
+/* Prints the most bytes of stack that reading, making ready and running, in a zone too, listing and asking for what comes next were seen to use, over the
+ * replayed list and over phrases that nest as deeply as 256 bytes let them, and over a rule of each FREQ: stack LIST ZONE. A call runs on a stack of its
+ * own that is full of a pattern; what an empty call uses is taken off. */
 #define _DEFAULT_SOURCE
 #include "fuzzy.h"
 #include "lent.h"
@@ -15,6 +15,10 @@ static uint8_t ready[FUZZY_READY_SIZE];
 static uint32_t moment[FUZZY_MOMENT_NUMBERS];
 static uint32_t rows[64 * FUZZY_MOMENT_NUMBERS];
 static uint64_t made;
+static uint8_t zone[65536];
+static size_t zone_length;
+static int64_t due;
+static uint32_t local[FUZZY_LOCAL_NUMBERS];
 static ucontext_t here, there;
 
 static void call_nothing(void) {
@@ -32,6 +36,17 @@ static void call_make_ready(void) {
 static void call_run(void) {
     const uint32_t *n = line.now;
     fuzzy_run(ready, fuzzy_length(made), n[0], n[1], n[2], n[3], n[4], n[5], n[6], moment);
+}
+
+/* An instant that New York's file knows. */
+#define SECOND 1772951400
+
+static void call_read_in_zone(void) {
+    fuzzy_read_in_zone(FUZZY_FIRST, line.phrase, line.length, zone, zone_length, SECOND, 0, &due, local);
+}
+
+static void call_run_in_zone(void) {
+    fuzzy_run_in_zone(ready, fuzzy_length(made), zone, zone_length, SECOND, 0, &due, local);
 }
 
 static void call_list(void) {
@@ -56,14 +71,17 @@ static size_t used_by(void (*call)(void)) {
     return (size_t)(end - p);
 }
 
-static size_t most[5];
+/* The functions for phrases, of which the last two run what was made ready, and those for rules. */
+#define PHRASES 5
+#define RULES 2
+static size_t most[PHRASES + RULES];
 
-/* The three functions for phrases on the phrase of `line`. */
+/* The functions for phrases on the phrase of `line`. */
 static void measure(void) {
-    static void (*const calls[3])(void) = {call_read, call_make_ready, call_run};
+    static void (*const calls[PHRASES])(void) = {call_read, call_make_ready, call_read_in_zone, call_run, call_run_in_zone};
     size_t i;
-    for (i = 0; i < 3; i++) {
-        size_t used = i == 2 && fuzzy_number(made) != 0 ? 0 : used_by(calls[i]);
+    for (i = 0; i < PHRASES; i++) {
+        size_t used = i >= 3 && fuzzy_number(made) != 0 ? 0 : used_by(calls[i]);
         if (used > most[i]) most[i] = used;
     }
 }
@@ -79,24 +97,27 @@ static void nested(const char *part, const char *end) {
 
 /* The two functions for rules on a rule. */
 static void repeat(const char *rule) {
-    static void (*const calls[2])(void) = {call_list, call_next};
+    static void (*const calls[RULES])(void) = {call_list, call_next};
     size_t i;
     line.length = strlen(rule);
     memcpy(line.phrase, rule, line.length);
-    for (i = 0; i < 2; i++) {
+    for (i = 0; i < RULES; i++) {
         size_t used = used_by(calls[i]);
-        if (used > most[3 + i]) most[3 + i] = used;
+        if (used > most[PHRASES + i]) most[PHRASES + i] = used;
     }
 }
 
 int main(int count, char **arguments) {
-    static const char *const names[5] = {"fuzzy_read", "fuzzy_make_ready", "fuzzy_run", "fuzzy_list", "fuzzy_next"};
+    static const char *const names[PHRASES + RULES] = {
+        "fuzzy_read", "fuzzy_make_ready", "fuzzy_read_in_zone", "fuzzy_run", "fuzzy_run_in_zone", "fuzzy_list", "fuzzy_next",
+    };
     static const char *const parts[] = {"million ", "1 million ", "a day after ", "1 day before ", "1day from", "1day after ", "1 day, ", "1 day and "};
     static const char *const ends[] = {"days ago", "today", "noon", "1 day ago", "now", ""};
     static char text[8192];
     size_t i, j, nothing;
-    FILE *in = count == 2 ? fopen(arguments[1], "r") : NULL;
-    if (in == NULL) stop("usage: stack LIST");
+    FILE *in = count == 3 ? fopen(arguments[1], "r") : NULL, *file = count == 3 ? fopen(arguments[2], "rb") : NULL;
+    if (in == NULL || file == NULL) stop("usage: stack LIST ZONE");
+    zone_length = fread(zone, 1, sizeof zone, file);
     stack = fenced(ROOM);
     memset(stack.first, PATTERN, stack.size);
     nothing = used_by(call_nothing);
@@ -111,6 +132,6 @@ int main(int count, char **arguments) {
     repeat("FREQ=WEEKLY;UNTIL=99991231T235959;BYDAY=MO,TU,WE,TH,FR,SA,SU;INTERVAL=2;WKST=MO");
     repeat("FREQ=WEEKLY;BYDAY=MO,TU,WE,TH,FR,SA,SU;INTERVAL=2;COUNT=3652058");
     repeat("FREQ=MONTHLY;BYMONTHDAY=+29;INTERVAL=12;COUNT=3652058");
-    for (i = 0; i < 5; i++) printf("%-18s %6zu bytes of stack\n", names[i], most[i] - nothing);
+    for (i = 0; i < PHRASES + RULES; i++) printf("%-18s %6zu bytes of stack\n", names[i], most[i] - nothing);
     return 0;
 }

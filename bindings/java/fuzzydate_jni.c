@@ -9,7 +9,8 @@
 #ifdef fuzzydate_Calls_READY_SIZE
 #if fuzzydate_Calls_MOMENT_NUMBERS != FUZZY_MOMENT_NUMBERS || fuzzydate_Calls_STAMP_NUMBERS != FUZZY_STAMP_NUMBERS || \
     fuzzydate_Calls_FOUND_NUMBERS != FUZZY_FOUND_NUMBERS || fuzzydate_Calls_READY_SIZE != FUZZY_READY_SIZE || \
-    fuzzydate_Calls_STAMP_SIZE != FUZZY_STAMP_SIZE || fuzzydate_Calls_PHRASE_SIZE != FUZZY_PHRASE_SIZE
+    fuzzydate_Calls_STAMP_SIZE != FUZZY_STAMP_SIZE || fuzzydate_Calls_PHRASE_SIZE != FUZZY_PHRASE_SIZE || \
+    fuzzydate_Calls_LOCAL_NUMBERS != FUZZY_LOCAL_NUMBERS
 #error "Calls.java and fuzzy.h have different sizes"
 #endif
 #endif
@@ -67,10 +68,27 @@ static int take_bytes(JNIEnv *env, jbyteArray array, struct bytes *bytes) {
     return 1;
 }
 
+/* Copies all bytes of two arrays, to be freed; 0 with an exception and nothing to be freed where that is left of one. */
+static int take_both(JNIEnv *env, jbyteArray one, struct bytes *first, jbyteArray other, struct bytes *second) {
+    if (!take_bytes(env, one, first)) return 0;
+    if (take_bytes(env, other, second)) return 1;
+    free(first->first);
+    return 0;
+}
+
 /* The answer of a call that gives numbers, which go to the array where there is no refusal. */
 static jlong give_numbers(JNIEnv *env, uint64_t answer, jintArray array, jsize count, const uint32_t *numbers) {
     if (fuzzy_number(answer) == 0) (*env)->SetIntArrayRegion(env, array, 0, count, (const jint *)numbers);
     return (jlong)answer;
+}
+
+/* The answer of a call that gives an instant's second and what the clocks show, which go to their arrays where there is no refusal. */
+static jlong give_local(JNIEnv *env, uint64_t answer, jlongArray due, int64_t second, jintArray moment, const uint32_t *numbers) {
+    jlong given = (jlong)second;
+    if (fuzzy_number(answer) != 0) return (jlong)answer;
+    (*env)->SetLongArrayRegion(env, due, 0, 1, &given);
+    if ((*env)->ExceptionCheck(env)) return 0;
+    return give_numbers(env, answer, moment, FUZZY_LOCAL_NUMBERS, numbers);
 }
 
 /* The answer of a call that gives as many bytes as it says, which go to the array where there is no refusal. */
@@ -191,6 +209,34 @@ JNIEXPORT jlong JNICALL Java_fuzzydate_Calls_next(JNIEnv *env, jclass calls, jby
     answer = fuzzy_next(r.first, r.length, SEVEN(s), SEVEN(a), m);
     free(r.first);
     return give_numbers(env, answer, moment, FUZZY_MOMENT_NUMBERS, m);
+}
+
+JNIEXPORT jlong JNICALL Java_fuzzydate_Calls_runInZone(JNIEnv *env, jclass calls, jbyteArray ready, jbyteArray zone, jlong second, jint millisecond,
+                                                       jlongArray due, jintArray moment) {
+    uint32_t m[FUZZY_LOCAL_NUMBERS];
+    int64_t d = 0;
+    struct bytes r, z;
+    uint64_t answer;
+    (void)calls;
+    if (!has_room(env, due, 1) || !has_room(env, moment, FUZZY_LOCAL_NUMBERS) || !take_both(env, ready, &r, zone, &z)) return 0;
+    answer = fuzzy_run_in_zone(r.first, r.length, z.first, z.length, (int64_t)second, (uint32_t)millisecond, &d, m);
+    free(r.first);
+    free(z.first);
+    return give_local(env, answer, due, d, moment, m);
+}
+
+JNIEXPORT jlong JNICALL Java_fuzzydate_Calls_readInZone(JNIEnv *env, jclass calls, jint reading, jbyteArray phrase, jbyteArray zone, jlong second,
+                                                        jint millisecond, jlongArray due, jintArray moment) {
+    uint32_t m[FUZZY_LOCAL_NUMBERS];
+    int64_t d = 0;
+    struct bytes p, z;
+    uint64_t answer;
+    (void)calls;
+    if (!has_room(env, due, 1) || !has_room(env, moment, FUZZY_LOCAL_NUMBERS) || !take_both(env, phrase, &p, zone, &z)) return 0;
+    answer = fuzzy_read_in_zone((uint32_t)reading, p.first, p.length, z.first, z.length, (int64_t)second, (uint32_t)millisecond, &d, m);
+    free(p.first);
+    free(z.first);
+    return give_local(env, answer, due, d, moment, m);
 }
 
 JNIEXPORT jint JNICALL Java_fuzzydate_Calls_number(JNIEnv *env, jclass calls, jlong answer) {

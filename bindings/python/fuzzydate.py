@@ -1,7 +1,8 @@
 """Reminder phrases such as "next friday at 3 pm", read at a now that the caller gives.
 
 A phrase is its bytes; a str stands for its UTF-8. A moment is a datetime without a zone, of whole milliseconds: any other is a ValueError, since a
-part of it would be lost. What is refused raises a Refusal. All functions may run in any thread. libfuzzydate.so stands beside this file.
+part of it would be lost. An instant is a datetime with a zone, of whole milliseconds too. What is refused raises a Refusal. All functions may run in
+any thread. libfuzzydate.so stands beside this file.
 """
 
 import ctypes
@@ -10,7 +11,7 @@ import pathlib
 from datetime import datetime, timedelta, timezone
 from typing import NamedTuple, Optional
 
-_MOMENT_NUMBERS, _STAMP_NUMBERS, _FOUND_NUMBERS = 7, 9, 2
+_MOMENT_NUMBERS, _STAMP_NUMBERS, _FOUND_NUMBERS, _LOCAL_NUMBERS = 7, 9, 2, 9
 _READY_SIZE, _STAMP_SIZE, _PHRASE_SIZE = 384, 29, 26
 
 _library = ctypes.CDLL(str(pathlib.Path(__file__).resolve().with_name("libfuzzydate.so")))
@@ -23,10 +24,12 @@ def _declare(name, *parts):
         "number": [number],
         "moment": [number] * _MOMENT_NUMBERS,
         "bytes": [ctypes.c_char_p, ctypes.c_size_t],
+        "instant": [ctypes.c_int64, number],
         "numbers lent": [numbers],
         "bytes lent": [ctypes.c_char_p],
         "text lent": [ctypes.c_char_p, ctypes.c_size_t],
         "rows lent": [numbers, ctypes.c_size_t],
+        "local lent": [ctypes.POINTER(ctypes.c_int64), numbers],
     }
     function = getattr(_library, name)
     function.argtypes = [kind for part in parts for kind in kinds[part]]
@@ -43,6 +46,10 @@ _find_word = _declare("fuzzy_find_word", "number", "bytes", "numbers lent")
 _write_phrase = _declare("fuzzy_write_phrase", "moment", "text lent")
 _list = _declare("fuzzy_list", "bytes", "moment", "rows lent")
 _next = _declare("fuzzy_next", "bytes", "moment", "moment", "numbers lent")
+_run_in_zone = _declare("fuzzy_run_in_zone", "bytes", "bytes", "instant", "local lent")
+_read_in_zone = _declare("fuzzy_read_in_zone", "number", "bytes", "bytes", "instant", "local lent")
+
+_EPOCH = datetime(1970, 1, 1, tzinfo=timezone.utc)
 
 
 class Reading(enum.IntEnum):
@@ -81,6 +88,9 @@ class Reason(enum.IntEnum):
     NO_RULE = 18, "no repeating rule that is taken"
     NO_START = 19, "the start is no occurrence of the rule"
     NO_NEXT = 20, "no occurrence is left"
+    NO_ZONE = 21, "no zone file that is taken"
+    PAST_LAST = 22, "later than the zone's file knows"
+    NO_INSTANT = 23, "the zone's clocks skip that time"
 
 
 class Refusal(Exception):
@@ -112,6 +122,21 @@ class FoundWord(NamedTuple):
     comparisons: int
 
 
+class Local(NamedTuple):
+    """What the clocks of a zone show at an instant.
+
+    The instant's second, counted from 1970-01-01T00:00:00Z, the civil moment, and its distance from UTC in seconds, below 0 to the west.
+    """
+
+    second: int
+    moment: datetime
+    offset: int
+
+    def aware(self):
+        """The moment with its offset as its zone, which is the instant; None where the offset has 24 hours or more, which datetime does not have."""
+        return None if abs(self.offset) >= 86_400 else self.moment.replace(tzinfo=timezone(timedelta(seconds=self.offset)))
+
+
 def _bytes(phrase):
     return phrase.encode() if isinstance(phrase, str) else bytes(memoryview(phrase))
 
@@ -124,6 +149,17 @@ def _numbers(moment):
 
 def _moment(numbers):
     return datetime(*numbers[:6], numbers[6] * 1000)
+
+
+def _instant(instant):
+    passed = None if instant.utcoffset() is None else instant - _EPOCH
+    if passed is None or passed.microseconds % 1000 != 0:
+        raise ValueError(f"an instant has a zone and whole milliseconds: {instant}")
+    return passed // timedelta(seconds=1), passed.microseconds // 1000
+
+
+def _local(second, numbers):
+    return Local(second.value, _moment(numbers), numbers[8] if numbers[7] == 0 else -numbers[8])
 
 
 def _checked(answer, phrase=b""):
@@ -205,3 +241,23 @@ def next(rule, start, asked):
     rule, moment = _bytes(rule), (ctypes.c_uint32 * _MOMENT_NUMBERS)()
     _checked(_next(rule, len(rule), *_numbers(start), *_numbers(asked), moment))
     return _moment(moment)
+
+
+def run_in_zone(ready, zone, now):
+    """A ready phrase at an instant in a zone, which is the bytes of its TZif file; fuzzy.h says which are taken.
+
+    Minutes, hours, days and weeks from now or from a stated time are lengths of time; dates, weekdays, months and years go by the clocks. Of a civil time
+    that occurs twice the earlier is meant. One that doesn't occur is refused, and so is any moment at or past the file's last transition.
+    """
+    ready, zone = _bytes(ready), _bytes(zone)
+    due, local = ctypes.c_int64(), (ctypes.c_uint32 * _LOCAL_NUMBERS)()
+    _checked(_run_in_zone(ready, len(ready), zone, len(zone), *_instant(now), due, local))
+    return _local(due, local)
+
+
+def read_in_zone(reading, phrase, zone, now):
+    """A phrase at an instant in a zone: what run_in_zone gives for the phrase made ready."""
+    phrase, zone = _bytes(phrase), _bytes(zone)
+    due, local = ctypes.c_int64(), (ctypes.c_uint32 * _LOCAL_NUMBERS)()
+    _checked(_read_in_zone(Reading(reading), phrase, len(phrase), zone, len(zone), *_instant(now), due, local), phrase)
+    return _local(due, local)

@@ -25,7 +25,7 @@ public enum Reading: UInt32, Sendable {
 /// Why something is refused, under the names and in the order of fuzzy.h, which says more of each.
 public enum Reason: UInt32, Sendable {
     case tooLong = 1, unknown, largeDigits, tooMany, nothing, largeSum, leftOver, noNow, noSense, noDate, noTime, outside, noLeapDay
-    case noStamp, noReading, notWhole, noRoom, noRule, noStart, noNext
+    case noStamp, noReading, notWhole, noRoom, noRule, noStart, noNext, noZone, pastLast, noInstant
 
     /// What is wrong, in plain words.
     public var words: String { String(cString: fuzzy_word(rawValue)) }
@@ -62,6 +62,30 @@ public struct Stamp: Hashable, Sendable {
 public struct FoundWord: Hashable, Sendable {
     public let code: UInt32?
     public let comparisons: UInt32
+}
+
+/// An instant: a second, counted from 1970-01-01T00:00:00Z and below 0 before it, and a millisecond of it from 0 to 999. Other milliseconds may stand here
+/// too: such a now is refused.
+public struct Instant: Hashable, Sendable {
+    public var second: Int64
+    public var millisecond: UInt32
+
+    public init(second: Int64, millisecond: UInt32) {
+        (self.second, self.millisecond) = (second, millisecond)
+    }
+}
+
+/// What the clocks of a zone show at an instant: a civil moment, and its distance from UTC in seconds, below 0 to the west.
+public struct Local: Hashable, Sendable {
+    public let instant: Instant
+    public let moment: Moment
+    public let offset: Int32
+
+    /// By an instant's second and nine numbers.
+    fileprivate init(_ second: Int64, _ n: [UInt32]) {
+        (instant, moment) = (Instant(second: second, millisecond: n[6]), Moment(n))
+        offset = n[7] == 0 ? Int32(n[8]) : -Int32(n[8])
+    }
 }
 
 public enum Fuzzydate {
@@ -168,6 +192,30 @@ public enum Fuzzydate {
 
     public static func next(_ rule: String, from start: Moment, asked: Moment) throws -> Moment {
         try next(Array(rule.utf8), from: start, asked: asked)
+    }
+
+    /// A ready phrase at an instant in a zone, which is the bytes of its TZif file; fuzzy.h says which are taken. Minutes, hours, days and weeks from now or
+    /// from a stated time are lengths of time; dates, weekdays, months and years go by the clocks. Of a civil time that occurs twice the earlier is meant.
+    /// One that doesn't occur is refused, and so is any moment at or past the file's last transition.
+    public static func runInZone(_ ready: [UInt8], zone: [UInt8], now n: Instant) throws -> Local {
+        var due: Int64 = 0
+        var local = numbers(FUZZY_LOCAL_NUMBERS)
+        _ = try checked(fuzzy_run_in_zone(ready, ready.count, zone, zone.count, n.second, n.millisecond, &due, &local))
+        return Local(due, local)
+    }
+
+    /// A phrase at an instant in a zone: what `runInZone` gives for the phrase made ready.
+    public static func readInZone(_ reading: Reading, _ phrase: [UInt8], zone: [UInt8], now n: Instant) throws -> Local {
+        var due: Int64 = 0
+        var local = numbers(FUZZY_LOCAL_NUMBERS)
+        let answer = fuzzy_read_in_zone(
+            reading.rawValue, phrase, phrase.count, zone, zone.count, n.second, n.millisecond, &due, &local)
+        _ = try checked(answer, phrase)
+        return Local(due, local)
+    }
+
+    public static func readInZone(_ reading: Reading, _ phrase: String, zone: [UInt8], now: Instant) throws -> Local {
+        try readInZone(reading, Array(phrase.utf8), zone: zone, now: now)
     }
 
     /// The days of the calendar: no rule has more occurrences.

@@ -1,6 +1,7 @@
-"""Every function with good, damaged and empty input, each refusal once, in eight threads too: every.py FUZZY_H."""
+"""Every function with good, damaged and empty input, each refusal once, in eight threads too: every.py FUZZY_H ZONE."""
 
 import ctypes
+import math
 import random
 import re
 import sys
@@ -8,7 +9,7 @@ from concurrent.futures import ThreadPoolExecutor
 from datetime import datetime, timedelta, timezone
 
 import fuzzydate
-from fuzzydate import FoundWord, Reading, Reason, Refusal, Stamp
+from fuzzydate import FoundWord, Local, Reading, Reason, Refusal, Stamp
 
 NOW = datetime(2026, 2, 11, 9, 30, 15, 250_000)
 LEAP_DAY = datetime(2024, 2, 29, 12)
@@ -16,6 +17,9 @@ WHOLE = datetime(2026, 3, 4, 9, 5)
 TUESDAY = datetime(2026, 2, 10, 9, 30, 15, 250_000)
 TUESDAYS = "FREQ=WEEKLY;INTERVAL=2;BYDAY=TU"
 MILLISECOND = timedelta(milliseconds=1)
+BEFORE_GAP = datetime(2026, 3, 8, 6, 30, 0, 250_000, timezone.utc)
+LAST = datetime(2027, 3, 14, 7, tzinfo=timezone.utc)
+FIRST_OFFSET = slice(131, 135)  # where the first offset stands in the zone's file
 THREADS = 8
 
 
@@ -197,6 +201,112 @@ def rows():
         expect(list(lent) == written + kept[len(written) :], rule)
 
 
+def due(reading, phrase, zone, now):
+    """What a phrase means at an instant in a zone, read and run."""
+    local = fuzzydate.read_in_zone(reading, phrase, zone, now)
+    expect(fuzzydate.run_in_zone(fuzzydate.make_ready(reading, phrase), zone, now) == local, phrase)
+    return local
+
+
+def undue(reason, phrase, zone, now):
+    """A phrase that both calls refuse alike."""
+    refused(reason, due, 1, phrase, zone, now)
+    if reason > Reason.LEFT_OVER:
+        refused(reason, fuzzydate.run_in_zone, fuzzydate.make_ready(1, phrase), zone, now)
+
+
+def zones():
+    for phrase, now, wanted in [
+        ("now", "2026-03-08T06:30:00.250+00:00", "2026-03-08T01:30:00.250-05:00"),
+        ("today 3:00", "2026-03-08T01:30:00.250-05:00", "2026-03-08T03:00:00-04:00"),
+        (b"an hour from now", "2026-03-08T12:00:00.250+05:30", "2026-03-08T03:30:00.250-04:00"),
+        ("1 day from now", "2026-03-07T14:00:00+00:00", "2026-03-08T10:00:00-04:00"),
+        ("tomorrow", "2026-03-07T14:00:00+00:00", "2026-03-08T09:00:00-04:00"),
+        ("2 months from now", "2026-02-08T07:30:00.999+00:00", "2026-04-08T02:30:00.999-04:00"),
+        ("now", "2026-11-01T06:30:00+00:00", "2026-11-01T01:30:00-05:00"),
+        ("today", "2026-11-01T06:30:00+00:00", "2026-11-01T01:30:00-04:00"),
+        ("now", "1969-12-31T23:59:59.999+00:00", "1969-12-31T18:59:59.999-05:00"),
+    ]:
+        time = datetime.fromisoformat(wanted)
+        for reading in Reading:
+            local = due(reading, phrase, NEW_YORK, datetime.fromisoformat(now))
+            expect(local == Local(math.floor(time.timestamp()), time.replace(tzinfo=None), time.utcoffset().total_seconds()), wanted)
+            expect(local.aware() == time and local.aware().utcoffset() == time.utcoffset(), wanted)
+
+
+def refused_in_zones():
+    for reason, phrase, now in [
+        (Reason.NO_INSTANT, "today 2:00", BEFORE_GAP),
+        (Reason.NO_INSTANT, "a month from now", datetime(2026, 2, 8, 7, 30, tzinfo=timezone.utc)),
+        (Reason.PAST_LAST, "2 years from now", BEFORE_GAP),
+        (Reason.PAST_LAST, "now", LAST),
+        (Reason.PAST_LAST, "this month", datetime.max.replace(microsecond=0, tzinfo=timezone(-timedelta(hours=23)))),
+        (Reason.NO_NOW, "now", datetime.min.replace(tzinfo=timezone.utc)),
+        (Reason.NO_SENSE, "this month", BEFORE_GAP),
+        (Reason.NO_DATE, "1000/1/1", BEFORE_GAP),
+        (Reason.NO_TIME, "january 1, 99", BEFORE_GAP),
+        (Reason.OUTSIDE, "four billion days ago", BEFORE_GAP),
+        (Reason.NO_LEAP_DAY, "a year from now", datetime(2024, 2, 29, 17, tzinfo=timezone.utc)),
+    ]:
+        undue(reason, phrase, NEW_YORK, now)
+        undue(Reason.NO_ZONE, phrase, b"", now)
+    refusal = refused(Reason.UNKNOWN, fuzzydate.read_in_zone, 1, "next forty", b"", LAST)
+    expect((refusal.place, refusal.part) == (5, b"forty"), "a word before the zone")
+    refused(Reason.NO_SENSE, fuzzydate.run_in_zone, bytes(400), NEW_YORK, BEFORE_GAP)
+    refused(Reason.NO_ZONE, fuzzydate.run_in_zone, bytes(400), bytes(400), LAST)
+
+
+def zone_offsets():
+    """Offsets of less than 24 hours are datetime's, and others are seconds alone."""
+    now = datetime(2026, 2, 1, 12, tzinfo=timezone.utc)
+    for seconds in (0, 1, -1, 19_800, -17_762, 86_399, -86_399, 86_400, -86_400, 93_599, -89_999):
+        zone = bytearray(NEW_YORK)
+        zone[FIRST_OFFSET] = seconds.to_bytes(4, "big", signed=True)
+        local = due(1, "now", zone, now)
+        expect(local == Local(now.timestamp(), now.replace(tzinfo=None) + timedelta(seconds=seconds), seconds), seconds)
+        expect(local.aware() == (now if abs(seconds) < 86_400 else None), seconds)
+    for seconds in (93_600, -90_000, 2**31 - 1, -(2**31)):
+        zone = bytearray(NEW_YORK)
+        zone[FIRST_OFFSET] = seconds.to_bytes(4, "big", signed=True)
+        undue(Reason.NO_ZONE, "now", zone, now)
+
+
+def zone_files():
+    """The file cut short, with each bit changed, and with as many bytes behind it as a zone may have, and one more."""
+    for length in range(len(NEW_YORK)):
+        undue(Reason.NO_ZONE, "now", NEW_YORK[:length], BEFORE_GAP)
+    kept = 0
+    for bit in range(8 * len(NEW_YORK)):
+        zone = bytearray(NEW_YORK)
+        zone[bit // 8] ^= 1 << bit % 8
+        try:
+            due(2, "tomorrow", zone, BEFORE_GAP)
+            kept += 1
+        except Refusal as refusal:
+            expect(refusal.reason in (Reason.NO_NOW, Reason.OUTSIDE, Reason.NO_ZONE, Reason.PAST_LAST, Reason.NO_INSTANT), f"bit {bit}: {refusal}")
+    expect(kept > 0, "other zones")
+    longest = NEW_YORK.ljust(65_536, b"\0")
+    expect(due(1, "now", longest, BEFORE_GAP) == due(1, "now", NEW_YORK, BEFORE_GAP), "the longest file")
+    undue(Reason.NO_ZONE, "now", longest + b"\0", BEFORE_GAP)
+
+
+def lent_in_zones():
+    """What is lent to both calls: written with 0, and as before on a refusal."""
+    ready = fuzzydate.make_ready(1, "now")
+    for zone, second, millisecond, answer in [
+        (NEW_YORK, 1772951400, 999, 0),
+        (NEW_YORK, 1772951400, 1000, Reason.NO_NOW),
+        (NEW_YORK, -(2**63), 0, Reason.NO_NOW),
+        (NEW_YORK, 2**63 - 1, 0, Reason.PAST_LAST),
+        (b"TZif2", 1772951400, 1000, Reason.NO_ZONE),
+    ]:
+        for call, given in [(fuzzydate._read_in_zone, (1, b"now", 3)), (fuzzydate._run_in_zone, (ready, len(ready)))]:
+            second_lent, lent = ctypes.c_int64(0xA5), (ctypes.c_uint32 * 10)(*[0xA5] * 10)
+            expect(call(*given, zone, len(zone), second, millisecond, second_lent, lent) == answer, second)
+            written = [2026, 3, 8, 1, 30, 0, 999, 1, 18000] if answer == 0 else [0xA5] * 9
+            expect(second_lent.value == (second if answer == 0 else 0xA5) and list(lent) == [*written, 0xA5], second)
+
+
 def longest():
     """The most that can be wanted."""
     months = fuzzydate.occurrences("FREQ=MONTHLY", datetime.min, 2**70)
@@ -213,8 +323,12 @@ def misused():
         raises(ValueError, fuzzydate.occurrences, TUESDAYS, now, 1)
         raises(ValueError, fuzzydate.next, TUESDAYS, now, TUESDAY)
         raises(ValueError, fuzzydate.next, TUESDAYS, TUESDAY, now)
+    for now in (NOW, BEFORE_GAP.replace(microsecond=1), BEFORE_GAP.replace(tzinfo=timezone(timedelta(microseconds=1)))):
+        raises(ValueError, fuzzydate.read_in_zone, 1, "today", NEW_YORK, now)
+        raises(ValueError, fuzzydate.run_in_zone, ready, NEW_YORK, now)
     for reading in (0, 3, None, 2**32 + 1):
         raises(ValueError, fuzzydate.read, reading, "today", NOW)
+        raises(ValueError, fuzzydate.read_in_zone, reading, "today", NEW_YORK, LAST)
     for phrase in (None, 5):
         raises(TypeError, fuzzydate.read, 1, phrase, NOW)
         raises(TypeError, fuzzydate.make_ready, 1, phrase)
@@ -223,8 +337,13 @@ def misused():
         raises(TypeError, fuzzydate.find_word, 1, phrase)
         raises(TypeError, fuzzydate.occurrences, phrase, TUESDAY, 1)
         raises(TypeError, fuzzydate.next, phrase, TUESDAY, TUESDAY)
+        raises(TypeError, fuzzydate.read_in_zone, 1, phrase, NEW_YORK, LAST)
+        raises(TypeError, fuzzydate.read_in_zone, 1, "today", phrase, LAST)
+        raises(TypeError, fuzzydate.run_in_zone, phrase, NEW_YORK, LAST)
+        raises(TypeError, fuzzydate.run_in_zone, ready, phrase, LAST)
     raises(UnicodeEncodeError, fuzzydate.read, 1, "\ud800", NOW)
     raises(AttributeError, fuzzydate.read, 1, "today", None)
+    raises(AttributeError, fuzzydate.read_in_zone, 1, "today", NEW_YORK, None)
     raises(ValueError, fuzzydate.occurrences, TUESDAYS, TUESDAY, -1)
 
 
@@ -235,6 +354,8 @@ def garbage(seed):
         refused(Reason.NO_SENSE, fuzzydate.run, some, NOW)
         refused(Reason.NO_STAMP, fuzzydate.read_stamp, some)
         unlisted(Reason.NO_RULE, some)
+        undue(Reason.NO_ZONE, "now", some, BEFORE_GAP)
+        refused(Reason.NO_SENSE, fuzzydate.run_in_zone, some, NEW_YORK, BEFORE_GAP)
         expect(fuzzydate.find_word(2, some).comparisons <= 8, "comparisons")
         try:
             fuzzydate.read(2, some, NOW)
@@ -254,11 +375,15 @@ def as_the_header(header):
 def every(seed):
     for part in (moments, refusals, below, stamps, words, phrases, rules, refused_rules, rows, misused):
         part()
+    for part in (zones, refused_in_zones, zone_offsets, zone_files, lent_in_zones):
+        part()
     garbage(seed)
 
 
 with open(sys.argv[1]) as header:
     as_the_header(header.read())
+with open(sys.argv[2], "rb") as file:
+    NEW_YORK = file.read()
 every(0)
 longest()
 with ThreadPoolExecutor(THREADS) as pool:

@@ -61,6 +61,18 @@
 //! let a_year_later = Moment { year: 2027, ..start };
 //! assert_eq!(rule.next(start, a_year_later).unwrap().to_string(), "2027-02-23 09:30:00");
 //! ```
+//!
+//! Where clocks change, a phrase is read at an instant, in the zone of a TZif file:
+//!
+//! ```
+//! use fuzzydate::{read_in_zone, Instant, Reading, Zone};
+//!
+//! let new_york = Zone::parse(&std::fs::read("../zones/New_York").unwrap()).unwrap();
+//! let now = Instant { second: 1772892000, millisecond: 0 }; // 2026-03-07 09:00:00 -05:00, the day before clocks go forward
+//! let due = |phrase| read_in_zone(Reading::First, phrase, &new_york, now).unwrap().to_string();
+//! assert_eq!(due("tomorrow"), "2026-03-08 09:00:00 -04:00");
+//! assert_eq!(due("1 day from now"), "2026-03-08 10:00:00 -04:00");
+//! ```
 use std::fmt;
 use std::str::FromStr;
 
@@ -147,6 +159,27 @@ extern "C" {
         asked_minute: u32,
         asked_second: u32,
         asked_millisecond: u32,
+        moment: *mut u32,
+    ) -> u64;
+    fn fuzzy_run_in_zone(
+        ready: *const u8,
+        ready_length: usize,
+        zone: *const u8,
+        zone_length: usize,
+        second: i64,
+        millisecond: u32,
+        due: *mut i64,
+        moment: *mut u32,
+    ) -> u64;
+    fn fuzzy_read_in_zone(
+        reading: u32,
+        phrase: *const u8,
+        phrase_length: usize,
+        zone: *const u8,
+        zone_length: usize,
+        second: i64,
+        millisecond: u32,
+        due: *mut i64,
         moment: *mut u32,
     ) -> u64;
 }
@@ -257,7 +290,8 @@ pub enum Reading {
     Second = 2,
 }
 
-/// Why a phrase, a ready phrase, a stamp or a rule is refused. They are tested in this order.
+/// Why a phrase, a ready phrase, a stamp, a rule or a zone is refused. They are tested in this order, but for those of zones: `NoZone` is tested just before
+/// `NoNow`, `PastLast` of the now just behind it, and `PastLast` and `NoInstant` of any other moment where it arises.
 #[derive(Clone, Copy, Debug, PartialEq, Eq, PartialOrd, Ord, Hash)]
 #[repr(u8)]
 pub enum Reason {
@@ -301,11 +335,17 @@ pub enum Reason {
     NoStart = 19,
     /// No occurrence of the rule is at or after the asked moment.
     NoNext = 20,
+    /// No zone: no TZif file of version 2 or later, or one that passes a bound.
+    NoZone = 21,
+    /// At or past the last transition of the zone's file.
+    PastLast = 22,
+    /// A civil time that doesn't occur in the zone.
+    NoInstant = 23,
 }
 
 impl Reason {
     /// In the order of their numbers.
-    const ALL: [Reason; 20] = [
+    const ALL: [Reason; 23] = [
         Reason::TooLong,
         Reason::Unknown,
         Reason::LargeDigits,
@@ -326,6 +366,9 @@ impl Reason {
         Reason::NoRule,
         Reason::NoStart,
         Reason::NoNext,
+        Reason::NoZone,
+        Reason::PastLast,
+        Reason::NoInstant,
     ];
 
     /// The reason of a number that the library answers.
@@ -361,6 +404,9 @@ impl Reason {
             Reason::NoRule => "this is no repeating rule that is taken",
             Reason::NoStart => "the start is no occurrence of the rule",
             Reason::NoNext => "no occurrence of the rule is left",
+            Reason::NoZone => "this is no zone file that is taken",
+            Reason::PastLast => "the moment is later than the zone's file knows",
+            Reason::NoInstant => "the zone's clocks skip that time",
         }
     }
 }
@@ -496,6 +542,35 @@ impl Ready {
             0 => Ok(Moment::of(moment)),
             _ => Err(Refusal::of(answer, &[])),
         }
+    }
+
+    /// Runs it at an instant in a zone: what [`read_in_zone`] gives for its phrase there, in the reading that it was made in.
+    ///
+    /// ```
+    /// # use fuzzydate::{Instant, Reading, Ready, Zone};
+    /// # let new_york = Zone::parse(&std::fs::read("../zones/New_York").unwrap()).unwrap();
+    /// let ready = Ready::new(Reading::First, "today 1:30").unwrap();
+    /// let second_time = Instant { second: 1793514600, millisecond: 0 }; // 2026-11-01 01:30:00 -05:00
+    /// let due = ready.run_in_zone(&new_york, second_time).unwrap();
+    /// assert_eq!(due.to_string(), "2026-11-01 01:30:00 -04:00"); // of a time that occurs twice the earlier
+    /// assert_eq!(due.instant.second, 1793511000);
+    /// ```
+    pub fn run_in_zone(&self, zone: &Zone, now: Instant) -> Result<Local, Refusal<'static>> {
+        Local::from_call(&[], |due, local| {
+            // SAFETY: the pointers are those of slices, whose sizes are said, of a number and of an array of nine.
+            unsafe {
+                fuzzy_run_in_zone(
+                    self.bytes.as_ptr(),
+                    self.length,
+                    zone.file.as_ptr(),
+                    zone.file.len(),
+                    now.second,
+                    now.millisecond,
+                    due,
+                    local.as_mut_ptr(),
+                )
+            }
+        })
     }
 }
 
@@ -799,4 +874,127 @@ fn list(rule: &str, start: Moment, moments: &mut [[u32; 7]]) -> Result<usize, Re
         0 => Ok((answer >> 32) as usize),
         _ => Err(Refusal::of(answer, &[])),
     }
+}
+
+/// An instant: a second, counted from 1970-01-01T00:00:00Z and below 0 before it, and a millisecond of it from 0 to 999. Other milliseconds may stand
+/// here too: such a now is refused.
+#[derive(Clone, Copy, Debug, PartialEq, Eq, PartialOrd, Ord, Hash)]
+pub struct Instant {
+    pub second: i64,
+    pub millisecond: u32,
+}
+
+/// A zone, kept as the bytes of its TZif file: one of RFC 9636, version 2 or later, of at most 65,536 bytes, with times that ascend, indexes in range, no
+/// leap seconds, offsets above -25 and below 26 hours, and no transition in the UTC years 0 and 1 or after 9998. Of the footer only its newlines are looked
+/// at: what is known ends with the last transition, and every moment from there on is refused.
+#[derive(Clone, Debug, PartialEq, Eq, Hash)]
+pub struct Zone {
+    file: Vec<u8>,
+}
+
+impl Zone {
+    /// The bytes of a file as a zone, all of them.
+    ///
+    /// ```
+    /// # use fuzzydate::{Reason, Zone};
+    /// let file = std::fs::read("../zones/New_York").unwrap();
+    /// assert!(Zone::parse(&file).is_ok());
+    ///
+    /// let refusal = Zone::parse(&file[1..]).unwrap_err();
+    /// assert_eq!(refusal.reason(), Reason::NoZone);
+    /// assert_eq!(refusal.to_string(), "this is no zone file that is taken");
+    /// ```
+    pub fn parse(file: &[u8]) -> Result<Zone, Refusal<'static>> {
+        // No steps are run in it. They are refused behind the file: so any refusal but `NoZone` is theirs.
+        let zone = Zone { file: file.to_owned() };
+        let no_steps = Ready { bytes: [0; READY_SIZE], length: 0 };
+        match no_steps.run_in_zone(&zone, Instant { second: 0, millisecond: 0 }) {
+            Err(refusal) if refusal.reason == Reason::NoZone => Err(refusal),
+            _ => Ok(zone),
+        }
+    }
+
+    /// The bytes that it was made of.
+    pub fn as_bytes(&self) -> &[u8] {
+        &self.file
+    }
+}
+
+/// What the clocks of a zone show at an instant: a civil moment, and its distance from UTC in seconds, below 0 to the west. The moment has the instant's
+/// milliseconds.
+///
+/// ```
+/// # use fuzzydate::{read_in_zone, Instant, Moment, Reading, Zone};
+/// # let new_york = Zone::parse(&std::fs::read("../zones/New_York").unwrap()).unwrap();
+/// let now = Instant { second: 1772951400, millisecond: 250 };
+/// let due = read_in_zone(Reading::First, "an hour from now", &new_york, now).unwrap();
+/// assert_eq!(due.instant, Instant { second: 1772955000, millisecond: 250 });
+/// assert_eq!(due.moment, Moment { year: 2026, month: 3, day: 8, hour: 3, minute: 30, second: 0, millisecond: 250 });
+/// assert_eq!(due.offset, -14400);
+/// assert_eq!(due.to_string(), "2026-03-08 03:30:00.250 -04:00");
+/// ```
+#[derive(Clone, Copy, Debug, PartialEq, Eq, Hash)]
+pub struct Local {
+    pub instant: Instant,
+    pub moment: Moment,
+    pub offset: i32,
+}
+
+impl Local {
+    /// What a call leaves in a second and in nine numbers that are lent to it, or the refusal that it answers.
+    fn from_call<'a>(phrase: &'a [u8], call: impl FnOnce(&mut i64, &mut [u32; 9]) -> u64) -> Result<Local, Refusal<'a>> {
+        let (mut second, mut local) = (0, [0; 9]);
+        let answer = call(&mut second, &mut local);
+        let [numbers @ .., west, offset] = local;
+        let moment = Moment::of(numbers);
+        let offset = if west == 0 { offset as i32 } else { -(offset as i32) };
+        match answer {
+            0 => Ok(Local { instant: Instant { second, millisecond: moment.millisecond }, moment, offset }),
+            _ => Err(Refusal::of(answer, phrase)),
+        }
+    }
+}
+
+/// The moment, a blank and the offset in hours and minutes, with seconds where they are not 0.
+impl fmt::Display for Local {
+    fn fmt(&self, f: &mut fmt::Formatter<'_>) -> fmt::Result {
+        let (sign, offset) = (if self.offset < 0 { '-' } else { '+' }, self.offset.unsigned_abs());
+        write!(f, "{} {sign}{:02}:{:02}", self.moment, offset / 3600, offset / 60 % 60)?;
+        match offset % 60 {
+            0 => Ok(()),
+            second => write!(f, ":{second:02}"),
+        }
+    }
+}
+
+/// A phrase at an instant in a zone, in one of the two readings. Minutes, hours, days and weeks from now or from a stated time are lengths of time; dates,
+/// weekdays, months and years go by the clocks. Of a civil time that occurs twice the earlier is meant, and one that doesn't occur is refused.
+///
+/// ```
+/// # use fuzzydate::{read_in_zone, Instant, Reading, Reason, Zone};
+/// # let new_york = Zone::parse(&std::fs::read("../zones/New_York").unwrap()).unwrap();
+/// let now = Instant { second: 1772951400, millisecond: 0 }; // 2026-03-08 01:30:00 -05:00, half an hour before clocks go forward
+/// let due = |phrase| read_in_zone(Reading::First, phrase, &new_york, now);
+/// assert_eq!(due("today 3:00").unwrap().to_string(), "2026-03-08 03:00:00 -04:00");
+/// assert_eq!(due("today 2:00").unwrap_err().reason(), Reason::NoInstant);
+/// assert_eq!(due("2 years from now").unwrap_err().reason(), Reason::PastLast); // the file ends in 2027
+/// ```
+pub fn read_in_zone<'a, P: AsRef<[u8]> + ?Sized>(reading: Reading, phrase: &'a P, zone: &Zone, now: Instant) -> Result<Local, Refusal<'a>> {
+    let bytes = phrase.as_ref();
+    Local::from_call(bytes, |due, local| {
+        // SAFETY: the pointers are those of slices, whose sizes are said, of a number and of an array of nine.
+        unsafe {
+            fuzzy_read_in_zone(
+                reading as u32,
+                bytes.as_ptr(),
+                bytes.len(),
+                zone.file.as_ptr(),
+                zone.file.len(),
+                now.second,
+                now.millisecond,
+                due,
+                local.as_mut_ptr(),
+            )
+        }
+    })
 }

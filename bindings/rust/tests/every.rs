@@ -1,5 +1,6 @@
 //! Every function with good, damaged and empty input.
-use fuzzydate::{find_word, read, FoundWord, Moment, Offset, Reading, Ready, Reason, Rule, Stamp};
+use fuzzydate::{find_word, read, read_in_zone};
+use fuzzydate::{FoundWord, Instant, Local, Moment, Offset, Reading, Ready, Reason, Rule, Stamp, Zone};
 
 const NOW: Moment = Moment { year: 2026, month: 2, day: 11, hour: 9, minute: 30, second: 15, millisecond: 0 };
 const LEAP_DAY: Moment = Moment { year: 2024, month: 2, day: 29, hour: 12, minute: 0, second: 0, millisecond: 0 };
@@ -314,4 +315,116 @@ fn says_what_comes_next() {
     assert_eq!(mondays.next(tuesday, last).unwrap_err().reason(), Reason::NoStart);
     assert_eq!(mondays.next(tuesday, NO_NOW).unwrap_err().reason(), Reason::NoNow);
     assert_eq!(mondays.next(NO_NOW, last).unwrap_err().reason(), Reason::NoNow);
+}
+
+const NEW_YORK: &[u8] = include_bytes!("../../zones/New_York");
+
+/// 01:30:00 on 8 March 2026 in New York, half an hour before clocks go forward; the last transition of the file.
+const BEFORE_GAP: i64 = 1772951400;
+const LAST: i64 = 1805007600;
+
+/// A phrase at an instant in a zone, read, and the same run where it can be made ready.
+fn due(reading: Reading, phrase: &str, zone: &Zone, second: i64, millisecond: u32) -> Result<Local, Reason> {
+    let now = Instant { second, millisecond };
+    let answer = read_in_zone(reading, phrase, zone, now).map_err(|refusal| refusal.reason());
+    let run = Ready::new(reading, phrase).and_then(|ready| ready.run_in_zone(zone, now)).map_err(|refusal| refusal.reason());
+    assert_eq!(answer, run, "{phrase}, made ready");
+    answer
+}
+
+#[test]
+fn gives_instants_in_a_zone() {
+    let zone = Zone::parse(NEW_YORK).unwrap();
+    assert_eq!(zone.as_bytes(), NEW_YORK);
+    let cases = [
+        ("now", BEFORE_GAP, BEFORE_GAP, "2026-03-08 01:30:00.250 -05:00"),
+        ("today 3:00", BEFORE_GAP, 1772953200, "2026-03-08 03:00:00 -04:00"),
+        ("an hour from now", BEFORE_GAP, 1772955000, "2026-03-08 03:30:00.250 -04:00"),
+        ("1 day from now", 1772892000, 1772978400, "2026-03-08 10:00:00.250 -04:00"),
+        ("tomorrow", 1772892000, 1772974800, "2026-03-08 09:00:00.250 -04:00"),
+        ("2 months from now", 1770535800, 1775629800, "2026-04-08 02:30:00.250 -04:00"),
+        ("now", 1793514600, 1793514600, "2026-11-01 01:30:00.250 -05:00"),
+        ("today", 1793514600, 1793511000, "2026-11-01 01:30:00.250 -04:00"),
+        ("5/2/1969 at noon", BEFORE_GAP, -21020400, "1969-05-02 12:00:00 -05:00"),
+    ];
+    for (phrase, now, second, shown) in cases {
+        for reading in [Reading::First, Reading::Second] {
+            let local = due(reading, phrase, &zone, now, 250).unwrap();
+            assert_eq!((local.instant.second, local.to_string().as_str()), (second, shown), "{phrase}");
+            assert_eq!(local.instant.millisecond, local.moment.millisecond, "{phrase}");
+        }
+    }
+}
+
+#[test]
+fn shows_offsets_of_both_signs_and_with_seconds() {
+    let cases = [(0, "+00:00"), (19_800, "+05:30"), (93_599, "+25:59:59"), (-17_762, "-04:56:02"), (-89_999, "-24:59:59"), (-1, "-00:00:01")];
+    for (offset, shown) in cases {
+        let mut file = NEW_YORK.to_vec();
+        file[131..135].copy_from_slice(&i32::to_be_bytes(offset)); // the first type's
+        let local = due(Reading::First, "now", &Zone::parse(&file).unwrap(), 1767225600, 0).unwrap();
+        assert_eq!((local.offset, local.instant.second), (offset, 1767225600));
+        assert_eq!(local.to_string().split(' ').nth(2), Some(shown));
+    }
+    for offset in [93_600, -90_000, i32::MIN, i32::MAX] {
+        let mut file = NEW_YORK.to_vec();
+        file[131..135].copy_from_slice(&i32::to_be_bytes(offset));
+        assert_eq!(Zone::parse(&file).unwrap_err().reason(), Reason::NoZone, "{offset}");
+    }
+}
+
+#[test]
+fn refuses_in_a_zone() {
+    let zone = Zone::parse(NEW_YORK).unwrap();
+    let cases = [
+        ("today 2:00", BEFORE_GAP, 0, Reason::NoInstant),
+        ("a month from now", 1770535800, 0, Reason::NoInstant),
+        ("2 years from now", BEFORE_GAP, 0, Reason::PastLast),
+        ("four billion days from now", BEFORE_GAP, 0, Reason::PastLast),
+        ("now", LAST, 0, Reason::PastLast),
+        ("now", i64::MAX, 0, Reason::PastLast),
+        ("this month", LAST, 0, Reason::PastLast),
+        ("a year from now", 1709226000, 0, Reason::NoLeapDay),
+        ("four billion days ago", BEFORE_GAP, 0, Reason::Outside),
+        ("january 1, 99", BEFORE_GAP, 0, Reason::NoTime),
+        ("1000/1/1", BEFORE_GAP, 0, Reason::NoDate),
+        ("this month", BEFORE_GAP, 0, Reason::NoSense),
+        ("now", LAST, 1000, Reason::NoNow),
+        ("now", i64::MIN, 0, Reason::NoNow),
+        ("5/2", LAST, 1000, Reason::LeftOver),
+    ];
+    for (phrase, second, millisecond, reason) in cases {
+        assert_eq!(due(Reading::First, phrase, &zone, second, millisecond), Err(reason), "{phrase}");
+    }
+    let refusal = read_in_zone(Reading::First, "next forty", &zone, Instant { second: LAST, millisecond: 1000 }).unwrap_err();
+    assert_eq!((refusal.reason(), refusal.place(), refusal.part()), (Reason::Unknown, 5, &b"forty"[..]));
+    let damaged = Ready::from_bytes(&[0; 17]).unwrap().run_in_zone(&zone, Instant { second: 0, millisecond: 0 });
+    assert_eq!(damaged.unwrap_err().reason(), Reason::NoSense);
+}
+
+#[test]
+fn refuses_what_is_no_zone() {
+    for length in 0..NEW_YORK.len() {
+        assert_eq!(Zone::parse(&NEW_YORK[..length]).unwrap_err().reason(), Reason::NoZone, "{length} bytes");
+    }
+    let mut file = NEW_YORK.to_vec();
+    file.resize(65_536, 0);
+    assert!(Zone::parse(&file).is_ok());
+    file.push(0);
+    assert_eq!(Zone::parse(&file).unwrap_err().reason(), Reason::NoZone);
+}
+
+#[test]
+fn answers_in_damaged_zones() {
+    let mut zones = 0;
+    for bit in 0..8 * NEW_YORK.len() {
+        let mut file = NEW_YORK.to_vec();
+        file[bit / 8] ^= 1 << (bit % 8);
+        let Ok(zone) = Zone::parse(&file) else { continue };
+        zones += 1;
+        if let Err(reason) = due(Reading::First, "tomorrow", &zone, BEFORE_GAP, 0) {
+            assert!(matches!(reason, Reason::NoNow | Reason::Outside | Reason::PastLast | Reason::NoInstant), "bit {bit}: {reason:?}");
+        }
+    }
+    assert!(zones > 0 && zones < 8 * NEW_YORK.len());
 }

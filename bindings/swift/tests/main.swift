@@ -1,6 +1,7 @@
-// Every function with good, damaged and empty input, each refusal that can arise here, and all of it in eight threads.
+// Every function with good, damaged and empty input, each refusal that can arise here, and all of it in eight threads: every ZONE.
 import CFuzzydate
 import Dispatch
+import Foundation
 
 let now = Moment(year: 2026, month: 2, day: 11, hour: 9, minute: 30, second: 15, millisecond: 250)
 let leapDay = Moment(year: 2024, month: 2, day: 29, hour: 12, minute: 0, second: 0, millisecond: 0)
@@ -67,8 +68,8 @@ func refusals() throws {
     _ = refusal(.noNow, "30 February") { try Fuzzydate.read(.first, "today", now: noNow) }
     _ = refusal(.noNow, "30 February shown") { try Fuzzydate.writePhrase(noNow) }
     _ = refusal(.notWhole, "seconds shown") { try Fuzzydate.writePhrase(now) }
-    expect(Reason.unknown.words == "not understood" && Reason.noNext.words == "no occurrence is left", "words")
-    expect(Reason(rawValue: 0) == nil && Reason(rawValue: Reason.noNext.rawValue + 1) == nil, "no other reasons")
+    expect(Reason.unknown.words == "not understood" && Reason.noInstant.words == "the zone's clocks skip that time", "words")
+    expect(Reason(rawValue: 0) == nil && Reason(rawValue: Reason.noInstant.rawValue + 1) == nil, "no other reasons")
 }
 
 func stamps() throws {
@@ -176,9 +177,118 @@ func longest() throws {
     expect(months.count == 12 * 9999 && months.last == on(9999, 12, 1), "all months")
 }
 
+/// The bytes of bindings/zones/New_York.
+let newYork = [UInt8](FileManager.default.contents(atPath: CommandLine.arguments[1])!)
+
+/// 01:30:00 on 8 March 2026 in New York, half an hour before clocks go forward; the last transition of the file.
+let beforeGap = Instant(second: 1_772_951_400, millisecond: 250)
+let last = Instant(second: 1_805_007_600, millisecond: 0)
+
+/// What a phrase means at an instant in a zone, read as bytes and as a String, and run.
+func due(_ reading: Reading, _ phrase: String, _ zone: [UInt8], _ now: Instant) throws -> Local {
+    let local = try Fuzzydate.readInZone(reading, phrase, zone: zone, now: now)
+    expect(try Fuzzydate.readInZone(reading, Array(phrase.utf8), zone: zone, now: now) == local, phrase + ", as bytes")
+    expect(try Fuzzydate.runInZone(Fuzzydate.makeReady(reading, phrase), zone: zone, now: now) == local, phrase + ", made ready")
+    return local
+}
+
+func zones() throws {
+    let cases: [(String, Int64, Int64, (UInt32, UInt32, UInt32, UInt32, UInt32), Int32)] = [
+        ("now", 1_772_951_400, 1_772_951_400, (3, 8, 1, 30, 250), -18000),
+        ("today 3:00", 1_772_951_400, 1_772_953_200, (3, 8, 3, 0, 0), -14400),
+        ("an hour from now", 1_772_951_400, 1_772_955_000, (3, 8, 3, 30, 250), -14400),
+        ("1 day from now", 1_772_892_000, 1_772_978_400, (3, 8, 10, 0, 250), -14400),
+        ("tomorrow", 1_772_892_000, 1_772_974_800, (3, 8, 9, 0, 250), -14400),
+        ("2 months from now", 1_770_535_800, 1_775_629_800, (4, 8, 2, 30, 250), -14400),
+        ("now", 1_793_514_600, 1_793_514_600, (11, 1, 1, 30, 250), -18000),
+        ("today", 1_793_514_600, 1_793_511_000, (11, 1, 1, 30, 250), -14400),
+    ]
+    for (phrase, now, second, (month, day, hour, minute, millisecond), offset) in cases {
+        let wanted = Moment(year: 2026, month: month, day: day, hour: hour, minute: minute, second: 0, millisecond: millisecond)
+        for reading in [Reading.first, .second] {
+            let local = try due(reading, phrase, newYork, Instant(second: now, millisecond: 250))
+            expect(local.instant == Instant(second: second, millisecond: millisecond), phrase + ": the instant")
+            expect(local.moment == wanted && local.offset == offset, phrase + ": \(local)")
+        }
+    }
+}
+
+/// A phrase that both calls refuse alike.
+func undue(_ reason: Reason, _ phrase: String, _ zone: [UInt8], _ now: Instant) {
+    let wanted = Refusal(reason: reason, place: 0, part: [])
+    expect(refusal(reason, phrase) { try Fuzzydate.readInZone(.first, phrase, zone: zone, now: now) } == wanted, phrase)
+    let run = refusal(reason, phrase) { try Fuzzydate.runInZone(Fuzzydate.makeReady(.first, phrase), zone: zone, now: now) }
+    expect(run == wanted, phrase + ", made ready")
+}
+
+func refusedInZones() {
+    let cases: [(Reason, String, Instant)] = [
+        (.noInstant, "today 2:00", beforeGap),
+        (.noInstant, "a month from now", Instant(second: 1_770_535_800, millisecond: 0)),
+        (.pastLast, "2 years from now", beforeGap),
+        (.pastLast, "now", last),
+        (.pastLast, "this month", Instant(second: Int64.max, millisecond: 0)),
+        (.noNow, "now", Instant(second: Int64.min, millisecond: 0)),
+        (.noNow, "now", Instant(second: last.second, millisecond: 1000)),
+        (.noSense, "this month", beforeGap),
+        (.noDate, "1000/1/1", beforeGap),
+        (.noTime, "january 1, 99", beforeGap),
+        (.outside, "four billion days ago", beforeGap),
+        (.noLeapDay, "a year from now", Instant(second: 1_709_226_000, millisecond: 0)),
+    ]
+    for (reason, phrase, now) in cases {
+        undue(reason, phrase, newYork, now)
+        undue(.noZone, phrase, [], now)
+    }
+    let unknown = refusal(.unknown, "a word before the zone") { try Fuzzydate.readInZone(.first, "next forty", zone: [], now: last) }
+    expect(unknown.place == 5 && unknown.part == Array("forty".utf8), "a word before the zone")
+}
+
+/// The file cut short, with each bit changed, and with as many bytes behind it as a zone may have, and one more.
+func zoneFiles() throws {
+    for length in 0..<newYork.count {
+        undue(.noZone, "now", Array(newYork.prefix(length)), beforeGap)
+    }
+    var kept = 0
+    for bit in 0..<8 * newYork.count {
+        var zone = newYork
+        zone[bit / 8] ^= 1 << UInt8(bit % 8)
+        do {
+            _ = try due(.second, "tomorrow", zone, beforeGap)
+            kept += 1
+        } catch let refusal as Refusal {
+            expect([.noNow, .outside, .noZone, .pastLast, .noInstant].contains(refusal.reason), "bit \(bit): \(refusal)")
+        }
+    }
+    expect(kept > 0, "other zones")
+    var longest = newYork + [UInt8](repeating: 0, count: 65_536 - newYork.count)
+    expect(try due(.first, "now", longest, beforeGap) == due(.first, "now", newYork, beforeGap), "the longest file")
+    longest.append(0)
+    undue(.noZone, "now", longest, beforeGap)
+    for (offset, bytes) in [(93_599, [0, 1, 109, 159]), (-89_999, [255, 254, 160, 113])] as [(Int32, [UInt8])] {
+        var zone = newYork
+        zone.replaceSubrange(131..<135, with: bytes)  // the first offset
+        expect(try due(.first, "now", zone, beforeGap).offset == offset, "an offset of \(offset)")
+    }
+}
+
+/// What is lent to both calls stays on a refusal.
+func lentInZones() throws {
+    let ready = try Fuzzydate.makeReady(.first, "now"), untouched = [UInt32](repeating: 0xa5, count: 9)
+    for (zone, number) in [(newYork, 22), ([], 21)] as [([UInt8], UInt32)] {
+        var due: Int64 = 0xa5, local = untouched
+        let read = fuzzy_read_in_zone(1, Array("now".utf8), 3, zone, zone.count, last.second, 0, &due, &local)
+        let run = fuzzy_run_in_zone(ready, ready.count, zone, zone.count, last.second, 0, &due, &local)
+        expect(fuzzy_number(read) == number && fuzzy_number(run) == number, "a refusal in a zone")
+        expect(due == 0xa5 && local == untouched, "nothing written for what is refused in a zone")
+    }
+}
+
 func garbage() {
     for length in 0...400 {
         let bytes = (0..<length).map { _ in UInt8.random(in: 0...255) }
+        undue(.noZone, "now", bytes, beforeGap)
+        _ = refusal(.noSense, "random bytes as a ready phrase in a zone") { try Fuzzydate.runInZone(bytes, zone: newYork, now: beforeGap) }
         _ = refusal(.noSense, "random bytes as a ready phrase") { try Fuzzydate.run(bytes, now: now) }
         _ = refusal(.noStamp, "random bytes as a stamp") { try Fuzzydate.readStamp(bytes) }
         unlisted(bytes, tuesday, .noRule)
@@ -194,6 +304,10 @@ func every() throws {
     try rules()
     refusedRules()
     rows()
+    try zones()
+    refusedInZones()
+    try zoneFiles()
+    try lentInZones()
     garbage()
 }
 

@@ -16,16 +16,17 @@ use Rattle.records.specs.Records.{decodeOf}
 use Rattle.later.specs.Nows.{SameTime, NeverBack}
 use Rattle.later.proofs.Lists.{steps-never-back}
 use Rattle.later.proofs.Phrases.{then-never-back, later-now-never-back}
-use Rattle.fuzzydate.specs.Called.{readingOf, answerIn}
+use Rattle.fuzzydate.specs.Called.{readingOf, answerIn, momentAfter}
 use Rattle.fuzzydate.proofs.Readings.{settled-in}
 use Rattle.agreed.specs.Calls.{Read, Run, momentLeft}
-use Rattle.agreed.proofs.Agreed.{Says, read-says, run-says}
+use Rattle.agreed.proofs.AnyNow.{Says}
+use Rattle.agreed.proofs.Agreed.{read-says, run-says}
 
 -- of a definition whose refusals have numbers above 0
 module _ {low high room : ℕ} (some : 0 < low) where
   -- with the answer 0 its moment is left
   zero-left :
-      {w : Answer Moment} {array array′ : List ℕ} → Holds IsMoment (Bounded low high room) w → Says w array 0 array′ →
+      {w : Answer Moment} {array array′ : List ℕ} → Holds IsMoment (Bounded low high room) w → Says momentAfter w array 0 array′ →
       w ≡ given (momentLeft array′)
   zero-left (of-given v) c = rw (c .array′-is)
   zero-left (of-refusal b) c = absurd (omega (arith, c .number-is))
@@ -33,7 +34,7 @@ module _ {low high room : ℕ} (some : 0 < low) where
   -- and of two calls that answer 0 the moments are in order, where it never goes back
   left-in-order :
       (answer : Moment → Answer Moment) → NeverBack answer → ((n : Moment) → Holds IsMoment (Bounded low high room) (answer n)) →
-      (n m : Moment) {a a′ b b′ : List ℕ} → SameTime n m → NotAfter n m → Says (answer n) a 0 a′ → Says (answer m) b 0 b′ →
+      (n m : Moment) {a a′ b b′ : List ℕ} → SameTime n m → NotAfter n m → Says momentAfter (answer n) a 0 a′ → Says momentAfter (answer m) b 0 b′ →
       NotAfter (momentLeft a′) (momentLeft b′)
   left-in-order answer never holds n m same order c d =
       never .never-back n m same order (zero-left (holds n) c) (zero-left (holds m) d)

@@ -1,13 +1,12 @@
 -- What comes next has its refusals without a place, so that their numbers are all that is told. Assumes nothing.
 use Prim.Native.Nat.{ℕ, _≤_}
 use native.Mathlib.Omega.{arith}
-use mathlib.Core.Path.{_≡_, refl, sym}
+use mathlib.Core.Path.{_≡_, refl}
 use mathlib.Core.Bool.{Bool, true, false, cond, _&&_}
 use mathlib.Core.List.{List, [], _∷_}
 use lib.Dec.{leb}
 use Rattle.refusals.specs.Table.{NoNow, NoStart, NoNext}
-use Rattle.refusals.specs.Answers.{Answer, given, refused, refusalAt, refuse, andThen}
-use Rattle.refusals.specs.declared.Refusal.{Refusal}
+use Rattle.refusals.specs.Answers.{Answer, given, refusalAt, refuse, andThen}
 use Rattle.refusals.proofs.Holds.{Holds, of-given, of-refusal, Bounded}
 use Rattle.calendar.specs.Moments.{isMoment, atDay, instantOf, reachedOf}
 use Rattle.calendar.specs.declared.moments.Moment.{Moment}

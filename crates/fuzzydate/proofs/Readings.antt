@@ -4,6 +4,7 @@ use native.Mathlib.Omega.{arith}
 use mathlib.Core.Path.{_≡_, refl}
 use mathlib.Core.Bool.{Bool, true, false, cond}
 use mathlib.Core.List.{List}
+use mathlib.Core.Logic.{⊎-elim}
 use lib.Dec.{eqb}
 use lib.ListN.{length}
 use borrow.Author.Tests.{ne-eqb}
@@ -15,15 +16,21 @@ use Rattle.calendar.specs.declared.moments.Moment.{Moment}
 use Rattle.lexer.specs.Keywords.{wordsIn}
 use Rattle.lexer.specs.declared.reading.Reading.{Reading}
 use Rattle.lexer.specs.declared.reading.Reading.the-variants.{First, Second}
+use Rattle.phrase.specs.Read.{readOf}
 use Rattle.answer.specs.Answer.{answerOf}
 use Rattle.answer.proofs.PhraseAtNow.{settled}
 use Rattle.steps.proofs.Small.{all-smaller}
 use Rattle.steps.specs.declared.plan.Step.{Step}
-use Rattle.ready.specs.Ready.{ReadyPhrase, readyOf, runReady}
+use Rattle.ready.specs.Ready.{readyOf, runReady}
 use Rattle.ready.proofs.ReadyPhrases.{MadeReady, made-ready, ready-answers}
 use Rattle.records.specs.Records.{encodeOf, decodeOf}
 use Rattle.records.proofs.Lists.{decoded-back}
-use Rattle.fuzzydate.specs.Called.{readingOf, answerIn, readyIn}
+use Rattle.zones.specs.declared.instants.Instant.{Instant}
+use Rattle.zoned.specs.Local.{IsLocal, runInZone, evaluateInZone}
+use Rattle.zoned.specs.declared.local.Local.{Local}
+use Rattle.zoned.proofs.Calls.{zone-calls-alike}
+use Rattle.zoned.proofs.Settles.{Stops, zone-settled}
+use Rattle.fuzzydate.specs.Called.{readingOf, answerIn, readyIn, readInZone}
 
 -- either reading, or 15
 by-number : (P : Answer Reading → Type 0) (k : ℕ) → ((reading : Reading) → P (given reading)) → P (refuse NoReading 0 0) → P (readingOf k)
@@ -63,6 +70,28 @@ ready-in-answers k s n =
     by-number (λ w. runReady (andThen w (λ r. readyOf r (wordsIn r) s)) n ≡ andThen w (λ r. answerOf r (wordsIn r) s n)) k
     (λ reading. ready-answers reading s n)
     refl
+
+-- and run at any instant of any file's zone, the answer of the phrase there
+pub ready-in-zone : (k : ℕ) (s file : List ℕ) (n : Instant) → andThen (readyIn k s) (λ ss. runInZone ss file n) ≡ readInZone k s file n
+ready-in-zone k s file n =
+    by-number
+    (λ w. andThen (andThen w (λ r. readyOf r (wordsIn r) s)) (λ ss. runInZone ss file n)
+    ≡ andThen w (λ r. andThen (readOf r (wordsIn r) s) (λ x. evaluateInZone (x .tree) file n))) k
+    (λ reading. zone-calls-alike reading s file n)
+    refl
+
+-- where every answer is what the clocks show, or a refusal with a part within the phrase
+pub settled-in-zone : (k : ℕ) (s file : List ℕ) (n : Instant) → Holds IsLocal (Bounded 1 23 (min (length s) 256)) (readInZone k s file n)
+settled-in-zone k s file n =
+    by-number
+    (λ w. Holds IsLocal (Bounded 1 23 (min (length s) 256))
+    (andThen w (λ r. andThen (readOf r (wordsIn r) s) (λ x. evaluateInZone (x .tree) file n)))) k
+    (λ reading. up-to-23 (zone-settled reading s file n))
+    (of-refusal {r = refusalAt NoReading 0 0} (omega arith))
+  where
+    up-to-23 : {m : ℕ} {w : Answer Local} → Holds IsLocal (Stops 1 m) w → Holds IsLocal (Bounded 1 23 m) w
+    up-to-23 (of-given p) = of-given p
+    up-to-23 (of-refusal {r} q) = of-refusal {r = r} (⊎-elim (λ b. omega arith) (λ b. omega arith) q)
 
 -- the records of any phrase decode to the steps that it was made into
 pub read-back : (k : ℕ) (s : List ℕ) {ss : List Step} → readyIn k s ≡ given ss → decodeOf (encodeOf ss) ≡ ss

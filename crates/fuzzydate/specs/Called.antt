@@ -25,6 +25,12 @@ use Rattle.stamp.specs.declared.Stamp.{Stamp}
 use Rattle.rules.specs.Rules.{readRule}
 use Rattle.repeats.specs.Listing.{listOf}
 use Rattle.coming.specs.Next.{nextOf}
+use Rattle.phrase.specs.Read.{readOf}
+use Rattle.tzif.specs.File.{turned}
+use Rattle.zones.specs.Instants.{instantBy}
+use Rattle.zones.specs.declared.instants.Instant.{Instant}
+use Rattle.zoned.specs.Local.{evaluateInZone}
+use Rattle.zoned.specs.declared.local.Local.{Local}
 use Rattle.fuzzydate.specs.declared.Chosen.{Chosen}
 use Rattle.fuzzydate.specs.declared.Chosen.the-variants.{As, Neither}
 
@@ -109,3 +115,21 @@ listIn s t size = cond (isMoment t) (andThen (readRule s) (λ r. listOf r t size
 -- the first occurrence at or after an asked moment: "8 covers the asked moment too; after 18 and 19, 20"
 abbrev pub nextIn : List ℕ → Moment → Moment → Answer Moment
 nextIn s t asked = cond (isMoment t && isMoment asked) (andThen (readRule s) (λ r. nextOf r t asked)) (refuse NoNow 0 0)
+
+-- an instant by a caller's numbers: seconds since 1970 with a sign, in 64 bits, and a millisecond
+abbrev pub instantFrom : ℕ → ℕ → Instant
+instantFrom second ms = instantBy (turned second) ms
+
+-- a phrase at an instant of a file's zone, in the reading of a number: 15, 1 to 7, then "21 for the file, just before 8"
+abbrev pub readInZone : ℕ → List ℕ → List ℕ → Instant → Answer Local
+readInZone k s file n = andThen (readingOf k) (λ reading. andThen (readOf reading (wordsIn reading) s) (λ x. evaluateInZone (x .tree) file n))
+
+-- the instant's second is written over what was lent; on a refusal it stays
+abbrev pub dueAfter : Answer Local → List ℕ → List ℕ
+dueAfter (given x) lent = turned (x .second) ∷ []
+dueAfter (refused r) lent = lent
+
+-- and the civil moment's seven numbers, west, and the offset in seconds
+abbrev pub localAfter : Answer Local → List ℕ → List ℕ
+localAfter (given x) lent = seven (x .civil) ++ (x .west ∷ x .offset ∷ [])
+localAfter (refused r) lent = lent

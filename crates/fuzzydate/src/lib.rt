@@ -24,6 +24,10 @@ use stamp::Stamp;
 use stamp::read::StampRead;
 use stamp::read::read_stamp;
 use stamp::write::write_stamp;
+use tzif::octets::turned;
+use zoned::local::Located;
+use zoned::local::run_in_zone;
+use zones::instants::Instant;
 ghost use mathlib.Core.Path.{_≡_};
 ghost use Prim.Native.Nat.{_+_, _*_, _≤_};
 ghost use lib.ListN.{length};
@@ -39,7 +43,8 @@ ghost use Rattle.fuzzydate.specs.Called.{readingOf, chosenFrom, answerIn
 ghost use Rattle.fuzzydate.specs.Called.{stampAfter, numbersStamp, writtenCode};
 ghost use Rattle.repeats.specs.Listing.{rowsAfter};
 ghost use Rattle.coming.specs.Next.{answered};
-ghost use Rattle.fuzzydate.specs.Called.{foundIn, foundAfter, listIn, nextIn};
+ghost use Rattle.zoned.specs.Local.{locatedOf, runInZone};
+ghost use Rattle.fuzzydate.specs.Called.{foundIn, foundAfter, listIn, nextIn, instantFrom, readInZone, dueAfter, localAfter};
 
 // Where the place of a refusal stands in an answer, and where the length of its part does.
 const PLACE: u64 = 65536;
@@ -404,4 +409,76 @@ pub extern "C" fn fuzzy_next(
         millisecond: asked_millisecond,
     };
     reached(next_of(rule, start, asked), moment)
+}
+
+// Where a run in a zone ended as one number: 0, the instant's second and what the clocks show, or a refusal's number and nothing written.
+fn located(at: Located, due: &mut [u64; 1], moment: &mut [u32; 9]) -> u64
+    ensures { λ r. ⌜ r ≡ codeOf (locatedOf at) ⌝ }
+    ensures { λ _. ⌜ now (due .exit) ≡ dueAfter (locatedOf at) (now (due .entry)) ⌝ }
+    ensures { λ _. ⌜ now (moment .exit) ≡ localAfter (locatedOf at) (now (moment .entry)) ⌝ }
+{
+    match at {
+        Located::At(x) => {
+            let t = x.civil;
+            *due = [turned(x.second)];
+            *moment = [
+                t.year,
+                t.month,
+                t.day,
+                t.hour,
+                t.minute,
+                t.second,
+                t.millisecond,
+                x.west,
+                x.offset,
+            ];
+            0
+        }
+        Located::Refused(number) => number as u64,
+    }
+}
+
+// A ready phrase at an instant of a zone's file: 0, the instant's second and what the clocks show, or 21 or what running refuses, and nothing written.
+#[no_mangle]
+pub extern "C" fn fuzzy_run_in_zone(
+    ready: &[u8],
+    zone: &[u8],
+    second: u64,
+    millisecond: u32,
+    due: &mut [u64; 1],
+    moment: &mut [u32; 9],
+) -> u64
+    ensures { λ r. ⌜ r ≡ codeOf (runInZone (decodeOf (now (ready .entry))) (now (zone .entry)) (instantFrom second millisecond)) ⌝ }
+    ensures { λ _. ⌜ now (due .exit) ≡ dueAfter (runInZone (decodeOf (now (ready .entry))) (now (zone .entry)) (instantFrom second millisecond)) (now (due .entry)) ⌝ }
+    ensures { λ _. ⌜ now (moment .exit) ≡ localAfter (runInZone (decodeOf (now (ready .entry))) (now (zone .entry)) (instantFrom second millisecond)) (now (moment .entry)) ⌝ }
+{
+    let now = Instant {
+        second: turned(second),
+        millisecond,
+    };
+    located(run_in_zone(ready, zone, now), due, moment)
+}
+
+// A phrase at an instant of a zone's file, in reading 1 or 2: made ready and run there.
+#[no_mangle]
+pub extern "C" fn fuzzy_read_in_zone(
+    reading: u32,
+    phrase: &[u8],
+    zone: &[u8],
+    second: u64,
+    millisecond: u32,
+    due: &mut [u64; 1],
+    moment: &mut [u32; 9],
+) -> u64
+    ensures { λ r. ⌜ r ≡ codeOf (readInZone reading (now (phrase .entry)) (now (zone .entry)) (instantFrom second millisecond)) ⌝ }
+    ensures { λ _. ⌜ now (due .exit) ≡ dueAfter (readInZone reading (now (phrase .entry)) (now (zone .entry)) (instantFrom second millisecond)) (now (due .entry)) ⌝ }
+    ensures { λ _. ⌜ now (moment .exit) ≡ localAfter (readInZone reading (now (phrase .entry)) (now (zone .entry)) (instantFrom second millisecond)) (now (moment .entry)) ⌝ }
+{
+    let mut ready = [0; 384];
+    let made = fuzzy_make_ready(reading, phrase, &mut ready);
+    if made % PLACE == 0 {
+        let end = (made / LENGTH) as usize;
+        return fuzzy_run_in_zone(&ready[..end], zone, second, millisecond, due, moment);
+    }
+    made
 }

@@ -25,7 +25,7 @@ use Rattle.evaluation.specs.Times.{timeAt}
 use Rattle.evaluation.specs.Evaluate.{isYear, isWeek, isMonthAndDay, byYear, byUnit, dateExprAt, evaluateIn}
 use Rattle.calendar.proofs.Outcomes.{then-same, then-moment, then-assoc}
 use Rattle.steps.specs.Joining.{addStep}
-use Rattle.steps.specs.Running.{startAt, moveBy, walkOf, moveIn, isFormed, leadIn}
+use Rattle.steps.specs.Running.{startAt, moveBy, walkOf, moveIn, leadIn}
 use Rattle.steps.specs.declared.plan.Start.{Start}
 use Rattle.steps.specs.declared.plan.Start.the-variants.{Senseless, OnDate, InWeek}
 use Rattle.steps.specs.declared.plan.Move.{Move}

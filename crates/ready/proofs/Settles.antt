@@ -43,7 +43,7 @@ act-leads (From s) n t w v = start-leads s t v
 act-leads (By m) n t w v = move-leads m t v
 act-leads (AtTime x) n t w v = time-leads x n t w v
 
-walk-leads : (ss : List Step) (n t : Moment) → IsMoment n → IsMoment t → Leads IsMoment (walkOf ss n t)
+pub walk-leads : (ss : List Step) (n t : Moment) → IsMoment n → IsMoment t → Leads IsMoment (walkOf ss n t)
 walk-leads [] n t w v = leads v
 walk-leads (s ∷ ss) n t w v = behind (walkOf ss n) (act-leads s n t w v) (λ u h. walk-leads ss n u w h)
 

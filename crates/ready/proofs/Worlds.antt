@@ -15,7 +15,6 @@ use Rattle.evaluation.specs.Times.{timeAt}
 use Rattle.evaluation.specs.Worlds.{World, Lawful}
 use Rattle.steps.specs.Joining.{joinOf, joined, addStep}
 use Rattle.steps.specs.Running.{actOf, walkOf, moveIn, walkIn, isStart, isTimeStep, timesDue, starts, times, isFormed, isDated, aheadIn, leadIn}
-use Rattle.steps.specs.declared.plan.Start.the-variants.{Senseless}
 use Rattle.steps.specs.declared.plan.Move.{Move}
 use Rattle.steps.specs.declared.plan.Step.{Step}
 use Rattle.steps.specs.declared.plan.Step.the-variants.{From, By, AtTime}

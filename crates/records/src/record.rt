@@ -9,7 +9,7 @@ ghost use Prim.Native.Nat.{_+_, _*_, _≤_, _<_};
 ghost use lib.ListN.{length, getD};
 ghost use lib.Seq.{sets};
 ghost use Rattle.steps.specs.Plans.{stepsIn};
-ghost use Rattle.records.specs.Records.{bytesOfWords, encodeOf, wordAt, wordsAt, sameWords, isRecord, decodeOf};
+ghost use Rattle.records.specs.Records.{bytesOfWords, encodeOf, wordAt, wordsAt, sameWords, isRecord};
 
 // The bytes of one record.
 pub(crate) const SIZE: usize = 16;

@@ -13,12 +13,13 @@ use steps::run::is_start;
 use steps::run::one_if_time;
 use steps::run::times_due;
 ghost use mathlib.Core.Path.{_≡_};
-ghost use mathlib.Core.Bool.{true, _&&_};
-ghost use Prim.Native.Nat.{_-_, _/_, _≤_};
+ghost use mathlib.Core.Bool.{_&&_};
+ghost use Prim.Native.Nat.{_+_, _-_, _*_, _/_, _≤_};
 ghost use lib.ListN.{length};
 ghost use Rattle.calendar.specs.Moments.{IsMoment, reachedOf, Valid};
 ghost use Rattle.steps.specs.Running.{isStart, timesDue, walkOf, isList, runOf};
-ghost use Rattle.records.specs.Records.{decodeOf, mayFollow};
+ghost use Rattle.records.specs.Words.{stepFrom};
+ghost use Rattle.records.specs.Records.{wordsAt, stepsAt, decodeOf, mayFollow};
 
 // Behind the first record: are they all records, none of a start, and those of time steps as many as are due?
 fn is_followed(b: &[u8], due: u32) -> bool
@@ -56,7 +57,7 @@ fn is_formed(b: &[u8], start: Step) -> bool
 }
 
 // Does a slice stand for a list that may be run? Every record is looked at once.
-fn is_list(b: &[u8]) -> bool
+pub fn is_list(b: &[u8]) -> bool
     ensures { λ r. ⌜ r ≡ isList (decodeOf (now (b .entry))) ⌝ }
 {
     let size = b.len();
@@ -76,17 +77,24 @@ fn is_list(b: &[u8]) -> bool
     false
 }
 
-// The steps in order, up to the first refusal.
-fn walk(b: &[u8], at: Moment) -> Reached
-    requires { ⌜ (isList (decodeOf (now b)) ≡ true) × IsMoment at ⌝ }
-    ensures { λ r. ⌜ reachedOf r ≡ walkOf (decodeOf (now (b .entry))) at at ⌝ }
+// The step of a record.
+pub fn step_at(b: &[u8], i: usize) -> Step
+    requires { ⌜ 16 * i + 16 ≤ length (now b) ⌝ }
+    ensures { λ r. ⌜ r ≡ stepFrom (wordsAt (now (b .entry)) (16 * i)) ⌝ }
+{
+    step_from(words_at(b, SIZE * i))
+}
+
+// The steps of the records from `first` up to `end` in order, from a moment and at a now, up to the first refusal.
+pub fn walk(b: &[u8], first: usize, end: usize, at: Moment, from: Moment) -> Reached
+    requires { ⌜ (16 * end ≤ length (now b)) × (IsMoment at × IsMoment from) ⌝ }
+    ensures { λ r. ⌜ reachedOf r ≡ walkOf (stepsAt (end - first) (now (b .entry)) (16 * first)) at from ⌝ }
     ensures { λ r. ⌜ Valid (reachedOf r) ⌝ }
 {
-    let n = b.len() / SIZE;
-    let mut t = at;
-    let mut done = 0;
-    while done < n {
-        match act(step_from(words_at(b, SIZE * done)), at, t) {
+    let mut t = from;
+    let mut done = first;
+    while done < end {
+        match act(step_at(b, done), at, t) {
             Reached::At(u) => {
                 t = u;
             }
@@ -106,7 +114,7 @@ pub fn run_ready(b: &[u8], at: Moment) -> Reached
 {
     if at.valid() {
         if is_list(b) {
-            return walk(b, at);
+            return walk(b, 0, b.len() / SIZE, at, at);
         }
         return Reached::Refused(NO_SENSE);
     }

@@ -1,4 +1,4 @@
--- The paper's table of refusal numbers, 1 to 13 "tested in this order".
+-- The paper's table of refusal numbers, 1 to 13 "tested in this order", and those that the requests add.
 use Prim.Native.Nat.{ℕ}
 
 -- "phrase longer than 256 bytes"

@@ -1,4 +1,4 @@
-// The paper's refusal numbers, 1 to 13 in the order in which they are tested, under the names of include/fuzzy.h; and a refusal's place.
+// Refusal numbers under the names of include/fuzzy.h: the paper's 1 to 13 in the order in which they are tested, then the requests'; and a refusal's place.
 
 // A refusal: its number, its place in the phrase and the end of its part. Number 0: nothing is refused.
 pub struct Refusal {

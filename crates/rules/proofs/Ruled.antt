@@ -23,7 +23,7 @@ use Rattle.rules.specs.Untils.{countIn, untilIn, yearAt, dayIn, momentAt
 use Rattle.digits.specs.Digits.{twoAt}
 use Rattle.rules.specs.Parts.{named, weekPart, monthPart, dayPart, untilPart, countPart, partOf}
 use Rattle.rules.specs.Rule.{IsBound, IsRule}
-use Rattle.rules.specs.Rules.{noRule, begun, draftOf, takes, placed, put, intervalOf, ruleIn, readParts, readPieces, readRule}
+use Rattle.rules.specs.Rules.{noRule, begun, draftOf, takes, placed, put, ruleIn, readParts, readPieces, readRule}
 use Rattle.rules.specs.declared.Bound.the-variants.{Endless, Count, UntilDay, UntilMoment}
 use Rattle.rules.specs.declared.Freq.{Freq}
 use Rattle.rules.specs.declared.Freq.the-variants.{Daily, Weekly, Monthly}

@@ -1,8 +1,7 @@
 -- What a rule's numbers are.
-use Prim.Native.Nat.{ℕ, _≤_}
+use Prim.Native.Nat.{_≤_}
 use Rattle.calendar.specs.Gregorian.{IsDate}
 use Rattle.calendar.specs.Moments.{IsMoment}
-use Rattle.calendar.specs.declared.moments.Moment.{Moment}
 use Rattle.rules.specs.declared.Bound.{Bound}
 use Rattle.rules.specs.declared.Bound.the-variants.{Endless, Count, UntilDay, UntilMoment}
 use Rattle.rules.specs.declared.Rule.{Rule}

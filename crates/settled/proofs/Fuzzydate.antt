@@ -9,6 +9,8 @@ use Rattle.fuzzydate.proofs.fuzzy_find_word.Reads as fuzzy-find-word'
 use Rattle.fuzzydate.proofs.fuzzy_write_phrase.Reads as fuzzy-write-phrase'
 use Rattle.fuzzydate.proofs.fuzzy_list.Reads as fuzzy-list'
 use Rattle.fuzzydate.proofs.fuzzy_next.Reads as fuzzy-next'
+use Rattle.fuzzydate.proofs.fuzzy_run_in_zone.Reads as fuzzy-run-in-zone'
+use Rattle.fuzzydate.proofs.fuzzy_read_in_zone.Reads as fuzzy-read-in-zone'
 
 pub fuzzy-read : Settled fuzzy-read'.Post × Same fuzzy-read'.Post (λ κs z e. e .1 .1 .1 .1 .1 .1 .1 .1 .1 .0 .now)
 fuzzy-read = (same fuzzy-read'.Post _ _ (λ κs a z e p. p .0), same fuzzy-read'.Post _ _ (λ κs a z e p. p .1))
@@ -36,3 +38,23 @@ fuzzy-list = (same fuzzy-list'.Post _ _ (λ κs a z e p. p .0), same fuzzy-list'
 
 pub fuzzy-next : Settled fuzzy-next'.Post × Same fuzzy-next'.Post (λ κs z e. e .1 .1 .1 .1 .1 .1 .1 .1 .1 .1 .1 .1 .1 .1 .1 .0 .now)
 fuzzy-next = (same fuzzy-next'.Post _ _ (λ κs a z e p. p .0), same fuzzy-next'.Post _ _ (λ κs a z e p. p .1))
+
+pub fuzzy-run-in-zone :
+    Settled fuzzy-run-in-zone'.Post
+    × Same fuzzy-run-in-zone'.Post (λ κs z e. e .1 .1 .1 .1 .0 .now)
+    × Same fuzzy-run-in-zone'.Post (λ κs z e. e .1 .1 .1 .1 .1 .0 .now)
+fuzzy-run-in-zone = (
+  same fuzzy-run-in-zone'.Post _ _ (λ κs a z e p. p .0),
+  same fuzzy-run-in-zone'.Post _ _ (λ κs a z e p. p .1 .0),
+  same fuzzy-run-in-zone'.Post _ _ (λ κs a z e p. p .1 .1),
+)
+
+pub fuzzy-read-in-zone :
+    Settled fuzzy-read-in-zone'.Post
+    × Same fuzzy-read-in-zone'.Post (λ κs z e. e .1 .1 .1 .1 .1 .0 .now)
+    × Same fuzzy-read-in-zone'.Post (λ κs z e. e .1 .1 .1 .1 .1 .1 .0 .now)
+fuzzy-read-in-zone = (
+  same fuzzy-read-in-zone'.Post _ _ (λ κs a z e p. p .0),
+  same fuzzy-read-in-zone'.Post _ _ (λ κs a z e p. p .1 .0),
+  same fuzzy-read-in-zone'.Post _ _ (λ κs a z e p. p .1 .1),
+)

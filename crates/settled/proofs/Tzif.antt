@@ -1,5 +1,5 @@
 -- The promises of `tzif`. Assumes nothing.
-use Rattle.settled.proofs.Settled.{Same, Settled, same}
+use Rattle.settled.proofs.Settled.{Settled, same}
 use Rattle.tzif.proofs.file.check.Reads as check'
 use Rattle.tzif.proofs.file.transition_at.Reads as transition-at'
 use Rattle.tzif.proofs.file.offset_behind.Reads as offset-behind'

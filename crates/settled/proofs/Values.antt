@@ -31,6 +31,14 @@ use Rattle.rules.specs.declared.read.RuleRead.the-variants.{Is as IsRule, Refus
 use Rattle.zones.specs.Civil.{answerOf}
 use Rattle.zones.specs.declared.search.Resolved.{Resolved}
 use Rattle.zones.specs.declared.search.Resolved.the-variants.{At as ResolvedAt, Refused as ResolvedRefused}
+use Rattle.zones.specs.Instants.{arrivedOf}
+use Rattle.zones.specs.declared.instants.Instant.{Instant}
+use Rattle.zones.specs.declared.instants.Arrived.{Arrived}
+use Rattle.zones.specs.declared.instants.Arrived.the-variants.{At as ArrivedAt, Refused as ArrivedRefused}
+use Rattle.zoned.specs.Local.{locatedOf}
+use Rattle.zoned.specs.declared.local.Local.{Local}
+use Rattle.zoned.specs.declared.local.Located.{Located}
+use Rattle.zoned.specs.declared.local.Located.the-variants.{At as LocatedAt, Refused as LocatedRefused}
 use Rattle.answer.specs.Answer.{answerFrom}
 use Rattle.answer.specs.declared.Answered.{Answered}
 use Rattle.answer.specs.declared.Answered.the-variants.{At as AnsweredAt, Refused as AnsweredRefused}
@@ -158,3 +166,25 @@ resolved-back (ResolvedRefused k) = refl
 
 pub resolved-one : (x y : Resolved) → answerOf x ≡ answerOf y → x ≡ y
 resolved-one = given-back answerOf resolvedOf resolved-back
+
+abbrev arrived : Reach Instant → Arrived
+arrived (moment x) = ArrivedAt x
+arrived (refused k) = ArrivedRefused k
+
+arrived-back : (x : Arrived) → arrived (arrivedOf x) ≡ x
+arrived-back (ArrivedAt x) = refl
+arrived-back (ArrivedRefused k) = refl
+
+pub arrived-one : (x y : Arrived) → arrivedOf x ≡ arrivedOf y → x ≡ y
+arrived-one = given-back arrivedOf arrived arrived-back
+
+abbrev located : Answer Local → Located
+located (given x) = LocatedAt x
+located (refusedAnswer r) = LocatedRefused (r .number)
+
+located-back : (x : Located) → located (locatedOf x) ≡ x
+located-back (LocatedAt x) = refl
+located-back (LocatedRefused k) = refl
+
+pub located-one : (x y : Located) → locatedOf x ≡ locatedOf y → x ≡ y
+located-one = given-back locatedOf located located-back

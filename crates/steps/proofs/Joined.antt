@@ -5,7 +5,7 @@ use mathlib.Core.Path.{_≡_, refl, ap, sym, subst, _∙_}
 use mathlib.Core.Bool.{Bool, true, false, cond, Bool·beq}
 use mathlib.Core.List.{List, [], _∷_}
 use lib.ListN.{length}
-use Rattle.calendar.specs.Moments.{Reach, moment, refused, andThen}
+use Rattle.calendar.specs.Moments.{Reach, moment, andThen}
 use Rattle.numbers.specs.Slices.{oneIf}
 use Rattle.calendar.proofs.Outcomes.{then-same, then-moment, then-assoc}
 use Rattle.evaluation.specs.Worlds.{World, Lawful}

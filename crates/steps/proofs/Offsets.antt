@@ -2,7 +2,7 @@
 use mathlib.Core.Path.{_≡_, refl}
 use mathlib.Core.Bool.{Bool, true, false, cond}
 use mathlib.Core.List.{List, [], _∷_}
-use Rattle.calendar.specs.Moments.{Outcome, refused, isMoment}
+use Rattle.calendar.specs.Moments.{refused, isMoment}
 use Rattle.calendar.specs.declared.moments.Moment.{Moment}
 use Rattle.calendar.proofs.Outcomes.{then-same}
 use Rattle.calendar.proofs.Steps.{minutes-twice}

@@ -2,23 +2,22 @@
 use Prim.Native.Nat.{ℕ, zero, suc, _+_, _-_, _*_, _≤_, _<_}
 use native.Mathlib.Numerals.{add-one}
 use native.Mathlib.Omega.{arith}
-use mathlib.Core.Path.{_≡_, refl, sym, subst}
+use mathlib.Core.Path.{_≡_, refl, subst}
 use mathlib.Core.Bool.{Bool, true, false, cond, _&&_}
 use mathlib.Core.List.{List}
 use mathlib.Core.Logic.{⊎-elim}
-use lib.Dec.{ltb, leb, eqb}
+use lib.Dec.{leb, eqb}
 use lib.ListN.{length}
 use borrow.Author.Tests.{eq-eqb, ne-eqb, ltb-true}
 use Rattle.refusals.specs.Answers.{given}
 use Rattle.digits.proofs.Order.{le-or-lt}
 use Rattle.tzif.specs.Zones.{Zone, yearOne, Ascending, Bounded, AllBounded, IsZone}
-use Rattle.tzif.specs.File.{octetAt, blockLength, timeAt, offsetAt, isHeader, secondAt, headerAt, isBlock, isAbove, lastAt, placesAt, blockOf, checkedOf}
+use Rattle.tzif.specs.File.{octetAt, timeAt, offsetAt, isHeader, secondAt, headerAt, isBlock, isAbove, lastAt, placesAt, blockOf, checkedOf}
 use Rattle.tzif.specs.File.{rowAt, rowsFrom, zoneIn, zoneBy, zoneOf}
 use Rattle.tzif.specs.declared.file.Header.{Header}
 use Rattle.tzif.specs.declared.file.Places.{Places}
 use Rattle.tzif.specs.declared.file.Checked.{Checked}
 use Rattle.tzif.specs.declared.file.Checked.the-variants.{Refused, Is}
-use Rattle.tzif.proofs.Entries.{either-true}
 use Rattle.tzif.proofs.Times.{passes}
 use Rattle.tzif.proofs.Blocks.{Block, block}
 

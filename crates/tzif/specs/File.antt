@@ -56,7 +56,7 @@ headerAt l at = record {
   charcnt = fourAt l (at + 40);
 }
 
--- "The four-octet ASCII sequence "TZif"", and a version octet of "2" or later
+-- the magic, "TZif", and a version octet of "2" or later
 unfoldable pub isHeader : List ℕ → ℕ → Bool
 isHeader l at = leb (at + 44) (length l) && (eqb (fourAt l at) (fourAt (bytesOf "TZif") 0) && leb (code "2") (octetAt l (at + 4)))
 

@@ -2,7 +2,7 @@
 ghost use mathlib.Core.Path.{_≡_};
 ghost use Prim.Native.Nat.{_+_, _*_, _≤_, _<_};
 ghost use lib.ListN.{length};
-ghost use Rattle.tzif.specs.File.{octetAt, fourAt, eightAt, turned, timeAt, raised, offsetAt};
+ghost use Rattle.tzif.specs.File.{octetAt, fourAt, turned, timeAt, raised, offsetAt};
 
 // 2^63.
 const HALF: u64 = 9223372036854775808;

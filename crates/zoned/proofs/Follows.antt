@@ -17,7 +17,7 @@ use Rattle.evaluation.specs.Steps.{unitIn, partIn, durationIn}
 use Rattle.evaluation.specs.Times.{timeAt}
 use Rattle.evaluation.specs.Evaluate.{dateExprAt, evaluateIn}
 use Rattle.answer.proofs.Leads.{Leads, months-lead, years-lead, kept-moment, valid-leads}
-use Rattle.zoned.proofs.Reached.{through}
+use Rattle.zones.proofs.Bounds.{through}
 
 module _ {S R : Type 0} (w : World S) (v : World R) (Good : S → Type 0) (f : S → R) where
   -- an answer of v that is the image of a good moment

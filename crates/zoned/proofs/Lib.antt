@@ -1,8 +1,9 @@
-pub mod Reached
 pub mod Joins
-pub mod Clocks
 pub mod Follows
 pub mod OneOffset
 pub mod Refuses
+pub mod Acts
+pub mod Ahead
 pub mod Calls
 pub mod NewYork
+pub mod Settles

@@ -15,11 +15,12 @@ use Rattle.evaluation.specs.Evaluate.{evaluateIn, evaluate}
 use Rattle.answer.proofs.Leads.{Leads, leads, refuses}
 use Rattle.tzif.specs.Zones.{Row, Zone, IsZone}
 use Rattle.zones.specs.Civil.{shiftAt, civilOf, lastIn, resolve, civilOne, momentOfSecond, secondOfMoment}
-use Rattle.zoned.specs.InZone.{Instant, instantBy, arrive, fixedFrom, clockOf, inZone}
-use Rattle.zoned.proofs.Reached.{through}
+use Rattle.zones.specs.Instants.{instantBy, arrive, fixedFrom, clockOf, Good, Shown}
+use Rattle.zones.specs.declared.instants.Instant.{Instant}
+use Rattle.zoned.specs.InZone.{inZone}
 use Rattle.calendar.proofs.Seconds.{later-second, earlier-second}
-use Rattle.zoned.proofs.Joins.{Good, high, arrive-past, arrive-in, arrive-low, back-in, back-out, fixed-keeps, zone-lawful}
-use Rattle.zoned.proofs.Clocks.{settle-civil, good-moment}
+use Rattle.zones.proofs.Bounds.{through, settle-civil, good-moment, high, arrive-past, arrive-in, arrive-low, back-in, back-out, fixed-keeps}
+use Rattle.zoned.proofs.Joins.{zone-lawful}
 use Rattle.zoned.proofs.Follows.{Led, Follows, tree-follows}
 
 module _ (z : Zone) (v : IsZone z) where
@@ -73,11 +74,6 @@ module _ (z : Zone) (v : IsZone z) where
     where
       off : (c d b k : ℕ) → b ≤ d → d + 60 * k ≡ c → c - b ≡ d - b + 60 * k
       off c d b k h e = omega arith
-
--- an instant that a run may stand at, with its millisecond
-pub record Shown (z : Zone) (x : Instant) : Type 0 where
-  pub good : Good z (x .second)
-  pub small : x .millisecond < 1000
 
 -- a zone of one offset up to its last transition
 module _ (o : ℕ) (r : Row) where

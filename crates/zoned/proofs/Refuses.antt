@@ -22,11 +22,14 @@ use Rattle.evaluation.specs.Times.{timeAt}
 use Rattle.evaluation.specs.Evaluate.{dateExprAt, evaluateIn, evaluate}
 use Rattle.tzif.specs.Zones.{Row, Zone, yearOne, IsZone}
 use Rattle.zones.specs.Civil.{shiftAt, civilOf, lastIn, civilOne, resolve, momentOfSecond, secondOfMoment}
-use Rattle.zoned.specs.InZone.{Instant, withMillisecond, arrive, fixedFrom, clockOf, inZone}
+use Rattle.zones.specs.Instants.{withMillisecond, arrive, fixedFrom, clockOf, Good, Shown}
+use Rattle.zones.specs.declared.instants.Instant.{Instant}
+use Rattle.zoned.specs.InZone.{inZone}
 use Rattle.zones.proofs.Resolved.{only-22-23}
-use Rattle.zoned.proofs.Joins.{Good, border, arrive-past, arrive-in, arrive-low, back-in, back-out}
+use Rattle.zones.proofs.Bounds.{arrive-past, arrive-in, arrive-low, back-in, back-out}
+use Rattle.zoned.proofs.Joins.{border}
 use Rattle.zoned.proofs.Follows.{Follows, part-led, tree-led}
-use Rattle.zoned.proofs.OneOffset.{Shown, single, one-shift, follows}
+use Rattle.zoned.proofs.OneOffset.{single, one-shift, follows}
 
 -- a refusal on the way, or behind what was reached
 then-refuses :

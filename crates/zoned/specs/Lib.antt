@@ -1,2 +1,4 @@
 pub mod InZone
+pub mod Kinds
+pub mod Local
 pub mod ZoneCases

@@ -19,7 +19,9 @@ use Rattle.steps.specs.Running.{runIn}
 use Rattle.ready.specs.Made.{exprSteps, treeSteps, stepsOf}
 use Rattle.tzif.specs.Zones.{yearOne}
 use Rattle.zones.specs.Cases.{newYork}
-use Rattle.zoned.specs.InZone.{Instant, instantBy, evaluateAt, runAt}
+use Rattle.zones.specs.Instants.{instantBy}
+use Rattle.zones.specs.declared.instants.Instant.{Instant}
+use Rattle.zoned.specs.InZone.{evaluateAt, runAt}
 
 -- a reading at an instant, and its answer
 pub record Case : Type 0 where

@@ -1,1 +1,3 @@
-// A zone as a world, and demand 3 there: laws of the definitions. There is no code here.
+// A ready phrase run at an instant of a zone, and what the clocks show there.
+pub mod local;
+mod run;

@@ -3,3 +3,4 @@ pub mod OneOffset
 pub mod Searched
 pub mod Pieces
 pub mod Moments
+pub mod Bounds

@@ -8,7 +8,6 @@ use borrow.Author.Tests.{le-leb, lt-ltb, leb-true, ltb-true}
 use Rattle.calendar.specs.Moments.{IsMoment, secondNumber, seconds, momentAt}
 use Rattle.calendar.specs.declared.moments.Moment.{Moment}
 use Rattle.calendar.proofs.Seconds.{second-moment, second-at, second-below, at-own-second}
-use Rattle.tzif.specs.Zones.{yearOne}
 use Rattle.zones.specs.Civil.{civilOne, inYears, momentOfSecond, secondOfMoment}
 
 -- a civil second in years 1 to 9999 is so many behind the first

@@ -7,7 +7,7 @@ use mathlib.Core.Logic.{⊎-elim}
 use borrow.Author.Tests.{le-leb, lt-leb, lt-ltb, le-ltb}
 use Rattle.calendar.specs.Moments.{moment}
 use Rattle.digits.proofs.Order.{le-or-lt}
-use Rattle.tzif.specs.Zones.{Row, Zone, Ascending}
+use Rattle.tzif.specs.Zones.{Row, Zone}
 use Rattle.zones.specs.Civil.{shiftAt, lastOf, resolveFrom, civilOf, lastIn, resolve}
 
 -- every offset but the one behind the last transition is o

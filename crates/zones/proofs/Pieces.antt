@@ -11,13 +11,13 @@ use lib.Dec.{leb, ltb}
 use lib.ListN.{drop}
 use borrow.Author.Tests.{le-leb, lt-leb, ne-eqb}
 use Rattle.refusals.specs.Table.{PastLast, NoInstant}
-use Rattle.calendar.specs.Moments.{Reach, moment, refused}
+use Rattle.calendar.specs.Moments.{moment, refused}
 use Rattle.digits.proofs.Order.{le-or-lt, Tri, below, equal, above, tri}
-use Rattle.tzif.specs.Zones.{Row, Ascending, AllBounded}
+use Rattle.tzif.specs.Zones.{Row}
 use Rattle.tzif.specs.File.{timeAt, offsetAt, lastAt, offsetBehind, rowAt, rowsFrom, zoneIn}
 use Rattle.tzif.specs.declared.file.Places.{Places}
 use Rattle.tzif.proofs.Checked.{Known, rows-bounded, rows-ascending}
-use Rattle.zones.specs.Civil.{shiftAt, lastOf, resolveFrom, lastIn, resolve}
+use Rattle.zones.specs.Civil.{shiftAt, lastOf, lastIn, resolve}
 use Rattle.zones.specs.Search.{passedBy, firstPiece, resolveAt}
 use Rattle.zones.proofs.Searched.{behindBy, atOf, shiftOf, shift-passed, skips, stops}
 

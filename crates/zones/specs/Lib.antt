@@ -1,3 +1,4 @@
 pub mod Civil
+pub mod Instants
 pub mod Search
 pub mod Cases

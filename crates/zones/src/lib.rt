@@ -1,3 +1,4 @@
 // Instants and civil times of a zone, found by place in its checked file.
 pub mod civil;
+pub mod instants;
 pub mod search;

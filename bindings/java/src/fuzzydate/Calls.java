@@ -2,7 +2,7 @@ package fuzzydate;
 
 /**
  * The functions of fuzzy.h by their names there, over fuzzydate_jni.c. An answer is the header's one number; what a call writes goes to the front of
- * its last array, and on a refusal nothing does.
+ * its last array, an instant's second to the one before it, and on a refusal nothing does.
  */
 final class Calls {
     static final int MOMENT_NUMBERS = 7;
@@ -11,6 +11,7 @@ final class Calls {
     static final int READY_SIZE = 384;
     static final int STAMP_SIZE = 29;
     static final int PHRASE_SIZE = 26;
+    static final int LOCAL_NUMBERS = 9;
 
     static {
         System.loadLibrary("fuzzydate_jni");
@@ -35,6 +36,10 @@ final class Calls {
     static native long list(byte[] rule, int[] start, int[] moments);
 
     static native long next(byte[] rule, int[] start, int[] asked, int[] moment);
+
+    static native long runInZone(byte[] ready, byte[] zone, long second, int millisecond, long[] due, int[] moment);
+
+    static native long readInZone(int reading, byte[] phrase, byte[] zone, long second, int millisecond, long[] due, int[] moment);
 
     static native int number(long answer);
 

@@ -1,6 +1,7 @@
 package fuzzydate;
 
 import java.nio.charset.StandardCharsets;
+import java.time.Instant;
 import java.time.LocalDateTime;
 import java.util.ArrayList;
 import java.util.Arrays;
@@ -11,7 +12,7 @@ import java.util.List;
  *
  * <p>A phrase is its bytes; a String stands for its UTF-8, in which a surrogate without its other half is "?". Any bytes and any moment get an answer:
  * what the call gives, or a {@link Refusal}. A moment has milliseconds: one with a part of a millisecond, as {@code LocalDateTime.now()} may have, is an
- * IllegalArgumentException, and {@code truncatedTo(ChronoUnit.MILLIS)} makes it whole. All methods may run in any thread.
+ * IllegalArgumentException, and {@code truncatedTo(ChronoUnit.MILLIS)} makes it whole; so with an instant. All methods may run in any thread.
  */
 public final class Fuzzydate {
     private static final byte[] NO_PHRASE = {};
@@ -129,6 +130,32 @@ public final class Fuzzydate {
     /** Which occurrence comes next. */
     public static LocalDateTime next(String rule, LocalDateTime start, LocalDateTime asked) throws Refusal {
         return next(bytes(rule), start, asked);
+    }
+
+    /**
+     * A ready phrase at an instant in a zone, which is the bytes of its TZif file; fuzzy.h says which are taken. Minutes, hours, days and weeks from now or
+     * from a stated time are lengths of time; dates, weekdays, months and years go by the clocks. Of a civil time that occurs twice the earlier is meant.
+     * One that doesn't occur is refused, and so is any moment at or past the file's last transition.
+     */
+    public static Local runInZone(byte[] ready, byte[] zone, Instant now) throws Refusal {
+        long[] due = new long[1];
+        int[] local = new int[Calls.LOCAL_NUMBERS];
+        Refusal.check(Calls.runInZone(ready, zone, now.getEpochSecond(), Moments.milliseconds(now), due, local), NO_PHRASE);
+        return Moments.local(due[0], local);
+    }
+
+    /** A phrase at an instant in a zone: what {@link #runInZone} gives for the phrase made ready. */
+    public static Local readInZone(Reading reading, byte[] phrase, byte[] zone, Instant now) throws Refusal {
+        long[] due = new long[1];
+        int[] local = new int[Calls.LOCAL_NUMBERS];
+        long second = now.getEpochSecond();
+        Refusal.check(Calls.readInZone(reading.number(), phrase, zone, second, Moments.milliseconds(now), due, local), phrase);
+        return Moments.local(due[0], local);
+    }
+
+    /** A phrase at an instant in a zone. */
+    public static Local readInZone(Reading reading, String phrase, byte[] zone, Instant now) throws Refusal {
+        return readInZone(reading, bytes(phrase), zone, now);
     }
 
     private static byte[] bytes(String text) {

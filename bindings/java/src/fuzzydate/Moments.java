@@ -1,8 +1,9 @@
 package fuzzydate;
 
+import java.time.Instant;
 import java.time.LocalDateTime;
 
-/** A moment as java.time has it and as the seven numbers of fuzzy.h. */
+/** A moment, and an instant in a zone, as java.time has them and as the numbers of fuzzy.h. */
 final class Moments {
     private static final int NANOS = 1_000_000;
 
@@ -14,6 +15,14 @@ final class Moments {
             throw new IllegalArgumentException("a moment has whole milliseconds, by truncatedTo(ChronoUnit.MILLIS): " + moment);
         }
         return moment;
+    }
+
+    /** The milliseconds of an instant, if it has no part of one. */
+    static int milliseconds(Instant instant) {
+        if (instant.getNano() % NANOS != 0) {
+            throw new IllegalArgumentException("an instant has whole milliseconds, by truncatedTo(ChronoUnit.MILLIS): " + instant);
+        }
+        return instant.getNano() / NANOS;
     }
 
     /** Its numbers, at the front of so many. */
@@ -32,5 +41,10 @@ final class Moments {
     /** The moment of the numbers at the front. */
     static LocalDateTime of(int[] n) {
         return LocalDateTime.of(n[0], n[1], n[2], n[3], n[4], n[5], n[6] * NANOS);
+    }
+
+    /** What the clocks show at an instant's second, by nine numbers. */
+    static Local local(long second, int[] n) {
+        return new Local(Instant.ofEpochSecond(second, n[6] * NANOS), of(n), n[7] == 0 ? n[8] : -n[8]);
     }
 }

@@ -41,7 +41,13 @@ public enum Reason {
     /** The start doesn't match the rule, or lies past its UNTIL. */
     NO_START,
     /** No occurrence of the rule is at or after the asked moment. */
-    NO_NEXT;
+    NO_NEXT,
+    /** No zone: no TZif file of version 2 or later, or one that passes a bound. */
+    NO_ZONE,
+    /** At or past the last transition of the zone's file. */
+    PAST_LAST,
+    /** A civil time that doesn't occur in the zone. */
+    NO_INSTANT;
 
     static Reason of(int number) {
         return values()[number - 1];

@@ -1,9 +1,15 @@
 package fuzzydate;
 
+import java.nio.ByteBuffer;
 import java.nio.charset.StandardCharsets;
+import java.nio.file.Files;
+import java.nio.file.Paths;
+import java.time.Instant;
 import java.time.LocalDate;
 import java.time.LocalDateTime;
 import java.time.OffsetDateTime;
+import java.time.ZoneOffset;
+import java.time.temporal.ChronoField;
 import java.time.temporal.ChronoUnit;
 import java.util.ArrayList;
 import java.util.Arrays;
@@ -19,20 +25,28 @@ import java.util.concurrent.ExecutorService;
 import java.util.concurrent.Executors;
 import java.util.concurrent.Future;
 
-/** Every call with good, damaged, empty and missing input, each refusal at least once, and all of it in eight threads at once. */
+/** Every call with good, damaged, empty and missing input, each refusal at least once, and all of it in eight threads at once: Every ZONE. */
 final class Every {
     private static final LocalDateTime NOW = LocalDateTime.of(2026, 2, 11, 9, 30, 15, 250_000_000);
     private static final LocalDateTime LEAP_DAY = LocalDateTime.of(2024, 2, 29, 12, 0);
     private static final LocalDateTime WHOLE = LocalDateTime.of(2026, 3, 4, 9, 5);
     private static final LocalDateTime TUESDAY = LocalDateTime.of(2026, 2, 10, 9, 30, 15, 250_000_000);
     private static final String TUESDAYS = "FREQ=WEEKLY;INTERVAL=2;BYDAY=TU";
+    private static final Instant BEFORE_GAP = Instant.parse("2026-03-08T06:30:00.250Z");
+    private static final Instant LAST = Instant.parse("2027-03-14T07:00:00Z");
+    /** Where the first offset stands in the zone's file. */
+    private static final int FIRST_OFFSET = 131;
     private static final int THREADS = 8;
     private static final int ROUNDS = 5;
 
     private final Set<Reason> seen = EnumSet.noneOf(Reason.class);
+    private final byte[] zone;
     private int checks = 0;
 
-    private Every() {}
+    /** By the bytes of bindings/zones/New_York. */
+    private Every(byte[] zone) {
+        this.zone = zone;
+    }
 
     private void expect(boolean holds, String what) {
         checks++;
@@ -334,11 +348,120 @@ final class Every {
         same(months.get(months.size() - 1), LocalDateTime.of(9999, 12, 1, 9, 30), "the last month");
     }
 
+    /** A phrase at an instant in a zone, read as bytes and as a String, and run. */
+    private Local due(Reading reading, String phrase, byte[] file, Instant now) throws Refusal {
+        Local local = Fuzzydate.readInZone(reading, phrase, file, now);
+        same(Fuzzydate.readInZone(reading, phrase.getBytes(StandardCharsets.UTF_8), file, now), local, phrase + ", as bytes");
+        same(Fuzzydate.runInZone(Fuzzydate.makeReady(reading, phrase), file, now), local, phrase + ", made ready");
+        return local;
+    }
+
+    private void due(String phrase, String now, String wanted) throws Refusal {
+        OffsetDateTime time = OffsetDateTime.parse(wanted);
+        for (Reading reading : Reading.values()) {
+            Local local = due(reading, phrase, zone, Instant.parse(now));
+            same(local, new Local(time.toInstant(), time.toLocalDateTime(), time.getOffset().getTotalSeconds()), phrase);
+            same(local.hashCode(), due(reading, phrase, zone, Instant.parse(now)).hashCode(), phrase + ": its hash");
+            same(local.instant(), time.toInstant(), phrase + ": the instant");
+            same(local.toOffsetDateTime(), Optional.of(time), phrase + ": for java.time");
+            same(local.toString(), time.toString(), phrase + ": as text");
+        }
+    }
+
+    private void zones() throws Refusal {
+        due("now", "2026-03-08T06:30:00.250Z", "2026-03-08T01:30:00.250-05:00");
+        due("today 3:00", "2026-03-08T06:30:00.250Z", "2026-03-08T03:00:00-04:00");
+        due("an hour from now", "2026-03-08T06:30:00.250Z", "2026-03-08T03:30:00.250-04:00");
+        due("1 day from now", "2026-03-07T14:00:00Z", "2026-03-08T10:00:00-04:00");
+        due("tomorrow", "2026-03-07T14:00:00Z", "2026-03-08T09:00:00-04:00");
+        due("2 months from now", "2026-02-08T07:30:00.999Z", "2026-04-08T02:30:00.999-04:00");
+        due("now", "2026-11-01T06:30:00Z", "2026-11-01T01:30:00-05:00");
+        due("today", "2026-11-01T06:30:00Z", "2026-11-01T01:30:00-04:00");
+        due("now", "1969-12-31T23:59:59.999Z", "1969-12-31T18:59:59.999-05:00");
+    }
+
+    /** A refusal by both calls, and nothing written. */
+    private Refusal undue(Reason reason, String phrase, byte[] file, Instant now) {
+        byte[] bytes = phrase.getBytes(StandardCharsets.UTF_8);
+        long[] due = {0xa5};
+        int[] local = new int[Calls.LOCAL_NUMBERS];
+        long answer = Calls.readInZone(1, bytes, file, now.getEpochSecond(), Moments.milliseconds(now), due, local);
+        same(Calls.number(answer), reason.number(), phrase);
+        expect(due[0] == 0xa5 && Arrays.equals(local, new int[Calls.LOCAL_NUMBERS]), "nothing written for what is refused in a zone");
+        refusal(reason, () -> Fuzzydate.runInZone(Fuzzydate.makeReady(Reading.FIRST, phrase), file, now), phrase + ", made ready");
+        return refusal(reason, () -> Fuzzydate.readInZone(Reading.FIRST, phrase, file, now), phrase);
+    }
+
+    private void refusedInZones() {
+        same(undue(Reason.NO_INSTANT, "today 2:00", zone, BEFORE_GAP).getMessage(), "the zone's clocks skip that time", "a gap");
+        undue(Reason.NO_INSTANT, "a month from now", zone, Instant.parse("2026-02-08T07:30:00Z"));
+        same(undue(Reason.PAST_LAST, "2 years from now", zone, BEFORE_GAP).getMessage(), "later than the zone's file knows", "the end");
+        undue(Reason.PAST_LAST, "now", zone, LAST);
+        undue(Reason.PAST_LAST, "this month", zone, LAST);
+        undue(Reason.PAST_LAST, "now", zone, Instant.ofEpochSecond(Instant.MAX.getEpochSecond()));
+        undue(Reason.NO_NOW, "now", zone, Instant.MIN);
+        undue(Reason.NO_SENSE, "this month", zone, BEFORE_GAP);
+        undue(Reason.NO_DATE, "1000/1/1", zone, BEFORE_GAP);
+        undue(Reason.NO_TIME, "january 1, 99", zone, BEFORE_GAP);
+        undue(Reason.OUTSIDE, "four billion days ago", zone, BEFORE_GAP);
+        undue(Reason.NO_LEAP_DAY, "a year from now", zone, Instant.parse("2024-02-29T17:00:00Z"));
+        Refusal unknown = undue(Reason.UNKNOWN, "next forty", new byte[0], LAST);
+        same(unknown.getMessage(), "not understood: \"forty\" at byte 5", "a word before the zone");
+        same(undue(Reason.NO_ZONE, "now", new byte[0], LAST).getMessage(), "no zone file that is taken", "no file");
+        refusal(Reason.NO_SENSE, () -> Fuzzydate.runInZone(new byte[400], zone, BEFORE_GAP), "no ready phrase in a zone");
+        refusal(Reason.NO_ZONE, () -> Fuzzydate.runInZone(new byte[400], new byte[400], LAST), "no zone, before no ready phrase");
+    }
+
+    /** The zone with another first offset, which is in force before 2026-03-08T07:00:00Z. */
+    private byte[] withOffset(int seconds) {
+        byte[] file = zone.clone();
+        ByteBuffer.wrap(file).putInt(FIRST_OFFSET, seconds);
+        return file;
+    }
+
+    /** Offsets of up to 18 hours are java.time's, and others are seconds alone. */
+    private void zoneOffsets() throws Refusal {
+        Instant now = Instant.parse("2026-02-01T12:00:00Z");
+        for (int seconds : new int[] {0, 1, -1, 19_800, -17_762, 64_800, -64_800}) {
+            Local local = due(Reading.FIRST, "now", withOffset(seconds), now);
+            same(local.offset(), seconds, "an offset");
+            same(local.toOffsetDateTime(), Optional.of(now.atOffset(ZoneOffset.ofTotalSeconds(seconds))), "an offset of java.time");
+        }
+        for (int seconds : new int[] {64_801, -64_801, 93_599, -89_999}) {
+            Local local = due(Reading.FIRST, "now", withOffset(seconds), now);
+            same(local, new Local(now, LocalDateTime.parse("2026-02-01T12:00:00").plusSeconds(seconds), seconds), "an offset above 18 hours");
+            same(local.toOffsetDateTime(), Optional.empty(), "an offset that java.time does not have");
+            same(local.toString(), local.moment() + ", " + seconds + " seconds from UTC", "an offset as text");
+        }
+        for (int seconds : new int[] {93_600, -90_000, Integer.MAX_VALUE, Integer.MIN_VALUE}) {
+            undue(Reason.NO_ZONE, "now", withOffset(seconds), now);
+        }
+    }
+
+    /** The file cut short, with each bit changed, and with as many bytes behind it as a zone may have, and one more. */
+    private void zoneFiles() throws Refusal {
+        for (int length = 0; length < zone.length; length++) {
+            undue(Reason.NO_ZONE, "now", Arrays.copyOf(zone, length), BEFORE_GAP);
+        }
+        int kept = 0;
+        for (int bit = 0; bit < 8 * zone.length; bit++) {
+            byte[] damaged = flipped(zone, bit);
+            kept += refusedWithin(Reason.NO_NOW, Reason.NO_INSTANT, () -> due(Reading.SECOND, "tomorrow", damaged, BEFORE_GAP)) ? 0 : 1;
+        }
+        expect(kept > 0, "other zones");
+        Local now = due(Reading.FIRST, "now", zone, BEFORE_GAP);
+        same(due(Reading.FIRST, "now", Arrays.copyOf(zone, 65_536), BEFORE_GAP), now, "the longest file");
+        undue(Reason.NO_ZONE, "now", Arrays.copyOf(zone, 65_537), BEFORE_GAP);
+    }
+
     /** A part of a millisecond is never lost: it is said. */
     private void nanoseconds() throws Refusal {
         byte[] ready = Fuzzydate.makeReady(Reading.FIRST, "today");
         for (int nanos : new int[] {1, 999_999, 1_000_001, 999_999_999}) {
             LocalDateTime now = WHOLE.withNano(nanos);
+            Instant instant = BEFORE_GAP.with(ChronoField.NANO_OF_SECOND, nanos);
+            throwsA(IllegalArgumentException.class, () -> Fuzzydate.readInZone(Reading.FIRST, "today", zone, instant), "reading in a zone");
+            throwsA(IllegalArgumentException.class, () -> Fuzzydate.runInZone(ready, zone, instant), "running in a zone");
             throwsA(IllegalArgumentException.class, () -> Fuzzydate.read(Reading.FIRST, "today", now), "reading at nanoseconds");
             throwsA(IllegalArgumentException.class, () -> Fuzzydate.run(ready, now), "running at nanoseconds");
             throwsA(IllegalArgumentException.class, () -> Fuzzydate.writePhrase(now), "showing nanoseconds");
@@ -355,12 +478,17 @@ final class Every {
     private void calls() {
         byte[] today = "today".getBytes(StandardCharsets.UTF_8), bytes = new byte[Calls.READY_SIZE];
         int[] now = Moments.numbers(WHOLE, 9), numbers = new int[9];
+        long[] due = {0xa5};
         Arrays.fill(bytes, (byte) 0xa5);
         Arrays.fill(numbers, 0xa5);
         for (int reading : new int[] {0, 3, -1}) {
             refusal(Reason.NO_READING, () -> Refusal.check(Calls.read(reading, today, now, numbers), today), "reading " + reading);
             refusal(Reason.NO_READING, () -> Refusal.check(Calls.makeReady(reading, today, bytes), today), "making ready " + reading);
             refusal(Reason.NO_READING, () -> Refusal.check(Calls.findWord(reading, today, numbers), today), "a word of reading " + reading);
+            refusal(Reason.NO_READING, () -> Refusal.check(Calls.readInZone(reading, today, zone, 0, 0, due, numbers), today), "in a zone " + reading);
+        }
+        for (int millisecond : new int[] {1000, -1}) {
+            refusal(Reason.NO_NOW, () -> Refusal.check(Calls.readInZone(1, today, zone, 0, millisecond, due, numbers), today), "no millisecond");
         }
         for (int room : new int[] {0, 19}) {
             byte[] text = new byte[room];
@@ -395,6 +523,14 @@ final class Every {
         throwsA(none, () -> Calls.next(today, null, now, numbers), "no start to be asked from");
         throwsA(none, () -> Calls.next(today, now, null, numbers), "no asked moment");
         throwsA(none, () -> Calls.next(today, now, now, null), "no moment that comes next");
+        throwsA(none, () -> Calls.runInZone(null, zone, 0, 0, due, numbers), "no ready phrase in a zone");
+        throwsA(none, () -> Calls.runInZone(bytes, null, 0, 0, due, numbers), "no zone to run in");
+        throwsA(none, () -> Calls.runInZone(bytes, zone, 0, 0, null, numbers), "no instant to run to");
+        throwsA(none, () -> Calls.runInZone(bytes, zone, 0, 0, due, null), "no moment to run to in a zone");
+        throwsA(none, () -> Calls.readInZone(1, null, zone, 0, 0, due, numbers), "no phrase in a zone");
+        throwsA(none, () -> Calls.readInZone(1, today, null, 0, 0, due, numbers), "no zone");
+        throwsA(none, () -> Calls.readInZone(1, today, zone, 0, 0, null, numbers), "no instant to read to");
+        throwsA(none, () -> Calls.readInZone(1, today, zone, 0, 0, due, null), "no moment to read to in a zone");
 
         Class<ArrayIndexOutOfBoundsException> few = ArrayIndexOutOfBoundsException.class;
         throwsA(few, () -> Calls.read(1, today, new int[6], numbers), "a now of six numbers");
@@ -410,6 +546,11 @@ final class Every {
         throwsA(few, () -> Calls.next(today, new int[6], now, numbers), "six numbers of a start to be asked from");
         throwsA(few, () -> Calls.next(today, now, new int[6], numbers), "six numbers of an asked moment");
         throwsA(few, () -> Calls.next(today, now, now, new int[6]), "six numbers for what comes next");
+        throwsA(few, () -> Calls.runInZone(bytes, zone, 0, 0, new long[0], numbers), "no number for an instant to run to");
+        throwsA(few, () -> Calls.runInZone(bytes, zone, 0, 0, due, new int[8]), "eight numbers to run to in a zone");
+        throwsA(few, () -> Calls.readInZone(1, today, zone, 0, 0, new long[0], numbers), "no number for an instant");
+        throwsA(few, () -> Calls.readInZone(1, today, zone, 0, 0, due, new int[8]), "eight numbers in a zone");
+        expect(due[0] == 0xa5, "an instant written by a refused call");
         for (byte b : bytes) {
             expect(b == (byte) 0xa5, "bytes written by a refused call");
         }
@@ -443,6 +584,14 @@ final class Every {
         throwsA(none, () -> Fuzzydate.next((byte[]) null, NOW, NOW), "no rule to be asked");
         throwsA(none, () -> Fuzzydate.next("FREQ=DAILY", null, NOW), "no start to be asked from");
         throwsA(none, () -> Fuzzydate.next("FREQ=DAILY", NOW, null), "no asked moment");
+        throwsA(none, () -> Fuzzydate.readInZone(null, phrase, zone, LAST), "no reading in a zone");
+        throwsA(none, () -> Fuzzydate.readInZone(Reading.FIRST, (byte[]) null, zone, LAST), "no phrase in a zone");
+        throwsA(none, () -> Fuzzydate.readInZone(Reading.FIRST, (String) null, zone, LAST), "no String in a zone");
+        throwsA(none, () -> Fuzzydate.readInZone(Reading.FIRST, phrase, null, LAST), "no zone");
+        throwsA(none, () -> Fuzzydate.readInZone(Reading.FIRST, phrase, zone, null), "no instant");
+        throwsA(none, () -> Fuzzydate.runInZone(null, zone, LAST), "no ready phrase in a zone");
+        throwsA(none, () -> Fuzzydate.runInZone(ready, null, LAST), "no zone to run in");
+        throwsA(none, () -> Fuzzydate.runInZone(ready, zone, null), "no instant to run at");
     }
 
     /** A call that may be refused, with one of these reasons; and whether it was. */
@@ -471,6 +620,8 @@ final class Every {
             refusal(Reason.NO_SENSE, () -> Fuzzydate.run(bytes, NOW), "random bytes as a ready phrase");
             refusal(Reason.NO_STAMP, () -> Fuzzydate.readStamp(bytes), "random bytes as a stamp");
             unlisted(bytes, TUESDAY, Reason.NO_RULE, "no repeating rule that is taken");
+            undue(Reason.NO_ZONE, "now", bytes, BEFORE_GAP);
+            refusal(Reason.NO_SENSE, () -> Fuzzydate.runInZone(bytes, zone, BEFORE_GAP), "random bytes as a ready phrase in a zone");
             for (Reading reading : Reading.values()) {
                 refusedWithin(Reason.TOO_LONG, Reason.NO_LEAP_DAY, () -> Fuzzydate.read(reading, bytes, NOW));
                 refusedWithin(Reason.TOO_LONG, Reason.LEFT_OVER, () -> Fuzzydate.makeReady(reading, bytes));
@@ -518,6 +669,10 @@ final class Every {
         rules();
         refusedRules();
         rows();
+        zones();
+        refusedInZones();
+        zoneOffsets();
+        zoneFiles();
         nanoseconds();
         calls();
         nulls();
@@ -527,14 +682,15 @@ final class Every {
     }
 
     public static void main(String[] arguments) throws Exception {
-        Every first = new Every().all(0);
+        byte[] zone = Files.readAllBytes(Paths.get(arguments[0]));
+        Every first = new Every(zone).all(0);
         first.longest();
         List<Callable<Void>> threads = new ArrayList<>();
         for (int i = 0; i < THREADS; i++) {
             int begin = 1 + i * ROUNDS;
             threads.add(() -> {
                 for (int seed = begin; seed < begin + ROUNDS; seed++) {
-                    new Every().all(seed);
+                    new Every(zone).all(seed);
                 }
                 return null;
             });

@@ -1,7 +1,10 @@
+use native.Mathlib.Omega.{arith}
+use native.Mathlib.Nat.{sub-zero}
 use mathlib.Core.Path.{sym, _∙_}
 use Rattle.calendar.proofs.Valid.{test-moment}
 use Rattle.calendar.proofs.Outcomes.{refused-valid}
 use Rattle.steps.proofs.Offsets.{run-walks}
+use Rattle.records.proofs.Runs.{all-steps}
 use borrow.Author.Needs.{needs}
 use Rattle.records.proofs.run.run_ready.Statement.{statement}
 use Rattle.records.proofs.run.run_ready.Tie as tie
@@ -15,13 +18,14 @@ is-list-requires c κs = search needs
 walk-requires : tie.Need-walk-requires
 walk-requires c κs =
     let v = c .before .before .before in
-    (sym (c .before .is-list .ensures) ∙ c .if2 .taken, test-moment _ (sym (v .valid .ensures) ∙ c .before .before .if1 .taken))
+    let valid = test-moment _ (sym (v .valid .ensures) ∙ c .before .before .if1 .taken) in
+    (omega arith, (valid, valid))
 
 returns : tie.Need-returns
 returns c =
     let v = c .before .before .before .before in
-    rw (run-walks, ← (v .valid .ensures), c .before .before .before .if1 .taken, ← (c .before .before .is-list .ensures), c .before .if2 .taken)
-    (c .walk .ensures)
+    let formed = sym (c .before .before .is-list .ensures) ∙ c .before .if2 .taken in
+    rw (run-walks, ← (v .valid .ensures), c .before .before .before .if1 .taken, formed, all-steps _ formed) (rw sub-zero at (c .walk .ensures))
 
 returns-2 : tie.Need-returns-2
 returns-2 c =

@@ -1,51 +1,42 @@
-use Prim.Native.Nat.{_+_, _-_, _*_, _/_}
-use native.Mathlib.Nat.{sub-zero}
-use mathlib.Core.Path.{_≡_, sym, _∙_}
-use lib.ListN.{length}
+use Prim.Native.Nat.{_+_, _-_, _*_}
+use mathlib.Core.Path.{_≡_, refl, sym, _∙_}
 use Rattle.calendar.specs.Moments.{IsMoment, andThen, reachedOf}
 use Rattle.calendar.specs.declared.moments.Reached.{Reached}
 use Rattle.calendar.proofs.Outcomes.{moment-valid, refused-valid, at-moment}
 use Rattle.steps.specs.Running.{walkOf}
-use Rattle.records.specs.Records.{stepsAt, decodeOf}
+use Rattle.records.specs.Records.{stepsAt}
 use Rattle.records.proofs.Lists.{steps-next}
-use Rattle.records.proofs.Runs.{all-steps, no-step}
+use Rattle.records.proofs.Runs.{no-step}
 use borrow.Author.Needs.{needs}
 use Rattle.records.proofs.run.walk.Statement.{statement}
 use Rattle.records.proofs.run.walk.Tie as tie
 
 abbrev Inv-loop : tie.InvT-loop
-Inv-loop b at n t₀ done₀ t done = IsMoment t × (walkOf (decodeOf b) at at ≡ walkOf (stepsAt (n - done) b (16 * done)) at t)
+Inv-loop b first end at t₀ done₀ t done =
+    IsMoment t × (walkOf (stepsAt (end - first) b (16 * first)) at t₀ ≡ walkOf (stepsAt (end - done) b (16 * done)) at t)
 
 abbrev μ-loop : tie.MeasureT-loop
-μ-loop b at n t₀ done₀ t done = n - done
+μ-loop b first end at t₀ done₀ t done = end - done
 
 -- one turn: the whole way is what the step of this record gives, and then the way from the next one on
 turned :
     (c : tie.After-act Inv-loop μ-loop) (r : Reached) → c .act .result ≡ r →
-    let loop = c .before .before .before .before .loop in
-    let args = c .before .before .before .before .before .before .args in
+    let loop = c .before .before .before .loop in
+    let args = c .before .before .before .before .before .args in
     let b = args .b .now in
-    walkOf (decodeOf b) (args .at) (args .at)
-    ≡ andThen (reachedOf r) (walkOf (stepsAt (length b / 16 - (loop .done + 1)) b (16 * (loop .done + 1))) (args .at))
+    walkOf (stepsAt (args .end - args .first) b (16 * args .first)) (args .at) (args .from)
+    ≡ andThen (reachedOf r) (walkOf (stepsAt (args .end - (loop .done + 1)) b (16 * (loop .done + 1))) (args .at))
 turned c r e =
-    let loop = c .before .before .before .before .loop in
-    let args = c .before .before .before .before .before .before .args in
-    let b = args .b .now in
-    let next = steps-next (length b / 16) (loop .done) b (c .before .before .before .loop-test .taken) in
-    let step = rw (c .before .before .words-at .ensures) at (c .before .step-from .ensures) in
-    loop .inv .1 ∙ rw (next, ← step, ← (c .act .ensures .0), e)
+    let loop = c .before .before .before .loop in
+    let args = c .before .before .before .before .before .args in
+    let next = steps-next (args .end) (loop .done) (args .b .now) (c .before .before .loop-test .taken) in
+    loop .inv .1 ∙ rw (next, ← (c .before .step-at .ensures), ← (c .act .ensures .0), e)
 
 loop-holds : tie.Need-loop-holds Inv-loop μ-loop
-loop-holds c = (c .before .pre .1, rw (all-steps _ (c .before .pre .0), sub-zero))
+loop-holds c = (c .before .pre .1 .1, refl)
 
-mul-words-at : tie.Need-mul-words-at Inv-loop μ-loop
-mul-words-at c = search needs
-
-words-at-requires : tie.Need-words-at-requires Inv-loop μ-loop
-words-at-requires c κs = search needs
-
-step-from-requires : tie.Need-step-from-requires Inv-loop μ-loop
-step-from-requires c κs = search needs
+step-at-requires : tie.Need-step-at-requires Inv-loop μ-loop
+step-at-requires c κs = search needs
 
 act-requires : tie.Need-act-requires Inv-loop μ-loop
 act-requires c κs = search needs
@@ -85,9 +76,7 @@ walk-spec =
     Inv-loop
     μ-loop
     loop-holds
-    mul-words-at
-    words-at-requires
-    step-from-requires
+    step-at-requires
     act-requires
     enum-known-u
     enum-known-k

@@ -1,5 +1,4 @@
 -- `stamp::read::is_date_time` meets its contract. Assumes nothing.
-use mathlib.Core.Path.{_≡_}
 use borrow.Author.Needs.{needs}
 use Rattle.stamp.proofs.Grammar.{by-fraction}
 use Rattle.stamp.proofs.read.is_date_time.Statement.{statement}

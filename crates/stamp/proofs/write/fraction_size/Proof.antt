@@ -1,5 +1,4 @@
 -- `stamp::write::fraction_size` meets its contract. Assumes nothing.
-use borrow.Author.Needs.{needs}
 use borrow.Author.Tests.{eq-eqb, ne-eqb}
 use Rattle.stamp.proofs.write.fraction_size.Statement.{statement}
 use Rattle.stamp.proofs.write.fraction_size.Tie as tie

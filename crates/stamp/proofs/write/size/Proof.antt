@@ -1,8 +1,7 @@
 -- `stamp::write::size` meets its contract. Assumes nothing.
 use native.Mathlib.Omega.{arith}
 use mathlib.Core.Logic.{⊎-elim}
-use Prim.Native.Nat.{_≤_}
-use lib.ListN.{length, length-append}
+use lib.ListN.{length-append}
 use borrow.Author.Needs.{needs}
 use Rattle.stamp.specs.Stamps.{fractionText, offsetText}
 use Rattle.stamp.proofs.Fractions.{fraction-short}
