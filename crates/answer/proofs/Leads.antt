@@ -33,7 +33,7 @@ use Rattle.evaluation.specs.Steps.{unitStep, partStep, durationStep}
 use Rattle.evaluation.specs.Weekdays.{daysBack, inWeek, forwardTo, backTo}
 use Rattle.evaluation.specs.Dates.{statedDate, dateAt}
 use Rattle.evaluation.specs.Times.{statedTime, timeAt}
-use Rattle.evaluation.specs.Evaluate.{byYear, isYear, isWeek, isMonthAndDay, byUnit, dateExprAt, evaluate}
+use Rattle.evaluation.specs.Evaluate.{byYear, isYear, isWeek, isMonthAndDay, byUnit, dateExprAt, evaluateIn, evaluate}
 
 -- a moment with a property, or a refusal of 9 to 13
 pub data Leads (M : Moment → Type 0) : Outcome → Type 0 where
@@ -244,7 +244,7 @@ module _ {M : Moment → Type 0} {sub : Bool} (kept : Kept M sub) (n : Moment) (
   tree-leads :
       (x : DateTime) → (timeOf x ≡ NoTime → M n) → ((u : Moment) → IsMoment u → Leads M (timeAt (timeOf x) n u)) →
       (hasSubDaily x ≡ true → sub ≡ true) → Leads M (evaluate x n)
-  unfolding evaluate
+  unfolding evaluateIn
   tree-leads (dateTime e t) own timed s = behind (timeAt t n) (expr-leads e n v) timed
   tree-leads (timeDate t e) own timed s = behind (timeAt t n) (expr-leads e n v) timed
   tree-leads (durationAfter d x) own timed s =

@@ -6,7 +6,7 @@ use mathlib.Core.List.{List, [], _∷_, map}
 use Rattle.lexer.specs.Words.{Word}
 use Rattle.lexer.specs.declared.reading.Reading.{Reading}
 use Rattle.calendar.specs.Gregorian.{leapYear, monthLength}
-use Rattle.calendar.specs.Moments.{Outcome, moment, refused as unreached, isDate, isTime, isMoment, withDate}
+use Rattle.calendar.specs.Moments.{Reach, moment, refused as unreached, isDate, isTime, isMoment, withDate}
 use Rattle.calendar.specs.declared.moments.Moment.{Moment}
 use Rattle.dates.specs.declared.units.Unit.the-variants.{Month}
 use Rattle.dates.specs.declared.units.RelativeSpecifier.the-variants.{This}
@@ -16,13 +16,13 @@ use Rattle.phrase.specs.Tree.{dateTime, now}
 use Rattle.phrase.specs.Read.{TreeRead, ReadPhrase, reads, readOf}
 use Rattle.refusals.specs.Table.{NoNow}
 use Rattle.refusals.specs.Answers.{Answer, given, refused, refuse, andThen}
-use Rattle.evaluation.specs.Evaluate.{evaluate}
+use Rattle.evaluation.specs.Evaluate.{evaluateIn, evaluate}
 use Rattle.evaluation.specs.Cases.{A}
 use Rattle.answer.specs.declared.Answered.{Answered}
 use Rattle.answer.specs.declared.Answered.the-variants.{At, Refused}
 
 -- 8 to 13 have place 0 and an empty part
-abbrev pub placed : Outcome → Answer Moment
+abbrev pub placed : {A : Type 0} → Reach A → Answer A
 placed (moment t) = given t
 placed (unreached k) = refuse k 0 0
 
@@ -65,5 +65,5 @@ cases =
 
 -- each is answered as listed
 pub cases-as-listed : map (λ c. andThen (c .read) (readingAt (c .from))) cases ≡ map (λ c. c .answer) cases
-unfolding cases leapYear monthLength isDate isTime isMoment evaluate
+unfolding cases leapYear monthLength isDate isTime isMoment evaluateIn
 cases-as-listed = refl

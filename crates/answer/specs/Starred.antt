@@ -30,7 +30,7 @@ use Rattle.calendar.specs.Moments.{isDate, isTime, isMoment, momentOf, withDate
 use Rattle.calendar.specs.Moments.{onDay, minutesStep, monthsStep, yearsStep}
 use Rattle.calendar.specs.declared.moments.Moment.{Moment}
 use Rattle.evaluation.specs.Weekdays.{daysBack}
-use Rattle.evaluation.specs.Evaluate.{evaluate}
+use Rattle.evaluation.specs.Evaluate.{evaluateIn}
 use Rattle.refusals.specs.Answers.{Answer, given, refuse}
 use Rattle.answer.specs.Answer.{answerOf}
 use Rattle.evaluation.specs.Cases.{A, B}
@@ -119,5 +119,5 @@ unfolding starred both keywords wordsIn classOf markOf wordAt numberAt tokenAt l
     inTailOf durationTailOf tailOf withDurationOf relativeExprOf weekdayExprOf undatedOf dateExprOf timeBehindOf durationTurnOf
     timedTurnOf undatedTurnOf turnOf dateTimeStep dateTimeOf readOf leapYear monthLength daysBeforeMonth daysOfYears dayNumber yearsBefore
     yearOf dayOfYear monthOf monthOfDay dayOf isDate isTime isMoment onDay minutesStep monthsStep yearsStep
-    daysBack evaluate answerOf
+    daysBack evaluateIn answerOf
 starred-as-listed = (refl, refl)

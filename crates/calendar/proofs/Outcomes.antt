@@ -3,7 +3,7 @@ use mathlib.Core.Path.{_≡_, refl, ap, subst}
 use Prim.Native.Nat.{ℕ}
 use native.Mathlib.Omega.{arith}
 use Rattle.calendar.specs.Gregorian.{IsDate}
-use Rattle.calendar.specs.Moments.{IsTime, IsMoment, Outcome, moment, refused, reachedOf, Valid, andThen, withDate, withTime}
+use Rattle.calendar.specs.Moments.{IsTime, IsMoment, Reach, moment, refused, reachedOf, Valid, andThen, withDate, withTime}
 use Rattle.calendar.specs.declared.moments.Moment.{Moment}
 use Rattle.calendar.specs.declared.moments.Reached.{Reached}
 use Rattle.calendar.specs.declared.moments.Reached.the-variants.{At}
@@ -28,12 +28,17 @@ refused-valid k = record { valid = λ u e. let z : _≡_ {A = ℕ} 0 1 = cc in a
 pub at-moment : {r : Reached} {t : Moment} → Valid (reachedOf r) → r ≡ At t → IsMoment t
 at-moment v e = v .valid _ (ap reachedOf e)
 
--- what follows is the same where it is the same from every moment
-pub then-same : (o : Outcome) (f g : Moment → Outcome) → ((t : Moment) → f t ≡ g t) → andThen o f ≡ andThen o g
-then-same (moment t) f g e = e t
+-- what follows is the same where it is the same from what was reached
+pub then-same : {A B : Type 0} (o : Reach A) (f g : A → Reach B) → ((x : A) → o ≡ moment x → f x ≡ g x) → andThen o f ≡ andThen o g
+then-same (moment x) f g e = e x refl
 then-same (refused k) f g e = refl
 
 -- staying where it led changes nothing
-pub then-moment : (o : Outcome) → andThen o moment ≡ o
-then-moment (moment t) = refl
+pub then-moment : {A : Type 0} (o : Reach A) → andThen o moment ≡ o
+then-moment (moment x) = refl
 then-moment (refused k) = refl
+
+-- of three steps the last two may be taken together
+pub then-assoc : {A B C : Type 0} (o : Reach A) (f : A → Reach B) (g : B → Reach C) → andThen (andThen o f) g ≡ andThen o (λ x. andThen (f x) g)
+then-assoc (moment x) f g = refl
+then-assoc (refused k) f g = refl

@@ -15,6 +15,7 @@ ghost use Rattle.calendar.specs.Gregorian.{days, weekday};
 ghost use Rattle.calendar.specs.Moments.{IsMoment, inRange, isDayOfMonth, isDate, isTime, isMoment, firstMoment, lastMoment};
 ghost use Rattle.calendar.specs.Moments.{withDate, withTime, withMinute, reachedOf, Valid, dayOfMoment, atDay, onDay};
 ghost use Rattle.calendar.specs.Moments.{movedWithin, minuteNumber, minutes, atMinute, minutesStep};
+ghost use Rattle.calendar.specs.Moments.{secondNumber, seconds, momentAt};
 ghost use Rattle.calendar.specs.Moments.{monthNumber, months, inMonth, monthsStep, years, inYear, yearsStep};
 
 // A date and a time of day.
@@ -251,6 +252,24 @@ impl Moment {
             return Reached::At(self.at_minute(n));
         }
         Reached::Refused(OUTSIDE)
+    }
+
+    // The whole seconds from the first moment on.
+    pub fn second_number(self) -> u64
+        requires { ⌜ IsMoment self ⌝ }
+        ensures { λ r. ⌜ (r ≡ secondNumber self) × (r < seconds) ⌝ }
+    {
+        60 * self.minute_number() + (self.second as u64)
+    }
+
+    // Second n of the calendar, with a millisecond.
+    pub fn at_second(n: u64, millisecond: u32) -> Moment
+        requires { ⌜ n < seconds ⌝ }
+        ensures { λ r. ⌜ r ≡ momentAt n millisecond ⌝ }
+    {
+        Self::FIRST
+            .with_time(0, 0, (n % 60) as u32, millisecond)
+            .at_minute(n / 60)
     }
 
     // The whole months from the first moment on.

@@ -15,7 +15,7 @@ use Rattle.phrase.specs.Chains.{rowDuration, baseOf, linksFrom, treeOf, blankLi
 use Rattle.phrase.specs.declared.chain.Link.{Link}
 use Rattle.phrase.specs.declared.chain.Chain.{Chain}
 use Rattle.evaluation.specs.Steps.{durationStep}
-use Rattle.evaluation.specs.Evaluate.{evaluate}
+use Rattle.evaluation.specs.Evaluate.{evaluateIn, evaluate}
 
 -- link i, and its duration
 abbrev pub linkAt : Chain → ℕ → Link
@@ -66,7 +66,7 @@ stepped back d o = andThen o (durationStep back d)
 
 -- a duration around a tree is a step from where the tree leads
 pub around-step : (n : Moment) (back : Bool) (d : Duration) (x : DateTime) → evaluate (around back d x) n ≡ stepped back d (evaluate x n)
-unfolding evaluate
+unfolding evaluateIn
 around-step n true d x = refl
 around-step n false d x = refl
 

@@ -5,7 +5,7 @@ use mathlib.Core.Bool.{Bool, true, false, cond, _&&_}
 use mathlib.Core.List.{List, [], _∷_, map}
 use Rattle.calendar.specs.Gregorian.{leapYear, monthLength, daysBeforeMonth, daysOfYears, dayNumber}
 use Rattle.calendar.specs.Gregorian.{yearsBefore, yearOf, dayOfYear, monthOf, monthOfDay, dayOf}
-use Rattle.calendar.specs.Moments.{Outcome, moment, refused, andThen, isDate, isTime, momentOf, lastMoment, withDate}
+use Rattle.calendar.specs.Moments.{Reach, moment, refused, andThen, Outcome, isDate, isTime, momentOf, lastMoment, withDate}
 use Rattle.calendar.specs.Moments.{onDay, minutesStep, monthsStep, yearsStep}
 use Rattle.calendar.specs.declared.moments.Moment.{Moment}
 use Rattle.dates.specs.Durations.{part, isSubDailyUnit}
@@ -22,7 +22,8 @@ use Rattle.expressions.specs.Tree.{DateExpr, date, dateRelative, dateExpression
 use Rattle.expressions.specs.Tree.{relativeWeekday, weekdayRelative, weekdayExpressionBefore, weekdayExpressionAfter, before, after, weekday, empty}
 use Rattle.phrase.specs.Tree.{DateTime, dateTime, timeDate, durationAfter, durationBefore, now}
 use Rattle.refusals.specs.Table as refusal
-use Rattle.evaluation.specs.Steps.{unitStep, durationStep}
+use Rattle.evaluation.specs.Worlds.{World, offset}
+use Rattle.evaluation.specs.Steps.{unitStep, durationStep, durationIn}
 use Rattle.evaluation.specs.Weekdays.{daysBack, inWeek, forwardTo, backTo}
 use Rattle.evaluation.specs.Dates.{dateAt}
 use Rattle.evaluation.specs.Times.{timeAt}
@@ -99,13 +100,19 @@ dateExprAt (weekdayRelative w s u) t = weekdayRelativeAt w s u t
 dateExprAt (weekday w) t = forwardTo (w % 7) t
 dateExprAt empty t = moment t
 
--- `DateTime::to_chrono`: "date, time of day, then outer durations, innermost first"
-unfoldable pub evaluate : DateTime → Moment → Outcome
-evaluate now n = moment n
-evaluate (dateTime e t) n = andThen (dateExprAt e n) (timeAt t n)
-evaluate (timeDate t e) n = andThen (dateExprAt e n) (timeAt t n)
-evaluate (durationAfter dur x) n = andThen (evaluate x n) (durationStep false dur)
-evaluate (durationBefore dur x) n = andThen (evaluate x n) (durationStep true dur)
+-- `DateTime::to_chrono` in a world, at its now n: "date, time of day, then outer durations, innermost first"; "Steps ahead of a time-of-day
+-- step act on civil date and time alone"
+module _ {S : Type 0} (w : World S) where
+  unfoldable pub evaluateIn : DateTime → S → Reach S
+  evaluateIn now n = moment n
+  evaluateIn (dateTime e t) n = w .settle (andThen (dateExprAt e (w .civil n)) (timeAt t (w .civil n)))
+  evaluateIn (timeDate t e) n = w .settle (andThen (dateExprAt e (w .civil n)) (timeAt t (w .civil n)))
+  evaluateIn (durationAfter dur x) n = andThen (evaluateIn x n) (durationIn w false dur)
+  evaluateIn (durationBefore dur x) n = andThen (evaluateIn x n) (durationIn w true dur)
+
+-- at a fixed offset
+abbrev pub evaluate : DateTime → Moment → Outcome
+evaluate = evaluateIn offset
 
 -- a date expression at A, with no time of day
 abbrev dated : DateExpr → Outcome → Case
@@ -145,6 +152,6 @@ trees =
 
 -- each tree evaluates as listed
 pub trees-as-listed : map (λ c. c .rule (c .from)) trees ≡ map (λ c. c .answer) trees
-unfolding trees evaluate leapYear monthLength daysBeforeMonth daysOfYears dayNumber yearsBefore yearOf dayOfYear monthOf monthOfDay dayOf
+unfolding trees evaluateIn leapYear monthLength daysBeforeMonth daysOfYears dayNumber yearsBefore yearOf dayOfYear monthOf monthOfDay dayOf
     isDate isTime onDay minutesStep monthsStep yearsStep daysBack
 trees-as-listed = refl

@@ -1,3 +1,4 @@
+pub mod Worlds
 pub mod Steps
 pub mod Weekdays
 pub mod Dates

@@ -8,6 +8,7 @@ use Rattle.calendar.proofs.Valid.{test-moment}
 use Rattle.answer.specs.Answer.{placed}
 use Rattle.steps.specs.Running.{walkOf, isList, runOf}
 use Rattle.steps.specs.declared.plan.Step.{Step}
+use Rattle.steps.proofs.Offsets.{run-walks}
 use Rattle.ready.proofs.Settles.{act-leads}
 use Rattle.later.specs.Nows.{SameTime, NeverBack}
 use Rattle.later.proofs.InOrder.{InOrder, in-order, not-after}
@@ -24,13 +25,13 @@ module _ {n k : Moment} (now : IsMoment n) (later : IsMoment k) (same : SameTime
 
 -- a list that is run, of whatever form
 run-kept : (ss : List Step) {n k : Moment} → InOrder n k → Kept (runOf ss n) (runOf ss k)
-unfolding runOf
 run-kept ss {n} {k} a =
-    tested (isMoment n) (isMoment k) _ _ _
+    rw (run-walks ss n, run-walks ss k)
+    (tested (isMoment n) (isMoment k) _ _ _
     (λ e f.
     let v = test-moment n e in
     let w = test-moment k f in
-    tested (isList ss) (isList ss) _ _ _ (λ _ _. walk-kept v w (a .time) ss v w a))
+    tested (isList ss) (isList ss) _ _ _ (λ _ _. walk-kept v w (a .time) ss v w a)))
 
 -- what is given is a moment
 given-moment : (o : Outcome) {t : Moment} → placed o ≡ given t → o ≡ moment t

@@ -27,7 +27,7 @@ use Rattle.phrase.specs.Read.{readOf}
 use Rattle.calendar.specs.Gregorian.{leapYear, monthLength, daysBeforeMonth, daysOfYears, dayNumber}
 use Rattle.calendar.specs.Moments.{isDate, isTime, isMoment, momentOf, withDate, instantOf, monthsStep}
 use Rattle.calendar.specs.declared.moments.Moment.{Moment}
-use Rattle.evaluation.specs.Evaluate.{evaluate}
+use Rattle.evaluation.specs.Evaluate.{evaluateIn}
 use Rattle.answer.specs.Answer.{answerOf}
 
 abbrev late : Moment
@@ -51,7 +51,7 @@ unfolding keywords wordsIn classOf wordAt tokenAt lexed turns again get isAt wit
     relativeSpecifierOf specificOf articleOf concreteOf durationTurn durationOf namedDayOf dayMonthYearOf monthDayOf isDelim
     threeNumbersOf twoNumbersOf behindSecondOf delimitedOf dateOf minuteOf halfOf clockOf timeOf inTailOf durationTailOf tailOf
     withDurationOf relativeExprOf weekdayExprOf undatedOf dateExprOf timeBehindOf durationTurnOf timedTurnOf undatedTurnOf turnOf
-    dateTimeStep dateTimeOf readOf leapYear monthLength daysBeforeMonth daysOfYears dayNumber isDate isTime isMoment monthsStep evaluate
+    dateTimeStep dateTimeOf readOf leapYear monthLength daysBeforeMonth daysOfYears dayNumber isDate isTime isMoment monthsStep evaluateIn
     answerOf
 crossing First = (lit< tt, refl, refl, lit< tt)
 crossing Second = (lit< tt, refl, refl, lit< tt)

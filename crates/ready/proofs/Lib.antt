@@ -1,6 +1,7 @@
-pub mod Runs
 pub mod Forms
 pub mod Made
+pub mod Worlds
+pub mod Runs
 pub mod Small
 pub mod ReadyPhrases
 pub mod Settles

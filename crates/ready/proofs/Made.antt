@@ -42,7 +42,7 @@ record Kept (F : List Step → Type 0) (k : ℕ) (p : Plan) (ss : List Step) : T
   holds : k ≤ 24 → p ≡ planOf ss
 
 -- the form that running asks for
-abbrev Formed : List Step → Type 0
+abbrev pub Formed : List Step → Type 0
 Formed ss = isFormed ss ≡ true
 
 held-add : (p : Plan) (ss : List Step) (s : Step) → p ≡ planOf ss → 0 < length ss → length ss < 24 → addTo p s ≡ planOf (addStep ss s)
@@ -74,7 +74,7 @@ unfolding planOf
 single s form = record { some = omega arith; most = omega arith; apart = refl; form = form; holds = λ few. refl }
 
 -- a move is neither a start nor a time step
-move-plain : (m : Move) → Plain (By m)
+pub move-plain : (m : Move) → Plain (By m)
 move-plain m = record { no-start = refl; no-time = refl }
 
 -- a duration more, for a form that plain steps keep
@@ -145,6 +145,9 @@ expr-kept (relativeWeekday s w) = wider (start-open (InWeek s w) refl) (omega ar
 expr-kept (weekdayRelative w s u) = by-test (isWeek u) _ _ _ _ (wider (start-open (InWeek s w) refl) (omega arith)) none-open
 expr-kept (weekday w) = wider (start-open (FromToday w) refl) (omega arith)
 expr-kept empty = wider (start-open (OnDate Today) refl) (omega arith)
+
+pub expr-open : (e : DateExpr) → Open (exprSteps listed e)
+expr-open e = expr-kept e .form
 
 -- with its time of day
 dated-kept : (e : DateExpr) (t : Time) → Kept Formed (3 + sizeExpr e) (addTo (exprSteps held e) (AtTime t)) (addStep (exprSteps listed e) (AtTime t))

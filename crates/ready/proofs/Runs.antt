@@ -1,9 +1,9 @@
--- The steps of a reading lead where `evaluate` leads, from every now.
+-- Demand 3, said once: in every lawful world, the steps of a reading lead where the reading leads, from every now that is good.
 use Prim.Native.Nat.{ℕ}
 use mathlib.Core.Path.{_≡_, refl, ap, _∙_}
 use mathlib.Core.Bool.{Bool, true, false, cond, _&&_}
 use mathlib.Core.List.{List, [], _∷_}
-use Rattle.calendar.specs.Moments.{Outcome, andThen, yearsStep}
+use Rattle.calendar.specs.Moments.{Reach, andThen, Outcome, yearsStep}
 use Rattle.calendar.specs.declared.moments.Moment.{Moment}
 use Rattle.dates.specs.Durations.{Duration, part, concat, isSubDailyUnit}
 use Rattle.dates.specs.declared.date.Date.{Date}
@@ -18,120 +18,136 @@ use Rattle.dates.specs.declared.units.Unit.the-variants.{Day, Week, Hour, Minut
 use Rattle.expressions.specs.Tree.{DateExpr, date, dateRelative, dateExpressionAfter, dateExpressionBefore, unitRelative}
 use Rattle.expressions.specs.Tree.{relativeWeekday, weekdayRelative, weekdayExpressionBefore, weekdayExpressionAfter, before, after, weekday, empty}
 use Rattle.phrase.specs.Tree.{DateTime, dateTime, timeDate, durationAfter, durationBefore, now}
-use Rattle.evaluation.specs.Steps.{unitStep, partStep, durationStep}
+use Rattle.evaluation.specs.Worlds.{World, offset, Lawful}
+use Rattle.evaluation.specs.Steps.{unitIn, partIn, durationIn, unitStep, durationStep}
 use Rattle.evaluation.specs.Dates.{dateAt}
 use Rattle.evaluation.specs.Times.{timeAt}
-use Rattle.evaluation.specs.Evaluate.{isYear, isWeek, isMonthAndDay, byYear, byUnit, dateExprAt, evaluate}
-use Rattle.calendar.proofs.Outcomes.{then-same, then-moment}
+use Rattle.evaluation.specs.Evaluate.{isYear, isWeek, isMonthAndDay, byYear, byUnit, dateExprAt, evaluateIn}
+use Rattle.calendar.proofs.Outcomes.{then-same, then-moment, then-assoc}
 use Rattle.steps.specs.Joining.{addStep}
-use Rattle.steps.specs.Running.{startAt, moveBy, actOf, walkOf}
+use Rattle.steps.specs.Running.{startAt, moveBy, walkOf, moveIn, isFormed, leadIn}
 use Rattle.steps.specs.declared.plan.Start.{Start}
 use Rattle.steps.specs.declared.plan.Start.the-variants.{Senseless, OnDate, InWeek}
 use Rattle.steps.specs.declared.plan.Move.{Move}
 use Rattle.steps.specs.declared.plan.Move.the-variants.{Years, BackTo, ForwardTo}
 use Rattle.steps.specs.declared.plan.Step.{Step}
 use Rattle.steps.specs.declared.plan.Step.the-variants.{From, By, AtTime}
-use Rattle.steps.proofs.Joined.{then-assoc, walk-add}
+use Rattle.steps.proofs.Joined.{walk-add}
+use Rattle.steps.proofs.Offsets.{Any, offset-lawful}
 use Rattle.ready.specs.Made.{lengthMove, moveOfPart, addDuration, addYear, addUnit, weekdaySteps, exprSteps, treeSteps, listed, stepsOf}
+use Rattle.ready.proofs.Forms.{formed-add}
+use Rattle.ready.proofs.Made.{Formed, move-plain, expr-open, made-formed}
+use Rattle.ready.proofs.Worlds.{lead-time, lead-move}
 
 -- a unit's move does what the unit's length does
-length-moves : (back : Bool) (k : ℕ) (u : Unit) (t : Moment) → moveBy (lengthMove back k u) t ≡ unitStep back k u t
-length-moves back k Day t = refl
-length-moves back k Week t = refl
-length-moves back k Hour t = refl
-length-moves back k Minute t = refl
-length-moves back k Month t = refl
-length-moves back k Year t = refl
+length-moves : {S : Type 0} (w : World S) (back : Bool) (k : ℕ) (u : Unit) (x : S) → moveIn w (lengthMove back k u) x ≡ unitIn w back k u x
+length-moves w back k Day x = refl
+length-moves w back k Week x = refl
+length-moves w back k Hour x = refl
+length-moves w back k Minute x = refl
+length-moves w back k Month x = refl
+length-moves w back k Year x = refl
 
-part-moves : (back : Bool) (p : Part) (t : Moment) → moveBy (moveOfPart back p) t ≡ partStep back p t
-part-moves back (Article u) t = length-moves back 1 u t
-part-moves back (Specific u k) t = length-moves back k u t
+part-moves : {S : Type 0} (w : World S) (back : Bool) (p : Part) (x : S) → moveIn w (moveOfPart back p) x ≡ partIn w back p x
+part-moves w back (Article u) x = length-moves w back 1 u x
+part-moves w back (Specific u k) x = length-moves w back k u x
 
--- one step more is one step from where the list leads
-then-step :
-    (ss : List Step) (s : Step) (n : Moment) (f : Moment → Outcome) → ((t : Moment) → actOf s n t ≡ f t) →
-    walkOf (addStep ss s) n n ≡ andThen (walkOf ss n n) f
-then-step ss s n f e = walk-add ss s n n ∙ then-same (walkOf ss n n) (actOf s n) f e
+-- wherever one move more is a move from where the list leads, for lists of a form that moves keep
+module _ {S : Type 0} (w : World S) (Form : List Step → Type 0) (led : List Step → Reach S)
+    (keeps : (ss : List Step) (m : Move) → Form ss → Form (addStep ss (By m)))
+    (led-move : (ss : List Step) (m : Move) → Form ss → led (addStep ss (By m)) ≡ andThen (led ss) (moveIn w m)) where
+  -- a part
+  then-part : (back : Bool) (ss : List Step) (p : Part) → Form ss → led (addStep ss (By (moveOfPart back p))) ≡ andThen (led ss) (partIn w back p)
+  then-part back ss p h =
+      led-move ss (moveOfPart back p) h ∙ then-same (led ss) (moveIn w (moveOfPart back p)) (partIn w back p) (λ x _. part-moves w back p x)
 
--- a duration's steps are the duration from where the list leads
-then-duration :
-    (back : Bool) (ss : List Step) (d : Duration) (n : Moment) →
-    walkOf (addDuration listed back ss d) n n ≡ andThen (walkOf ss n n) (durationStep back d)
-then-duration back ss (part p) n = then-step ss (By (moveOfPart back p)) n (partStep back p) (part-moves back p)
-then-duration back ss (concat p d) n =
-    then-duration back (addStep ss (By (moveOfPart back p))) d n
-    ∙ ap (λ (o : Outcome). andThen o (durationStep back d)) (then-step ss (By (moveOfPart back p)) n (partStep back p) (part-moves back p))
-    ∙ then-assoc (walkOf ss n n) (partStep back p) (durationStep back d)
+  -- and so a duration's steps are the duration from there
+  then-duration :
+      (back : Bool) (ss : List Step) (d : Duration) → Form ss → led (addDuration listed back ss d) ≡ andThen (led ss) (durationIn w back d)
+  then-duration back ss (part p) h = then-part back ss p h
+  then-duration back ss (concat p d) h =
+      then-duration back (addStep ss (By (moveOfPart back p))) d (keeps ss (moveOfPart back p) h)
+      ∙ ap (λ (o : Reach S). andThen o (durationIn w back d)) (then-part back ss p h)
+      ∙ then-assoc (led ss) (partIn w back p) (durationIn w back d)
 
--- a start, and a duration from it
-started :
-    (back : Bool) (s : Start) (d : Duration) (n : Moment) →
-    walkOf (addDuration listed back (From s ∷ []) d) n n ≡ andThen (startAt s n) (durationStep back d)
-started back s d n =
-    then-duration back (From s ∷ []) d n ∙ ap (λ (o : Outcome). andThen o (durationStep back d)) (then-moment (startAt s n))
+-- On civil date and time alone, from t: where a list leads, whatever its form.
+module _ (t : Moment) where
+  abbrev led : List Step → Outcome
+  led ss = walkOf ss t t
 
--- a date, and a year from it
-year-from : (back : Bool) (d : Date) (n : Moment) → walkOf (addStep (From (OnDate d) ∷ []) (By (Years back 1))) n n ≡ andThen (dateAt d n) (yearsStep back 1)
-year-from back d n =
-    then-step (From (OnDate d) ∷ []) (By (Years back 1)) n (yearsStep back 1) (λ t. refl)
-    ∙ ap (λ (o : Outcome). andThen o (yearsStep back 1)) (then-moment (dateAt d n))
+  led-move : (ss : List Step) (m : Move) → led (addStep ss (By m)) ≡ andThen (led ss) (moveBy m)
+  led-move ss m = walk-add offset Any offset-lawful ss (By m) t t tt
 
-by-year : (s : RelativeSpecifier) (d : Date) (n : Moment) → walkOf (addYear listed s (From (OnDate d) ∷ [])) n n ≡ andThen (dateAt d n) (byYear s)
-by-year This d n = refl
-by-year Next d n = year-from false d n
-by-year Last d n = year-from true d n
+  -- a start, and a duration from it
+  started : (back : Bool) (s : Start) (d : Duration) → led (addDuration listed back (From s ∷ []) d) ≡ andThen (startAt s t) (durationStep back d)
+  started back s d =
+      then-duration offset (λ ss. Any t) led (λ ss m h. tt) (λ ss m h. led-move ss m) back (From s ∷ []) d tt
+      ∙ ap (λ (o : Outcome). andThen o (durationStep back d)) (then-moment (startAt s t))
 
--- one unit from today
-unit-from : (back : Bool) (u : Unit) (n : Moment) → walkOf (addStep (From (OnDate Today) ∷ []) (By (lengthMove back 1 u))) n n ≡ unitStep back 1 u n
-unit-from back u n = then-step (From (OnDate Today) ∷ []) (By (lengthMove back 1 u)) n (unitStep back 1 u) (length-moves back 1 u)
+  -- a date, and a year from it
+  year-from : (back : Bool) (d : Date) → led (addStep (From (OnDate d) ∷ []) (By (Years back 1))) ≡ andThen (dateAt d t) (yearsStep back 1)
+  year-from back d =
+      led-move (From (OnDate d) ∷ []) (Years back 1) ∙ ap (λ (o : Outcome). andThen o (yearsStep back 1)) (then-moment (dateAt d t))
 
-by-unit : (s : RelativeSpecifier) (u : Unit) (n : Moment) → walkOf (addUnit listed s u) n n ≡ byUnit s u n
-by-unit This u n = refl
-by-unit Next u n = unit-from false u n
-by-unit Last u n = unit-from true u n
+  by-year : (s : RelativeSpecifier) (d : Date) → led (addYear listed s (From (OnDate d) ∷ [])) ≡ andThen (dateAt d t) (byYear s)
+  by-year This d = refl
+  by-year Next d = year-from false d
+  by-year Last d = year-from true d
 
--- of two lists by a test, each leads where it is to
-by-test :
-    (b : Bool) (xs ys : List Step) (n : Moment) {o p : Outcome} → walkOf xs n n ≡ o → walkOf ys n n ≡ p →
-    walkOf (cond b xs ys) n n ≡ cond b o p
-by-test true xs ys n e f = e
-by-test false xs ys n e f = f
+  -- one unit from today
+  unit-from : (back : Bool) (u : Unit) → led (addStep (From (OnDate Today) ∷ []) (By (lengthMove back 1 u))) ≡ unitStep back 1 u t
+  unit-from back u = led-move (From (OnDate Today) ∷ []) (lengthMove back 1 u) ∙ length-moves offset back 1 u t
 
--- today, a duration from it, and the step to a weekday
-to-weekday : (back : Bool) (dur : Duration) (to : Move) (n : Moment) →
-    walkOf (weekdaySteps listed back dur to) n n ≡ andThen (durationStep back dur n) (moveBy to)
-to-weekday back dur to n =
-    walk-add (addDuration listed back (From (OnDate Today) ∷ []) dur) (By to) n n
-    ∙ ap (λ (o : Outcome). andThen o (moveBy to)) (started back (OnDate Today) dur n)
+  by-unit : (s : RelativeSpecifier) (u : Unit) → led (addUnit listed s u) ≡ byUnit s u t
+  by-unit This u = refl
+  by-unit Next u = unit-from false u
+  by-unit Last u = unit-from true u
 
--- the steps of a date expression
-pub expr-runs : (e : DateExpr) (n : Moment) → walkOf (exprSteps listed e) n n ≡ dateExprAt e n
-unfolding exprSteps
-expr-runs (date d) n = then-moment (dateAt d n)
-expr-runs (dateRelative d s u) n = by-test (isYear u && isMonthAndDay d) (addYear listed s (From (OnDate d) ∷ [])) (From Senseless ∷ []) n (by-year s d n) refl
-expr-runs (weekdayExpressionBefore w dur) n = to-weekday true dur (BackTo w) n
-expr-runs (weekdayExpressionAfter w dur) n = to-weekday false dur (ForwardTo w) n
-expr-runs (dateExpressionAfter d dur) n = started false (OnDate d) dur n
-expr-runs (dateExpressionBefore d dur) n = started true (OnDate d) dur n
-expr-runs (before dur d) n = started true (OnDate d) dur n
-expr-runs (after dur d) n = started false (OnDate d) dur n
-expr-runs (unitRelative s u) n = by-test (isSubDailyUnit u) (From Senseless ∷ []) (addUnit listed s u) n refl (by-unit s u n)
-expr-runs (relativeWeekday s w) n = then-moment _
-expr-runs (weekdayRelative w s u) n = by-test (isWeek u) (From (InWeek s w) ∷ []) (From Senseless ∷ []) n (then-moment _) refl
-expr-runs (weekday w) n = then-moment _
-expr-runs empty n = refl
+  -- of two lists by a test, each leads where it is to
+  by-test : (b : Bool) (xs ys : List Step) {o p : Outcome} → led xs ≡ o → led ys ≡ p → led (cond b xs ys) ≡ cond b o p
+  by-test true xs ys e f = e
+  by-test false xs ys e f = f
 
--- a date expression and a time of day
-dated : (e : DateExpr) (t : Time) (n : Moment) → walkOf (addStep (exprSteps listed e) (AtTime t)) n n ≡ andThen (dateExprAt e n) (timeAt t n)
-dated e t n = walk-add (exprSteps listed e) (AtTime t) n n ∙ ap (λ (o : Outcome). andThen o (timeAt t n)) (expr-runs e n)
+  -- today, a duration from it, and the step to a weekday
+  to-weekday : (back : Bool) (dur : Duration) (to : Move) → led (weekdaySteps listed back dur to) ≡ andThen (durationStep back dur t) (moveBy to)
+  to-weekday back dur to =
+      led-move (addDuration listed back (From (OnDate Today) ∷ []) dur) to
+      ∙ ap (λ (o : Outcome). andThen o (moveBy to)) (started back (OnDate Today) dur)
 
--- the steps of a whole phrase
-pub tree-runs : (x : DateTime) (n : Moment) → walkOf (stepsOf x) n n ≡ evaluate x n
-unfolding treeSteps evaluate
-tree-runs now n = refl
-tree-runs (dateTime e t) n = dated e t n
-tree-runs (timeDate t e) n = dated e t n
-tree-runs (durationAfter dur x) n =
-    then-duration false (stepsOf x) dur n ∙ ap (λ (o : Outcome). andThen o (durationStep false dur)) (tree-runs x n)
-tree-runs (durationBefore dur x) n =
-    then-duration true (stepsOf x) dur n ∙ ap (λ (o : Outcome). andThen o (durationStep true dur)) (tree-runs x n)
+  -- the steps of a date expression
+  expr-runs : (e : DateExpr) → led (exprSteps listed e) ≡ dateExprAt e t
+  unfolding exprSteps
+  expr-runs (date d) = then-moment (dateAt d t)
+  expr-runs (dateRelative d s u) = by-test (isYear u && isMonthAndDay d) (addYear listed s (From (OnDate d) ∷ [])) (From Senseless ∷ []) (by-year s d) refl
+  expr-runs (weekdayExpressionBefore w dur) = to-weekday true dur (BackTo w)
+  expr-runs (weekdayExpressionAfter w dur) = to-weekday false dur (ForwardTo w)
+  expr-runs (dateExpressionAfter d dur) = started false (OnDate d) dur
+  expr-runs (dateExpressionBefore d dur) = started true (OnDate d) dur
+  expr-runs (before dur d) = started true (OnDate d) dur
+  expr-runs (after dur d) = started false (OnDate d) dur
+  expr-runs (unitRelative s u) = by-test (isSubDailyUnit u) (From Senseless ∷ []) (addUnit listed s u) refl (by-unit s u)
+  expr-runs (relativeWeekday s w) = then-moment _
+  expr-runs (weekdayRelative w s u) = by-test (isWeek u) (From (InWeek s w) ∷ []) (From Senseless ∷ []) (then-moment _) refl
+  expr-runs (weekday w) = then-moment _
+  expr-runs empty = refl
+
+module _ {S : Type 0} (w : World S) (Good : S → Type 0) (lawful : Lawful w Good) (n : S) (good : Good n) where
+  -- a date expression and a time of day
+  dated : (e : DateExpr) (t : Time) → leadIn w (addStep (exprSteps listed e) (AtTime t)) n ≡ w .settle (andThen (dateExprAt e (w .civil n)) (timeAt t (w .civil n)))
+  dated e t =
+      lead-time w Good lawful n (expr-open e) t ∙ ap (λ (o : Outcome). w .settle (andThen o (timeAt t (w .civil n)))) (expr-runs (w .civil n) e)
+
+  -- a duration behind what has its form
+  around : (back : Bool) (x : DateTime) (d : Duration) → leadIn w (addDuration listed back (stepsOf x) d) n ≡ andThen (leadIn w (stepsOf x) n) (durationIn w back d)
+  around back x d =
+      then-duration w Formed (λ ss. leadIn w ss n) (λ ss m h. formed-add ss (By m) (move-plain m) h) (lead-move w Good lawful n good)
+      back (stepsOf x) d (made-formed x)
+
+  -- the steps of a whole phrase
+  pub tree-runs : (x : DateTime) → leadIn w (stepsOf x) n ≡ evaluateIn w x n
+  unfolding treeSteps evaluateIn
+  tree-runs now = refl
+  tree-runs (dateTime e t) = dated e t
+  tree-runs (timeDate t e) = dated e t
+  tree-runs (durationAfter dur x) = around false x dur ∙ ap (λ (o : Reach S). andThen o (durationIn w false dur)) (tree-runs x)
+  tree-runs (durationBefore dur x) = around true x dur ∙ ap (λ (o : Reach S). andThen o (durationIn w true dur)) (tree-runs x)

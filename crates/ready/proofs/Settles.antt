@@ -3,12 +3,12 @@ use Prim.Native.Nat.{_%_}
 use native.Mathlib.Omega.{arith}
 use mathlib.Core.Path.{_≡_, refl}
 use mathlib.Core.Logic.{inl}
-use mathlib.Core.Bool.{Bool, true, false}
+use mathlib.Core.Bool.{Bool, true, false, cond}
 use mathlib.Core.List.{List, [], _∷_}
-use Rattle.calendar.specs.Moments.{IsMoment, isMoment}
+use Rattle.calendar.specs.Moments.{IsMoment, refused, isMoment}
 use Rattle.calendar.specs.declared.moments.Moment.{Moment}
 use Rattle.calendar.proofs.Valid.{test-moment}
-use Rattle.refusals.specs.Table.{NoNow}
+use Rattle.refusals.specs.Table.{NoNow, NoSense}
 use Rattle.refusals.specs.Answers.{refusalAt}
 use Rattle.refusals.proofs.Holds.{Holds, of-refusal, Bounded}
 use Rattle.answer.specs.Answer.{placed}
@@ -16,6 +16,7 @@ use Rattle.answer.proofs.PhraseAtNow.{placed-holds, lowered}
 use Rattle.answer.proofs.Leads.{Leads, leads, refuses, behind, minutes-lead, months-lead, years-lead, kept-moment}
 use Rattle.answer.proofs.Leads.{date-leads, on-day-leads, days-back-lead, week-leads, time-leads}
 use Rattle.steps.specs.Running.{startAt, moveBy, actOf, walkOf, isList, runOf}
+use Rattle.steps.proofs.Offsets.{run-walks}
 use Rattle.steps.specs.declared.plan.Start.{Start}
 use Rattle.steps.specs.declared.plan.Start.the-variants.{Now, Senseless, OnDate, InWeek, FromToday}
 use Rattle.steps.specs.declared.plan.Move.{Move}
@@ -47,10 +48,9 @@ walk-leads [] n t w v = leads v
 walk-leads (s ∷ ss) n t w v = behind (walkOf ss n) (act-leads s n t w v) (λ u h. walk-leads ss n u w h)
 
 pub run-settled : (ss : List Step) (n : Moment) → Holds IsMoment (Bounded 8 13 0) (placed (runOf ss n))
-unfolding runOf
-run-settled ss n = go (isMoment n) (isList ss) refl refl
+run-settled ss n = rw (run-walks ss n) (go (isMoment n) (isList ss) refl)
   where
-    go : (b c : Bool) → isMoment n ≡ b → isList ss ≡ c → Holds IsMoment (Bounded 8 13 0) (placed (runOf ss n))
-    go true true e f = rw (e, f) (lowered (omega arith) (placed-holds (walk-leads ss n n (test-moment n e) (test-moment n e))))
-    go true false e f = rw (e, f) (of-refusal {r = refusalAt 9 0 0} (omega arith))
-    go false c e f = rw e (of-refusal {r = refusalAt NoNow 0 0} (omega arith))
+    go : (b c : Bool) → isMoment n ≡ b → Holds IsMoment (Bounded 8 13 0) (placed (cond b (cond c (walkOf ss n n) (refused NoSense)) (refused NoNow)))
+    go true true e = lowered (omega arith) (placed-holds (walk-leads ss n n (test-moment n e) (test-moment n e)))
+    go true false e = of-refusal {r = refusalAt NoSense 0 0} (omega arith)
+    go false c e = of-refusal {r = refusalAt NoNow 0 0} (omega arith)

@@ -80,3 +80,15 @@ NoStart = 19
 -- "20 exactly if no occurrence in years 1 to 9999 is at or after the moment"
 abbrev pub NoNext : ℕ
 NoNext = 20
+
+-- "21 for the file"
+abbrev pub NoZone : ℕ
+NoZone = 21
+
+-- "22 for a moment at or past the last transition"
+abbrev pub PastLast : ℕ
+PastLast = 22
+
+-- "23 for a time that doesn't occur"
+abbrev pub NoInstant : ℕ
+NoInstant = 23

@@ -79,3 +79,12 @@ pub const NO_START: u8 = 19;
 
 // No occurrence in years 1 to 9999 is at or after the moment.
 pub const NO_NEXT: u8 = 20;
+
+// The file is no zone: no TZif file of version 2 or later, or one that passes a bound.
+pub const NO_ZONE: u8 = 21;
+
+// The moment is at or past the zone's last transition.
+pub const PAST_LAST: u8 = 22;
+
+// The civil time doesn't occur in the zone.
+pub const NO_INSTANT: u8 = 23;

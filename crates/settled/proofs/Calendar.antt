@@ -15,6 +15,8 @@ use Rattle.calendar.proofs.moments.Moment.at_day.Reads as at-day'
 use Rattle.calendar.proofs.moments.Moment.on_day.Reads as on-day'
 use Rattle.calendar.proofs.moments.Moment.minutes_step.Reads as minutes-step'
 use Rattle.calendar.proofs.moments.Moment.month_number.Reads as month-number'
+use Rattle.calendar.proofs.moments.Moment.second_number.Reads as second-number'
+use Rattle.calendar.proofs.moments.Moment.at_second.Reads as at-second'
 use Rattle.calendar.proofs.moments.Moment.months_step.Reads as months-step'
 use Rattle.calendar.proofs.moments.Moment.years_step.Reads as years-step'
 use Rattle.calendar.proofs.fixed.put_moment.Reads as put-moment'
@@ -61,6 +63,12 @@ minutes-step = through minutes-step'.Post _ (λ κs. reached-one) (same minutes-
 
 pub month-number : Settled month-number'.Post
 month-number = same month-number'.Post _ _ (λ κs a z e p. p .0)
+
+pub second-number : Settled second-number'.Post
+second-number = same second-number'.Post _ _ (λ κs a z e p. p .0)
+
+pub at-second : Settled at-second'.Post
+at-second = same at-second'.Post _ _ (λ κs a z e p. p)
 
 pub months-step : Settled months-step'.Post
 months-step = through months-step'.Post _ (λ κs. reached-one) (same months-step'.Post _ _ (λ κs a z e p. p .0))

@@ -18,5 +18,7 @@ pub mod Shown
 pub mod Rules
 pub mod Repeats
 pub mod Coming
+pub mod Tzif
+pub mod Zones
 pub mod Fuzzydate
 pub mod Text

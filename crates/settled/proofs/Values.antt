@@ -1,7 +1,7 @@
 -- The definitions by which promises speak of enums are different for different answers: each has a way back. Assumes nothing.
 use mathlib.Core.Path.{_≡_, refl, sym, ap, _∙_}
 use Prim.Native.Nat.{ℕ}
-use Rattle.calendar.specs.Moments.{Outcome, moment, refused, reachedOf}
+use Rattle.calendar.specs.Moments.{Reach, Outcome, moment, refused, reachedOf}
 use Rattle.calendar.specs.declared.moments.Reached.{Reached}
 use Rattle.calendar.specs.declared.moments.Reached.the-variants.{At, Refused}
 use Rattle.dates.specs.Parsed.{Parsed, is, nothing, overflow}
@@ -28,6 +28,9 @@ use Rattle.rules.specs.Rules.{ruleAnswer}
 use Rattle.rules.specs.declared.Rule.{Rule}
 use Rattle.rules.specs.declared.read.RuleRead.{RuleRead}
 use Rattle.rules.specs.declared.read.RuleRead.the-variants.{Is as IsRule, Refused as RuleRefused}
+use Rattle.zones.specs.Civil.{answerOf}
+use Rattle.zones.specs.declared.search.Resolved.{Resolved}
+use Rattle.zones.specs.declared.search.Resolved.the-variants.{At as ResolvedAt, Refused as ResolvedRefused}
 use Rattle.answer.specs.Answer.{answerFrom}
 use Rattle.answer.specs.declared.Answered.{Answered}
 use Rattle.answer.specs.declared.Answered.the-variants.{At as AnsweredAt, Refused as AnsweredRefused}
@@ -144,3 +147,14 @@ rule-back RuleRefused = refl
 
 pub rule-one : (x y : RuleRead) → ruleAnswer x ≡ ruleAnswer y → x ≡ y
 rule-one = given-back ruleAnswer ruleRead rule-back
+
+abbrev resolvedOf : Reach ℕ → Resolved
+resolvedOf (moment s) = ResolvedAt s
+resolvedOf (refused k) = ResolvedRefused k
+
+resolved-back : (x : Resolved) → resolvedOf (answerOf x) ≡ x
+resolved-back (ResolvedAt s) = refl
+resolved-back (ResolvedRefused k) = refl
+
+pub resolved-one : (x y : Resolved) → answerOf x ≡ answerOf y → x ≡ y
+resolved-one = given-back answerOf resolvedOf resolved-back

@@ -30,7 +30,7 @@ use Rattle.dates.specs.declared.time.Time.the-variants.{HourMin}
 use Rattle.expressions.specs.Tree.{date}
 use Rattle.phrase.specs.Tree.{DateTime, dateTime}
 use Rattle.phrase.specs.Read.{reads, readOf}
-use Rattle.evaluation.specs.Evaluate.{evaluate}
+use Rattle.evaluation.specs.Evaluate.{evaluateIn, evaluate}
 use Rattle.answer.specs.Answer.{answerOf}
 use Rattle.shown.specs.Phrases.{monthName, clockText, phraseText, IsWhole, leastYear}
 use Rattle.shown.proofs.Names.{Named, month-named, at-named}
@@ -157,7 +157,7 @@ module _ (t : Moment) (v : IsMoment t) where
 
   -- which evaluates at any now to the moment with second and millisecond 0
   tree-evaluates : (n : Moment) → evaluate (treeOf t) n ≡ moment (withTime (t .hour) (t .minute) 0 0 (withDate (t .year) (t .month) (t .day) n))
-  unfolding evaluate isDate
+  unfolding evaluateIn isDate
   tree-evaluates n =
       let d = v .date in
       let c = v .time in

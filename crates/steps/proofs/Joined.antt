@@ -1,19 +1,19 @@
 -- What joining keeps: where a list leads, that neighbours are apart, and its form; and that it adds at most one step.
 use Prim.Native.Nat.{ℕ, suc, _+_, _≤_, _<_}
 use native.Mathlib.Omega.{arith}
-use mathlib.Core.Path.{_≡_, refl, ap, sym, _∙_}
+use mathlib.Core.Path.{_≡_, refl, ap, sym, subst, _∙_}
 use mathlib.Core.Bool.{Bool, true, false, cond, Bool·beq}
 use mathlib.Core.List.{List, [], _∷_}
 use lib.ListN.{length}
-use Rattle.calendar.specs.Moments.{Outcome, moment, refused, andThen}
-use Rattle.calendar.specs.declared.moments.Moment.{Moment}
-use Rattle.calendar.proofs.Steps.{minutes-twice}
+use Rattle.calendar.specs.Moments.{Reach, moment, refused, andThen}
 use Rattle.numbers.specs.Slices.{oneIf}
-use Rattle.calendar.specs.Moments.{minutesStep}
-use Rattle.calendar.proofs.Outcomes.{then-same, then-moment}
+use Rattle.calendar.proofs.Outcomes.{then-same, then-moment, then-assoc}
+use Rattle.evaluation.specs.Worlds.{World, Lawful}
 use Rattle.steps.specs.Joining.{refuses, fixedOf, together, joinOf, joined, addStep, areApart, allApart}
-use Rattle.steps.specs.Running.{actOf, walkOf, isStart, isTimeStep, countOf, starts, times}
+use Rattle.steps.specs.Running.{startIn, moveIn, actIn, walkIn, isStart, isTimeStep, countOf, starts, times}
+use Rattle.steps.specs.declared.plan.Start.{Start}
 use Rattle.steps.specs.declared.plan.Start.the-variants.{Now, Senseless, OnDate, InWeek, FromToday}
+use Rattle.steps.specs.declared.plan.Move.{Move}
 use Rattle.steps.specs.declared.plan.Move.the-variants.{Minutes, Months, Years, BackTo, ForwardTo}
 use Rattle.steps.specs.declared.plan.Step.{Step}
 use Rattle.steps.specs.declared.plan.Step.the-variants.{From, By, AtTime}
@@ -57,24 +57,42 @@ meeting (By (BackTo w)) s = apart refl
 meeting (By (ForwardTo w)) s = apart refl
 meeting (AtTime time) s = apart refl
 
--- of three steps the last two may be taken together
-pub then-assoc : (o : Outcome) (f g : Moment → Outcome) → andThen (andThen o f) g ≡ andThen o (λ t. andThen (f t) g)
-then-assoc (moment t) f g = refl
-then-assoc (refused k) f g = refl
+module _ {S : Type 0} (w : World S) (Good : S → Type 0) (lawful : Lawful w Good) where
+  -- what a civil answer settles at, and a fixed length leads to, is good: so is what any step leads to
+  move-good : (m : Move) (x y : S) → Good x → moveIn w m x ≡ moment y → Good y
+  move-good (Minutes back k) x y g e = lawful .fixed-good back k x y g e
+  move-good (Months back k) x y g e = lawful .settle-good _ y e
+  move-good (Years back k) x y g e = lawful .settle-good _ y e
+  move-good (BackTo d) x y g e = lawful .settle-good _ y e
+  move-good (ForwardTo d) x y g e = lawful .settle-good _ y e
 
--- the last step and one behind it
-pair : {x s : Step} → Meeting x s → (n t : Moment) → walkOf (joined (joinOf x s) x s) n t ≡ andThen (actOf x n t) (actOf s n)
-pair {s = s} (refusal e j) n t = rw (j, e)
-pair {x} {s} (apart j) n t = rw j (then-same (actOf x n t) (walkOf (s ∷ []) n) (actOf s n) (λ u. then-moment (actOf s n u)))
-pair (lengths back m k e f j) n t = rw (j, e, f, minutes-twice back m k t) (then-moment _)
+  start-good : (s : Start) (x y : S) → Good x → startIn w s x ≡ moment y → Good y
+  start-good Now x y g e = let same : x ≡ y = cc in subst Good same g
+  start-good Senseless x y g e = let z : _≡_ {A = ℕ} 0 1 = cc in absurd (omega arith)
+  start-good (OnDate d) x y g e = lawful .settle-good _ y e
+  start-good (InWeek s d) x y g e = lawful .settle-good _ y e
+  start-good (FromToday d) x y g e = lawful .settle-good _ y e
 
--- a list with one step more leads where that step leads from the list's end
-pub walk-add : (ss : List Step) (s : Step) (n t : Moment) → walkOf (addStep ss s) n t ≡ andThen (walkOf ss n t) (actOf s n)
-walk-add [] s n t = then-moment (actOf s n t)
-walk-add (x ∷ []) s n t = pair (meeting x s) n t ∙ ap (λ (o : Outcome). andThen o (actOf s n)) (sym (then-moment (actOf x n t)))
-walk-add (x ∷ y ∷ ys) s n t =
-    then-same (actOf x n t) (walkOf (addStep (y ∷ ys) s) n) (λ u. andThen (walkOf (y ∷ ys) n u) (actOf s n)) (walk-add (y ∷ ys) s n)
-    ∙ sym (then-assoc (actOf x n t) (walkOf (y ∷ ys) n) (actOf s n))
+  act-good : (s : Step) (n x y : S) → Good x → actIn w s n x ≡ moment y → Good y
+  act-good (From s) n x y g e = start-good s x y g e
+  act-good (By m) n x y g e = move-good m x y g e
+  act-good (AtTime time) n x y g e = lawful .settle-good _ y e
+
+  -- the last step and one behind it
+  pair : {a s : Step} → Meeting a s → (n x : S) → Good x → walkIn w (joined (joinOf a s) a s) n x ≡ andThen (actIn w a n x) (actIn w s n)
+  pair (refusal e j) n x g = rw (j, e)
+  pair {a} {s} (apart j) n x g = rw j (then-same (actIn w a n x) (walkIn w (s ∷ []) n) (actIn w s n) (λ y _. then-moment (actIn w s n y)))
+  pair (lengths back m k e f j) n x g = rw (j, e, f, lawful .joins back m k x g) (then-moment _)
+
+  -- a list with one step more leads where that step leads from the list's end
+  pub walk-add : (ss : List Step) (s : Step) (n x : S) → Good x → walkIn w (addStep ss s) n x ≡ andThen (walkIn w ss n x) (actIn w s n)
+  walk-add [] s n x g = then-moment (actIn w s n x)
+  walk-add (a ∷ []) s n x g =
+      pair (meeting a s) n x g ∙ ap (λ (o : Reach S). andThen o (actIn w s n)) (sym (then-moment (actIn w a n x)))
+  walk-add (a ∷ b ∷ bs) s n x g =
+      then-same (actIn w a n x) (walkIn w (addStep (b ∷ bs) s) n) (λ y. andThen (walkIn w (b ∷ bs) n y) (actIn w s n))
+      (λ y e. walk-add (b ∷ bs) s n y (act-good a n x y g e))
+      ∙ sym (then-assoc (actIn w a n x) (walkIn w (b ∷ bs) n) (actIn w s n))
 
 -- it has at least one step and at most one more
 joined-length : (j : Join) (x s : Step) → (0 < length (joined j x s)) × (length (joined j x s) ≤ 2)

@@ -1,13 +1,14 @@
--- What a list of steps gives at a now.
+-- What a list of steps gives in a world, and at a fixed offset.
 use Prim.Native.Nat.{ℕ, _+_, _%_}
 use mathlib.Core.Bool.{Bool, true, false, cond, _&&_}
 use mathlib.Core.List.{List, [], _∷_}
 use lib.Dec.{leb, eqb}
 use lib.ListN.{length}
-use Rattle.calendar.specs.Moments.{Outcome, moment, refused, isMoment, andThen, minutesStep, monthsStep, yearsStep}
+use Rattle.calendar.specs.Moments.{Reach, moment, refused, andThen, Outcome, isMoment, monthsStep, yearsStep}
 use Rattle.calendar.specs.declared.moments.Moment.{Moment}
 use Rattle.numbers.specs.Slices.{oneIf}
 use Rattle.refusals.specs.Table as refusal
+use Rattle.evaluation.specs.Worlds.{World, offset}
 use Rattle.evaluation.specs.Weekdays.{inWeek, forwardTo, backTo}
 use Rattle.evaluation.specs.Dates.{dateAt}
 use Rattle.evaluation.specs.Times.{timeAt}
@@ -18,32 +19,48 @@ use Rattle.steps.specs.declared.plan.Move.the-variants.{Minutes, Months,
 use Rattle.steps.specs.declared.plan.Step.{Step}
 use Rattle.steps.specs.declared.plan.Step.the-variants.{From, By, AtTime}
 
--- "start (now, a date rule, or refusal 9)", from t
+-- The steps of a list in a world, at its now n.
+module _ {S : Type 0} (w : World S) where
+  -- "start (now, a date rule, or refusal 9)", from x
+  abbrev pub startIn : Start → S → Reach S
+  startIn Now x = moment x
+  startIn Senseless x = refused refusal.NoSense
+  startIn (OnDate d) x = w .settle (dateAt d (w .civil x))
+  startIn (InWeek s d) x = w .settle (inWeek s (d % 7) (w .civil x))
+  startIn (FromToday d) x = w .settle (forwardTo (d % 7) (w .civil x))
+
+  -- "fixed length, months, years, back to a weekday" or on to one, from x: "Fixed steps after a time or after now act on the instant; date,
+  -- month and year steps act on the civil time."
+  abbrev pub moveIn : Move → S → Reach S
+  moveIn (Minutes back k) x = w .fixed back k x
+  moveIn (Months back k) x = w .settle (monthsStep back k (w .civil x))
+  moveIn (Years back k) x = w .settle (yearsStep back k (w .civil x))
+  moveIn (BackTo d) x = w .settle (backTo (d % 7) (w .civil x))
+  moveIn (ForwardTo d) x = w .settle (forwardTo (d % 7) (w .civil x))
+
+  -- these, or the "time of day": a step from x
+  abbrev pub actIn : Step → S → S → Reach S
+  actIn (From s) n x = startIn s x
+  actIn (By m) n x = moveIn m x
+  actIn (AtTime time) n x = w .settle (timeAt time (w .civil n) (w .civil x))
+
+  -- the steps in order, up to the first refusal
+  abbrev pub walkIn : List Step → S → S → Reach S
+  walkIn [] n x = moment x
+  walkIn (s ∷ ss) n x = andThen (actIn s n x) (walkIn ss n)
+
+-- at a fixed offset, which is on civil date and time alone
 abbrev pub startAt : Start → Moment → Outcome
-startAt Now t = moment t
-startAt Senseless t = refused refusal.NoSense
-startAt (OnDate d) t = dateAt d t
-startAt (InWeek s w) t = inWeek s (w % 7) t
-startAt (FromToday w) t = forwardTo (w % 7) t
+startAt = startIn offset
 
--- "fixed length, months, years, back to a weekday" or on to one, from t
 abbrev pub moveBy : Move → Moment → Outcome
-moveBy (Minutes back k) t = minutesStep back k t
-moveBy (Months back k) t = monthsStep back k t
-moveBy (Years back k) t = yearsStep back k t
-moveBy (BackTo w) t = backTo (w % 7) t
-moveBy (ForwardTo w) t = forwardTo (w % 7) t
+moveBy = moveIn offset
 
--- these, or the "time of day": a step from t, at the now n
 abbrev pub actOf : Step → Moment → Moment → Outcome
-actOf (From s) n t = startAt s t
-actOf (By m) n t = moveBy m t
-actOf (AtTime time) n t = timeAt time n t
+actOf = actIn offset
 
--- the steps in order, up to the first refusal
 abbrev pub walkOf : List Step → Moment → Moment → Outcome
-walkOf [] n t = moment t
-walkOf (s ∷ ss) n t = andThen (actOf s n t) (walkOf ss n)
+walkOf = walkIn offset
 
 -- whether a step is a start
 abbrev pub isStart : Step → Bool
@@ -94,6 +111,27 @@ isFormed (s ∷ ss) = isStart s && (eqb (starts ss) 0 && eqb (times ss) (timesDu
 abbrev pub isList : List Step → Bool
 isList ss = leb (length ss) 24 && isFormed ss
 
--- 8, then 9, then the steps
+-- "a dated start": one that needs a time step
+abbrev pub isDated : List Step → Bool
+isDated [] = false
+isDated (s ∷ ss) = eqb (timesDue s) 1
+
+module _ {S : Type 0} (w : World S) where
+  -- "Steps ahead of a time-of-day step act on civil date and time alone": from the civil moment t. The time step's result is settled.
+  abbrev pub aheadIn : List Step → S → Moment → Reach S
+  aheadIn [] n t = w .settle (moment t)
+  aheadIn (From s ∷ ss) n t = andThen (startAt s t) (aheadIn ss n)
+  aheadIn (By m ∷ ss) n t = andThen (moveBy m t) (aheadIn ss n)
+  aheadIn (AtTime time ∷ ss) n t = andThen (w .settle (timeAt time (w .civil n) t)) (walkIn w ss n)
+
+  -- a dated start is ahead of its time step; now is in the world
+  abbrev pub leadIn : List Step → S → Reach S
+  leadIn ss n = cond (isDated ss) (aheadIn ss n (w .civil n)) (walkIn w ss n n)
+
+  -- 9, then the steps
+  unfoldable pub runIn : List Step → S → Reach S
+  runIn ss n = cond (isList ss) (leadIn ss n) (refused refusal.NoSense)
+
+-- at a fixed offset 8 before these; `run-walks` says that there the steps just act in order
 unfoldable pub runOf : List Step → Moment → Outcome
-runOf ss n = cond (isMoment n) (cond (isList ss) (walkOf ss n n) (refused refusal.NoSense)) (refused refusal.NoNow)
+runOf ss n = cond (isMoment n) (runIn offset ss n) (refused refusal.NoNow)

@@ -1,5 +1,5 @@
 use mathlib.Core.Path.{refl}
-use Rattle.evaluation.specs.Evaluate.{evaluate}
+use Rattle.evaluation.specs.Evaluate.{evaluateIn}
 use Rattle.calendar.proofs.Outcomes.{moment-valid}
 use borrow.Author.Needs.{needs}
 use Rattle.evaluation.proofs.chain.base_at.Statement.{statement}
@@ -31,15 +31,15 @@ timed-requires-2 : tie.Need-timed-requires-2
 timed-requires-2 c κs = search needs
 
 returns : tie.Need-returns
-unfolding evaluate
+unfolding evaluateIn
 returns c = rw (c .enum-told .given .1) (refl, moment-valid (c .before .before .before .pre .0))
 
 returns-2 : tie.Need-returns-2
-unfolding evaluate
+unfolding evaluateIn
 returns-2 c = rw (c .before .before .before .base .given .1, ← (c .before .expr-at .ensures .0)) (c .timed .ensures)
 
 returns-3 : tie.Need-returns-3
-unfolding evaluate
+unfolding evaluateIn
 returns-3 c = rw (c .before .before .before .base2 .given .1, ← (c .before .expr-at2 .ensures .0)) (c .timed2 .ensures)
 
 pub base-at-spec : {M : Type 1} → statement M

@@ -1,0 +1,4 @@
+pub mod Entries
+pub mod Times
+pub mod Blocks
+pub mod Checked

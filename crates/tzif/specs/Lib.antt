@@ -1,0 +1,3 @@
+pub mod Zones
+pub mod File
+pub mod Cases

@@ -1,0 +1,2 @@
+pub mod InZone
+pub mod ZoneCases

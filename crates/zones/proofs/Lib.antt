@@ -1,0 +1,5 @@
+pub mod Resolved
+pub mod OneOffset
+pub mod Searched
+pub mod Pieces
+pub mod Moments

@@ -1,0 +1,3 @@
+pub mod Civil
+pub mod Search
+pub mod Cases
