@@ -1,0 +1,217 @@
+/* The functions of fuzzydate.Calls over fuzzy.h. Arrays are copied in and out, and nothing is kept between calls, so that they may run in any thread.
+ * An array that is null or too short, and a copy that there is no memory for, leave one exception, and then nothing is called. */
+#include "fuzzy.h"
+
+#include <jni.h>
+#include <stdlib.h>
+
+/* The header that `javac -h` writes has the sizes of Calls; where it is included, they must be those of fuzzy.h. */
+#ifdef fuzzydate_Calls_READY_SIZE
+#if fuzzydate_Calls_MOMENT_NUMBERS != FUZZY_MOMENT_NUMBERS || fuzzydate_Calls_STAMP_NUMBERS != FUZZY_STAMP_NUMBERS || \
+    fuzzydate_Calls_FOUND_NUMBERS != FUZZY_FOUND_NUMBERS || fuzzydate_Calls_READY_SIZE != FUZZY_READY_SIZE || \
+    fuzzydate_Calls_STAMP_SIZE != FUZZY_STAMP_SIZE || fuzzydate_Calls_PHRASE_SIZE != FUZZY_PHRASE_SIZE
+#error "Calls.java and fuzzy.h have different sizes"
+#endif
+#endif
+
+/* A moment's seven numbers as seven arguments. */
+#define SEVEN(n) (n)[0], (n)[1], (n)[2], (n)[3], (n)[4], (n)[5], (n)[6]
+
+static void raise_exception(JNIEnv *env, const char *name, const char *words) {
+    jclass found = (*env)->FindClass(env, name);
+    if (found == NULL) return; /* FindClass left an exception of its own */
+    (*env)->ThrowNew(env, found, words);
+}
+
+/* Whether an array is there and has room for so many; else an exception is left. */
+static int has_room(JNIEnv *env, jarray array, jsize count) {
+    if (array == NULL) {
+        raise_exception(env, "java/lang/NullPointerException", "an array is null");
+        return 0;
+    }
+    if ((*env)->GetArrayLength(env, array) < count) {
+        raise_exception(env, "java/lang/ArrayIndexOutOfBoundsException", "an array is too short");
+        return 0;
+    }
+    return 1;
+}
+
+/* Copies the first numbers of an array; 0 with an exception where it hasn't so many. */
+static int take_numbers(JNIEnv *env, jintArray array, jsize count, uint32_t *numbers) {
+    if (!has_room(env, array, count)) return 0;
+    (*env)->GetIntArrayRegion(env, array, 0, count, (jint *)numbers);
+    return !(*env)->ExceptionCheck(env);
+}
+
+struct bytes {
+    uint8_t *first;
+    size_t length;
+};
+
+/* Copies all bytes of an array, to be freed; 0 with an exception and nothing to be freed where it is null or there is no memory. */
+static int take_bytes(JNIEnv *env, jbyteArray array, struct bytes *bytes) {
+    jsize n;
+    if (!has_room(env, array, 0)) return 0;
+    n = (*env)->GetArrayLength(env, array);
+    bytes->length = (size_t)n;
+    bytes->first = malloc(n > 0 ? (size_t)n : 1);
+    if (bytes->first == NULL) {
+        raise_exception(env, "java/lang/OutOfMemoryError", "no memory for a copy of the bytes");
+        return 0;
+    }
+    (*env)->GetByteArrayRegion(env, array, 0, n, (jbyte *)bytes->first);
+    if ((*env)->ExceptionCheck(env)) {
+        free(bytes->first);
+        return 0;
+    }
+    return 1;
+}
+
+/* The answer of a call that gives numbers, which go to the array where there is no refusal. */
+static jlong give_numbers(JNIEnv *env, uint64_t answer, jintArray array, jsize count, const uint32_t *numbers) {
+    if (fuzzy_number(answer) == 0) (*env)->SetIntArrayRegion(env, array, 0, count, (const jint *)numbers);
+    return (jlong)answer;
+}
+
+/* The answer of a call that gives as many bytes as it says, which go to the array where there is no refusal. */
+static jlong give_bytes(JNIEnv *env, uint64_t answer, jbyteArray array, const uint8_t *bytes) {
+    if (fuzzy_number(answer) == 0) (*env)->SetByteArrayRegion(env, array, 0, (jsize)fuzzy_length(answer), (const jbyte *)bytes);
+    return (jlong)answer;
+}
+
+/* The room of an array for a text, and no more than any text needs. */
+static size_t room_of(JNIEnv *env, jbyteArray text, size_t most) {
+    size_t room = (size_t)(*env)->GetArrayLength(env, text);
+    return room < most ? room : most;
+}
+
+JNIEXPORT jlong JNICALL Java_fuzzydate_Calls_read(JNIEnv *env, jclass calls, jint reading, jbyteArray phrase, jintArray now, jintArray moment) {
+    uint32_t n[FUZZY_MOMENT_NUMBERS], m[FUZZY_MOMENT_NUMBERS];
+    struct bytes p;
+    uint64_t answer;
+    (void)calls;
+    if (!take_numbers(env, now, FUZZY_MOMENT_NUMBERS, n) || !has_room(env, moment, FUZZY_MOMENT_NUMBERS) || !take_bytes(env, phrase, &p)) return 0;
+    answer = fuzzy_read((uint32_t)reading, p.first, p.length, SEVEN(n), m);
+    free(p.first);
+    return give_numbers(env, answer, moment, FUZZY_MOMENT_NUMBERS, m);
+}
+
+JNIEXPORT jlong JNICALL Java_fuzzydate_Calls_makeReady(JNIEnv *env, jclass calls, jint reading, jbyteArray phrase, jbyteArray ready) {
+    uint8_t r[FUZZY_READY_SIZE];
+    struct bytes p;
+    uint64_t answer;
+    (void)calls;
+    if (!has_room(env, ready, FUZZY_READY_SIZE) || !take_bytes(env, phrase, &p)) return 0;
+    answer = fuzzy_make_ready((uint32_t)reading, p.first, p.length, r);
+    free(p.first);
+    return give_bytes(env, answer, ready, r);
+}
+
+JNIEXPORT jlong JNICALL Java_fuzzydate_Calls_run(JNIEnv *env, jclass calls, jbyteArray ready, jintArray now, jintArray moment) {
+    uint32_t n[FUZZY_MOMENT_NUMBERS], m[FUZZY_MOMENT_NUMBERS];
+    struct bytes r;
+    uint64_t answer;
+    (void)calls;
+    if (!take_numbers(env, now, FUZZY_MOMENT_NUMBERS, n) || !has_room(env, moment, FUZZY_MOMENT_NUMBERS) || !take_bytes(env, ready, &r)) return 0;
+    answer = fuzzy_run(r.first, r.length, SEVEN(n), m);
+    free(r.first);
+    return give_numbers(env, answer, moment, FUZZY_MOMENT_NUMBERS, m);
+}
+
+JNIEXPORT jlong JNICALL Java_fuzzydate_Calls_readStamp(JNIEnv *env, jclass calls, jbyteArray text, jintArray stamp) {
+    uint32_t s[FUZZY_STAMP_NUMBERS];
+    struct bytes t;
+    uint64_t answer;
+    (void)calls;
+    if (!has_room(env, stamp, FUZZY_STAMP_NUMBERS) || !take_bytes(env, text, &t)) return 0;
+    answer = fuzzy_read_stamp(t.first, t.length, s);
+    free(t.first);
+    return give_numbers(env, answer, stamp, FUZZY_STAMP_NUMBERS, s);
+}
+
+JNIEXPORT jlong JNICALL Java_fuzzydate_Calls_writeStamp(JNIEnv *env, jclass calls, jintArray stamp, jbyteArray text) {
+    uint32_t s[FUZZY_STAMP_NUMBERS];
+    uint8_t t[FUZZY_STAMP_SIZE];
+    uint64_t answer;
+    (void)calls;
+    if (!take_numbers(env, stamp, FUZZY_STAMP_NUMBERS, s) || !has_room(env, text, 0)) return 0;
+    answer = fuzzy_write_stamp(SEVEN(s), s[7], s[8], t, room_of(env, text, sizeof t));
+    return give_bytes(env, answer, text, t);
+}
+
+JNIEXPORT jlong JNICALL Java_fuzzydate_Calls_findWord(JNIEnv *env, jclass calls, jint reading, jbyteArray word, jintArray found) {
+    uint32_t f[FUZZY_FOUND_NUMBERS];
+    struct bytes w;
+    uint64_t answer;
+    (void)calls;
+    if (!has_room(env, found, FUZZY_FOUND_NUMBERS) || !take_bytes(env, word, &w)) return 0;
+    answer = fuzzy_find_word((uint32_t)reading, w.first, w.length, f);
+    free(w.first);
+    return give_numbers(env, answer, found, FUZZY_FOUND_NUMBERS, f);
+}
+
+JNIEXPORT jlong JNICALL Java_fuzzydate_Calls_writePhrase(JNIEnv *env, jclass calls, jintArray moment, jbyteArray text) {
+    uint32_t m[FUZZY_MOMENT_NUMBERS];
+    uint8_t t[FUZZY_PHRASE_SIZE];
+    uint64_t answer;
+    (void)calls;
+    if (!take_numbers(env, moment, FUZZY_MOMENT_NUMBERS, m) || !has_room(env, text, 0)) return 0;
+    answer = fuzzy_write_phrase(SEVEN(m), t, room_of(env, text, sizeof t));
+    return give_bytes(env, answer, text, t);
+}
+
+JNIEXPORT jlong JNICALL Java_fuzzydate_Calls_list(JNIEnv *env, jclass calls, jbyteArray rule, jintArray start, jintArray moments) {
+    uint32_t s[FUZZY_MOMENT_NUMBERS], *m;
+    struct bytes r;
+    size_t room;
+    uint64_t answer;
+    (void)calls;
+    if (!take_numbers(env, start, FUZZY_MOMENT_NUMBERS, s) || !has_room(env, moments, 0) || !take_bytes(env, rule, &r)) return 0;
+    room = (size_t)(*env)->GetArrayLength(env, moments);
+    m = calloc(room > 0 ? room : 1, sizeof *m);
+    if (m == NULL) {
+        free(r.first);
+        raise_exception(env, "java/lang/OutOfMemoryError", "no memory for a copy of the moments");
+        return 0;
+    }
+    answer = fuzzy_list(r.first, r.length, SEVEN(s), m, room);
+    free(r.first);
+    give_numbers(env, answer, moments, (jsize)(FUZZY_MOMENT_NUMBERS * fuzzy_length(answer)), m);
+    free(m);
+    return (jlong)answer;
+}
+
+JNIEXPORT jlong JNICALL Java_fuzzydate_Calls_next(JNIEnv *env, jclass calls, jbyteArray rule, jintArray start, jintArray asked, jintArray moment) {
+    uint32_t s[FUZZY_MOMENT_NUMBERS], a[FUZZY_MOMENT_NUMBERS], m[FUZZY_MOMENT_NUMBERS];
+    struct bytes r;
+    uint64_t answer;
+    (void)calls;
+    if (!take_numbers(env, start, FUZZY_MOMENT_NUMBERS, s) || !take_numbers(env, asked, FUZZY_MOMENT_NUMBERS, a)) return 0;
+    if (!has_room(env, moment, FUZZY_MOMENT_NUMBERS) || !take_bytes(env, rule, &r)) return 0;
+    answer = fuzzy_next(r.first, r.length, SEVEN(s), SEVEN(a), m);
+    free(r.first);
+    return give_numbers(env, answer, moment, FUZZY_MOMENT_NUMBERS, m);
+}
+
+JNIEXPORT jint JNICALL Java_fuzzydate_Calls_number(JNIEnv *env, jclass calls, jlong answer) {
+    (void)env;
+    (void)calls;
+    return (jint)fuzzy_number((uint64_t)answer);
+}
+
+JNIEXPORT jint JNICALL Java_fuzzydate_Calls_place(JNIEnv *env, jclass calls, jlong answer) {
+    (void)env;
+    (void)calls;
+    return (jint)fuzzy_place((uint64_t)answer);
+}
+
+JNIEXPORT jint JNICALL Java_fuzzydate_Calls_length(JNIEnv *env, jclass calls, jlong answer) {
+    (void)env;
+    (void)calls;
+    return (jint)fuzzy_length((uint64_t)answer);
+}
+
+JNIEXPORT jstring JNICALL Java_fuzzydate_Calls_word(JNIEnv *env, jclass calls, jint number) {
+    (void)calls;
+    return (*env)->NewStringUTF(env, fuzzy_word((unsigned)number));
+}

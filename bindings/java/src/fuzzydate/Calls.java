@@ -1,0 +1,46 @@
+package fuzzydate;
+
+/**
+ * The functions of fuzzy.h by their names there, over fuzzydate_jni.c. An answer is the header's one number; what a call writes goes to the front of
+ * its last array, and on a refusal nothing does.
+ */
+final class Calls {
+    static final int MOMENT_NUMBERS = 7;
+    static final int STAMP_NUMBERS = 9;
+    static final int FOUND_NUMBERS = 2;
+    static final int READY_SIZE = 384;
+    static final int STAMP_SIZE = 29;
+    static final int PHRASE_SIZE = 26;
+
+    static {
+        System.loadLibrary("fuzzydate_jni");
+    }
+
+    private Calls() {}
+
+    static native long read(int reading, byte[] phrase, int[] now, int[] moment);
+
+    static native long makeReady(int reading, byte[] phrase, byte[] ready);
+
+    static native long run(byte[] ready, int[] now, int[] moment);
+
+    static native long readStamp(byte[] text, int[] stamp);
+
+    static native long writeStamp(int[] stamp, byte[] text);
+
+    static native long findWord(int reading, byte[] word, int[] found);
+
+    static native long writePhrase(int[] moment, byte[] text);
+
+    static native long list(byte[] rule, int[] start, int[] moments);
+
+    static native long next(byte[] rule, int[] start, int[] asked, int[] moment);
+
+    static native int number(long answer);
+
+    static native int place(long answer);
+
+    static native int length(long answer);
+
+    static native String word(int number);
+}

@@ -1,0 +1,551 @@
+package fuzzydate;
+
+import java.nio.charset.StandardCharsets;
+import java.time.LocalDate;
+import java.time.LocalDateTime;
+import java.time.OffsetDateTime;
+import java.time.temporal.ChronoUnit;
+import java.util.ArrayList;
+import java.util.Arrays;
+import java.util.Collections;
+import java.util.EnumSet;
+import java.util.List;
+import java.util.Optional;
+import java.util.OptionalInt;
+import java.util.Random;
+import java.util.Set;
+import java.util.concurrent.Callable;
+import java.util.concurrent.ExecutorService;
+import java.util.concurrent.Executors;
+import java.util.concurrent.Future;
+
+/** Every call with good, damaged, empty and missing input, each refusal at least once, and all of it in eight threads at once. */
+final class Every {
+    private static final LocalDateTime NOW = LocalDateTime.of(2026, 2, 11, 9, 30, 15, 250_000_000);
+    private static final LocalDateTime LEAP_DAY = LocalDateTime.of(2024, 2, 29, 12, 0);
+    private static final LocalDateTime WHOLE = LocalDateTime.of(2026, 3, 4, 9, 5);
+    private static final LocalDateTime TUESDAY = LocalDateTime.of(2026, 2, 10, 9, 30, 15, 250_000_000);
+    private static final String TUESDAYS = "FREQ=WEEKLY;INTERVAL=2;BYDAY=TU";
+    private static final int THREADS = 8;
+    private static final int ROUNDS = 5;
+
+    private final Set<Reason> seen = EnumSet.noneOf(Reason.class);
+    private int checks = 0;
+
+    private Every() {}
+
+    private void expect(boolean holds, String what) {
+        checks++;
+        if (!holds) {
+            throw new AssertionError(what);
+        }
+    }
+
+    private void same(Object found, Object wanted, String what) {
+        expect(found.equals(wanted), what + ": " + found + ", not " + wanted);
+    }
+
+    private interface Call {
+        Object run() throws Refusal;
+    }
+
+    private Refusal refusal(Reason reason, Call call, String what) {
+        try {
+            throw new AssertionError(what + " gives " + call.run());
+        } catch (Refusal refusal) {
+            same(refusal.reason(), reason, what);
+            seen.add(reason);
+            return refusal;
+        }
+    }
+
+    private void throwsA(Class<? extends Exception> wanted, Call call, String what) {
+        try {
+            throw new AssertionError(what + " gives " + call.run());
+        } catch (Exception e) {
+            same(e.getClass(), wanted, what);
+        }
+    }
+
+    private void given(Reading reading, String phrase, String moment) throws Refusal {
+        LocalDateTime wanted = LocalDateTime.parse(moment);
+        same(Fuzzydate.read(reading, phrase, NOW), wanted, phrase);
+        same(Fuzzydate.read(reading, phrase.getBytes(StandardCharsets.UTF_8), NOW), wanted, phrase + ", as bytes");
+        byte[] ready = Fuzzydate.makeReady(reading, phrase);
+        expect(ready.length >= 16 && ready.length <= Calls.READY_SIZE && ready.length % 16 == 0, phrase + ": the length of a ready phrase");
+        same(Fuzzydate.run(ready, NOW), wanted, phrase + ", made ready");
+        refusal(Reason.NO_SENSE, () -> Fuzzydate.run(Arrays.copyOf(ready, ready.length - 1), NOW), phrase + ", cut short");
+        ready[2] ^= 1;
+        refusal(Reason.NO_SENSE, () -> Fuzzydate.run(ready, NOW), phrase + ", damaged");
+    }
+
+    private void moments() throws Refusal {
+        for (Reading reading : Reading.values()) {
+            given(reading, "next friday", "2026-02-20T09:30:15.250");
+            given(reading, "an hour ago", "2026-02-11T08:30:15.250");
+            given(reading, "5/2 at noon", "2026-05-02T12:00:00");
+            given(reading, "friday at midnight", "2026-02-13T00:00:00");
+            given(reading, "2 months before 3 weeks after tomorrow at 5:00", "2026-01-05T05:00:00");
+        }
+        given(Reading.FIRST, "tuesday in two weeks", "2026-01-27T09:30:15.250");
+        given(Reading.SECOND, "tuesday in two weeks", "2026-03-03T09:30:15.250");
+        given(Reading.SECOND, "march 3 5 pm", "2026-03-03T17:00:00");
+        given(Reading.SECOND, "january 1, 2010", "2010-01-01T09:30:15.250");
+        LocalDateTime last = LocalDateTime.of(9999, 12, 31, 23, 59, 59, 999_000_000);
+        same(Fuzzydate.read(Reading.FIRST, "today", last), last, "the last moment");
+    }
+
+    private void refused(Reading reading, byte[] phrase, Reason reason, int place, String part, String message) throws Refusal {
+        Refusal refusal = refusal(reason, () -> Fuzzydate.read(reading, phrase, NOW), message);
+        same(refusal.place(), place, message + ": the place");
+        same(new String(refusal.part(), StandardCharsets.ISO_8859_1), part, message + ": the part");
+        same(refusal.getMessage(), message, "a message");
+        if (reason.number() <= Reason.LEFT_OVER.number()) {
+            Refusal again = refusal(reason, () -> Fuzzydate.makeReady(reading, phrase), message + ", made ready");
+            same(again.getMessage(), message, "the message of making ready");
+        } else {
+            byte[] ready = Fuzzydate.makeReady(reading, phrase);
+            refusal(reason, () -> Fuzzydate.run(ready, NOW), message + ", run");
+        }
+    }
+
+    private void refused(String phrase, Reason reason, int place, String part, String message) throws Refusal {
+        refused(Reading.FIRST, phrase.getBytes(StandardCharsets.ISO_8859_1), reason, place, part, message);
+    }
+
+    private void refusals() throws Refusal {
+        refused("", Reason.NOTHING, 0, "", "no date or time in it");
+        refused("forty days ago", Reason.UNKNOWN, 0, "forty", "not understood: \"forty\" at byte 0");
+        refused("in\0two days", Reason.UNKNOWN, 2, "\0", "not understood: \"\\x00\" at byte 2");
+        refused("4294967296 days ago", Reason.LARGE_DIGITS, 0, "4294967296", "number too large: \"4294967296\" at byte 0");
+        refused("five billion days ago", Reason.LARGE_SUM, 0, "", "number in words too large");
+        refused("5/2", Reason.LEFT_OVER, 1, "/2", "not part of the date or time: \"/2\" at byte 1");
+        refused("this month", Reason.NO_SENSE, 0, "", "has no sense");
+        refused("1000/1/1", Reason.NO_DATE, 0, "", "no such month or day");
+        refused("january 1, 99", Reason.NO_TIME, 0, "", "no such time of day");
+        refused("four billion days ago", Reason.OUTSIDE, 0, "", "outside the years 1 to 9999");
+        refused(String.join("", Collections.nCopies(65, "1 ")), Reason.TOO_MANY, 128, "1",
+                "more than 64 words, numbers and marks: \"1\" at byte 128");
+        for (int length : new int[] {257, 4096, 1 << 20}) {
+            refused(Reading.SECOND, new byte[length], Reason.TOO_LONG, 0, "", "longer than 256 bytes");
+        }
+        refusal(Reason.NO_LEAP_DAY, () -> Fuzzydate.read(Reading.FIRST, "a year from now", LEAP_DAY), "29 February");
+        byte[] today = Fuzzydate.makeReady(Reading.FIRST, "today");
+        for (int year : new int[] {LocalDateTime.MIN.getYear(), -1, 0, 10000, LocalDateTime.MAX.getYear()}) {
+            LocalDateTime none = WHOLE.withYear(year);
+            refusal(Reason.NO_NOW, () -> Fuzzydate.read(Reading.FIRST, "today", none), "reading in the year " + year);
+            refusal(Reason.NO_NOW, () -> Fuzzydate.run(today, none), "running in the year " + year);
+            refusal(Reason.NO_NOW, () -> Fuzzydate.writePhrase(none), "showing the year " + year);
+            refusal(Reason.NO_NOW, () -> Fuzzydate.writeStamp(new Stamp(none, Offset.UNKNOWN)), "a stamp of the year " + year);
+        }
+    }
+
+    /** Each byte above 127 alone, and a String, whose UTF-8 has two of them. */
+    private void above127() throws Refusal {
+        for (int b = 128; b < 256; b++) {
+            byte[] phrase = {'a', 't', ' ', (byte) b};
+            String part = new String(phrase, 3, 1, StandardCharsets.ISO_8859_1);
+            refused(Reading.FIRST, phrase, Reason.UNKNOWN, 3, part, String.format("not understood: \"\\x%02x\" at byte 3", b));
+            expect(!Fuzzydate.findWord(Reading.FIRST, phrase).code().isPresent(), "a word with a byte above 127");
+            refusal(Reason.NO_STAMP, () -> Fuzzydate.readStamp(phrase), "a stamp with a byte above 127");
+        }
+        Refusal accent = refusal(Reason.UNKNOWN, () -> Fuzzydate.read(Reading.FIRST, "at \u00e9", NOW), "a letter of two bytes");
+        same(accent.getMessage(), "not understood: \"\\xc3\" at byte 3", "a letter of two bytes");
+        Refusal half = refusal(Reason.UNKNOWN, () -> Fuzzydate.read(Reading.FIRST, "at \ud800", NOW), "half of a surrogate pair");
+        same(half.getMessage(), "not understood: \"?\" at byte 3", "half of a surrogate pair");
+    }
+
+    private void stamped(String text, String written, Offset offset, int nanos) throws Refusal {
+        Stamp stamp = Fuzzydate.readStamp(text);
+        same(stamp, new Stamp(LocalDateTime.of(2026, 2, 11, 9, 30, 15, nanos), offset), text);
+        same(stamp.hashCode(), new Stamp(stamp.moment(), offset).hashCode(), text + ": its hash");
+        same(Fuzzydate.writeStamp(stamp), written, text);
+        same(stamp.toString(), written, text);
+        same(Fuzzydate.readStamp(written.getBytes(StandardCharsets.US_ASCII)), stamp, written);
+    }
+
+    private void stamps() throws Refusal {
+        stamped("2026-02-11t09:30:15z", "2026-02-11T09:30:15Z", Offset.east(0), 0);
+        stamped("2026-02-11T09:30:15+00:00", "2026-02-11T09:30:15Z", Offset.east(0), 0);
+        stamped("2026-02-11T09:30:15-00:00", "2026-02-11T09:30:15-00:00", Offset.UNKNOWN, 0);
+        stamped("2026-02-11T09:30:15-00:00", "2026-02-11T09:30:15-00:00", Offset.west(0), 0);
+        stamped("2026-02-11T09:30:15.5-05:00", "2026-02-11T09:30:15.500-05:00", Offset.west(300), 500_000_000);
+        stamped("2026-02-11T09:30:15.05+23:59", "2026-02-11T09:30:15.050+23:59", Offset.east(1439), 50_000_000);
+        for (String text : new String[] {"", "2026-02-30T09:30:15Z", "2026-02-11T09:30:15+24:00", "2026-02-11T09:30:15.5000Z", "\u00e9"}) {
+            same(refusal(Reason.NO_STAMP, () -> Fuzzydate.readStamp(text), text).getMessage(), "no RFC 3339 date and time", text);
+        }
+        refusal(Reason.OUTSIDE, () -> Fuzzydate.readStamp("0000-02-29T00:00:00Z"), "year 0");
+        for (int minutes : new int[] {1440, -1, Integer.MIN_VALUE, Integer.MAX_VALUE}) {
+            for (Offset offset : new Offset[] {Offset.east(minutes), Offset.west(minutes)}) {
+                Stamp none = new Stamp(NOW, offset);
+                refusal(Reason.NO_STAMP, () -> Fuzzydate.writeStamp(none), "an offset of " + minutes);
+                same(none.toString(), "no RFC 3339 date and time", "an offset of " + minutes);
+                same(none.toOffsetDateTime(), Optional.empty(), "an offset of " + minutes);
+            }
+        }
+    }
+
+    /** To java.time and back where it has the offset, which is up to 18 hours and known. */
+    private void offsets() throws Refusal {
+        for (String offset : new String[] {"Z", "+00:01", "-00:01", "+05:30", "+18:00", "-18:00"}) {
+            String text = "2026-02-11T09:30:15.250" + offset;
+            OffsetDateTime time = OffsetDateTime.parse(text);
+            same(Fuzzydate.readStamp(text).toOffsetDateTime(), Optional.of(time), text);
+            same(Fuzzydate.writeStamp(Stamp.of(time)), text, text);
+        }
+        for (String offset : new String[] {"-00:00", "+18:01", "-23:59"}) {
+            same(Fuzzydate.readStamp("2026-02-11T09:30:15" + offset).toOffsetDateTime(), Optional.empty(), offset);
+        }
+        same(Arrays.asList(Offset.UNKNOWN, Offset.east(0), Offset.west(300)).toString(), "[Unknown, East(0), West(300)]", "offsets shown");
+        expect(!Offset.UNKNOWN.isKnown() && Offset.east(0).isKnown() && Offset.west(1).isKnown(), "which offsets are known");
+        throwsA(IllegalArgumentException.class, () -> Stamp.of(OffsetDateTime.parse("2026-02-11T09:30:15+00:00:30")), "an offset with seconds");
+    }
+
+    private void found(Reading reading, String word, OptionalInt code, int comparisons) {
+        FoundWord found = Fuzzydate.findWord(reading, word);
+        same(found.code(), code, word);
+        same(found.comparisons(), comparisons, word);
+    }
+
+    private void words() {
+        found(Reading.FIRST, "Friday", OptionalInt.of(123), 7);
+        found(Reading.SECOND, "th", OptionalInt.of(160), 4);
+        found(Reading.FIRST, "forty", OptionalInt.empty(), 7);
+        found(Reading.SECOND, "FORTY", OptionalInt.of(40), 5);
+        found(Reading.FIRST, "", OptionalInt.empty(), 7);
+        expect(!Fuzzydate.findWord(Reading.FIRST, new byte[4096]).code().isPresent(), "a long word");
+        for (int number = 1; number < 1000; number++) {
+            boolean said = !Calls.word(number).equals(Calls.word(0xffff));
+            same(said, number <= Reason.values().length, "whether the header has words for refusal " + number);
+        }
+        same(Calls.word(0), "done", "the words for no refusal");
+    }
+
+    private void phrases() throws Refusal {
+        for (LocalDateTime moment : new LocalDateTime[] {WHOLE, LEAP_DAY, LocalDateTime.of(9999, 12, 31, 23, 59), LocalDateTime.of(1000, 9, 30, 0, 0)}) {
+            for (Reading reading : Reading.values()) {
+                same(Fuzzydate.read(reading, Fuzzydate.writePhrase(moment), NOW), moment, "a phrase that was shown");
+            }
+        }
+        same(Fuzzydate.writePhrase(WHOLE), "march 4 2026 at 9:05", "a phrase");
+        same(Fuzzydate.writePhrase(LocalDateTime.of(2026, 9, 30, 23, 59)), "september 30 2026 at 23:59", "the longest phrase");
+        refusal(Reason.NOT_WHOLE, () -> Fuzzydate.writePhrase(WHOLE.withSecond(1)), "a second");
+        refusal(Reason.NOT_WHOLE, () -> Fuzzydate.writePhrase(WHOLE.withNano(1_000_000)), "a millisecond");
+    }
+
+    private LocalDateTime coming(String rule, LocalDateTime asked) throws Refusal {
+        LocalDateTime next = Fuzzydate.next(rule, TUESDAY, asked);
+        same(Fuzzydate.next(rule.getBytes(StandardCharsets.UTF_8), TUESDAY, asked), next, rule + ", as bytes");
+        return next;
+    }
+
+    /** What is listed from Tuesday on, at its time of day; and at each of these which one comes next, and behind it, unless more were not listed. */
+    private void listed(String rule, int most, String... dates) throws Refusal {
+        List<LocalDateTime> wanted = new ArrayList<>();
+        for (String date : dates) {
+            wanted.add(LocalDate.parse(date).atTime(TUESDAY.toLocalTime()));
+        }
+        same(Fuzzydate.occurrences(rule, TUESDAY, most), wanted, rule);
+        same(Fuzzydate.occurrences(rule.getBytes(StandardCharsets.UTF_8), TUESDAY, most), wanted, rule + ", as bytes");
+        for (int i = 0; i < dates.length; i++) {
+            LocalDateTime after = wanted.get(i).plus(1, ChronoUnit.MILLIS);
+            same(coming(rule, wanted.get(i)), wanted.get(i), rule + ", asked at an occurrence");
+            if (i + 1 < dates.length) {
+                same(coming(rule, after), wanted.get(i + 1), rule + ", asked a millisecond after an occurrence");
+            } else if (dates.length < most) {
+                same(refusal(Reason.NO_NEXT, () -> coming(rule, after), rule).getMessage(), "no occurrence is left", rule);
+            }
+        }
+    }
+
+    private void rules() throws Refusal {
+        listed(TUESDAYS, 3, "2026-02-10", "2026-02-24", "2026-03-10");
+        listed("freq=weekly;byday=su,tu,su;interval=02", 4, "2026-02-10", "2026-02-15", "2026-02-24", "2026-03-01");
+        listed("FREQ=DAILY;UNTIL=20260212", 1000, "2026-02-10", "2026-02-11", "2026-02-12");
+        listed("FREQ=DAILY;UNTIL=20260212T093015", 9, "2026-02-10", "2026-02-11");
+        listed("FREQ=DAILY;UNTIL=20260212T093016;WKST=MO", 9, "2026-02-10", "2026-02-11", "2026-02-12");
+        listed("FREQ=MONTHLY;COUNT=2", 9, "2026-02-10", "2026-03-10");
+        listed("FREQ=MONTHLY;BYMONTHDAY=+10", 1, "2026-02-10");
+        listed(TUESDAYS, 0);
+        LocalDateTime last = LocalDateTime.of(9999, 12, 31, 9, 30, 15, 250_000_000);
+        same(Fuzzydate.occurrences("FREQ=DAILY", last.withDayOfMonth(30), 9), Arrays.asList(last.withDayOfMonth(30), last), "the last days");
+        same(coming("FREQ=DAILY", last), last, "the last day");
+        refusal(Reason.NO_NEXT, () -> coming("FREQ=DAILY", last.plus(1, ChronoUnit.MILLIS)), "behind the last day");
+        same(coming(TUESDAYS, LocalDateTime.of(1, 1, 1, 0, 0)), TUESDAY, "asked before the start");
+        same(coming(TUESDAYS, TUESDAY.minus(1, ChronoUnit.MILLIS)), TUESDAY, "asked a millisecond before the start");
+        same(coming(TUESDAYS, TUESDAY.withYear(2027)), LocalDateTime.parse("2027-02-23T09:30:15.250"), "asked a year later");
+        throwsA(IllegalArgumentException.class, () -> Fuzzydate.occurrences(TUESDAYS, TUESDAY, -1), "fewer occurrences than none");
+    }
+
+    /** A rule or a start that both calls refuse alike, with room and without; nothing is written. */
+    private void unlisted(byte[] rule, LocalDateTime start, Reason reason, String message) {
+        int[] from = Moments.numbers(start, 7), asked = Moments.numbers(TUESDAY, 7), numbers = new int[15];
+        for (int most : new int[] {0, 2}) {
+            same(refusal(reason, () -> Fuzzydate.occurrences(rule, start, most), message).getMessage(), message, "a rule not listed");
+        }
+        same(refusal(reason, () -> Fuzzydate.next(rule, start, TUESDAY), message).getMessage(), message, "a rule not asked");
+        same(Calls.list(rule, from, numbers), (long) reason.number(), message);
+        same(Calls.next(rule, from, asked, numbers), (long) reason.number(), message);
+        expect(Arrays.equals(numbers, new int[15]), "nothing written for what is refused");
+    }
+
+    private void unlisted(String rule, LocalDateTime start, Reason reason, String message) {
+        unlisted(rule.getBytes(StandardCharsets.UTF_8), start, reason, message);
+    }
+
+    private void refusedRules() {
+        for (String rule : new String[] {"", "FREQ=YEARLY", "RRULE:FREQ=DAILY", "FREQ=DAILY;", "FREQ=DAILY;COUNT=0", "FREQ=DAILY\0", "FREQ=DAILY\u00e9"}) {
+            unlisted(rule, TUESDAY, Reason.NO_RULE, "no repeating rule that is taken");
+        }
+        for (String rule : new String[] {"FREQ=WEEKLY;BYDAY=MO", "FREQ=MONTHLY;BYMONTHDAY=31", "FREQ=DAILY;UNTIL=20260210T093015"}) {
+            unlisted(rule, TUESDAY, Reason.NO_START, "the start is no occurrence of the rule");
+        }
+        for (int year : new int[] {LocalDateTime.MIN.getYear(), -1, 0, 10000, LocalDateTime.MAX.getYear()}) {
+            unlisted("FREQ=YEARLY", TUESDAY.withYear(year), Reason.NO_NOW, "the moment given is no date and time");
+            refusal(Reason.NO_NOW, () -> Fuzzydate.next(TUESDAYS, TUESDAY, TUESDAY.withYear(year)), "asked in the year " + year);
+        }
+        int[] numbers = new int[7];
+        String once = "FREQ=DAILY;COUNT=1";
+        int[] start = Moments.numbers(TUESDAY, 7), later = Moments.numbers(TUESDAY.plusDays(1), 7);
+        same(Calls.next(once.getBytes(StandardCharsets.UTF_8), start, later, numbers), (long) Reason.NO_NEXT.number(), once);
+        expect(Arrays.equals(numbers, new int[7]), "nothing written where none is left");
+    }
+
+    /** Rows are written as far as there are occurrences and whole rows of room; the numbers behind them stay. */
+    private void rows() {
+        int[] start = Moments.numbers(TUESDAY, 7);
+        for (String rule : new String[] {"FREQ=DAILY", "FREQ=DAILY;COUNT=1"}) {
+            int wanted = rule.equals("FREQ=DAILY") ? 2 : 1;
+            int[] numbers = new int[20];
+            Arrays.fill(numbers, 0xa5);
+            same(Calls.list(rule.getBytes(StandardCharsets.UTF_8), start, numbers), (long) wanted << 32, rule);
+            same(Moments.of(numbers), TUESDAY, rule + ": the first row");
+            for (int i = 7 * wanted; i < 20; i++) {
+                expect(numbers[i] == 0xa5, "numbers behind the rows");
+            }
+        }
+    }
+
+    /** The most that can be wanted. */
+    private void longest() throws Refusal {
+        LocalDateTime first = LocalDateTime.of(1, 1, 1, 9, 30);
+        List<LocalDateTime> months = Fuzzydate.occurrences("FREQ=MONTHLY", first, Integer.MAX_VALUE);
+        same(months.size(), 12 * 9999, "all months");
+        same(months.get(months.size() - 1), LocalDateTime.of(9999, 12, 1, 9, 30), "the last month");
+    }
+
+    /** A part of a millisecond is never lost: it is said. */
+    private void nanoseconds() throws Refusal {
+        byte[] ready = Fuzzydate.makeReady(Reading.FIRST, "today");
+        for (int nanos : new int[] {1, 999_999, 1_000_001, 999_999_999}) {
+            LocalDateTime now = WHOLE.withNano(nanos);
+            throwsA(IllegalArgumentException.class, () -> Fuzzydate.read(Reading.FIRST, "today", now), "reading at nanoseconds");
+            throwsA(IllegalArgumentException.class, () -> Fuzzydate.run(ready, now), "running at nanoseconds");
+            throwsA(IllegalArgumentException.class, () -> Fuzzydate.writePhrase(now), "showing nanoseconds");
+            throwsA(IllegalArgumentException.class, () -> new Stamp(now, Offset.UNKNOWN), "a stamp with nanoseconds");
+            throwsA(IllegalArgumentException.class, () -> Fuzzydate.occurrences("FREQ=DAILY", now, 1), "a start with nanoseconds");
+            throwsA(IllegalArgumentException.class, () -> Fuzzydate.next("FREQ=DAILY", now, WHOLE), "a start with nanoseconds to be asked from");
+            throwsA(IllegalArgumentException.class, () -> Fuzzydate.next("FREQ=DAILY", WHOLE, now), "asked at nanoseconds");
+        }
+        LocalDateTime last = WHOLE.withNano(999_000_000);
+        same(Fuzzydate.run(ready, last), last, "999 milliseconds");
+    }
+
+    /** What only Calls can be asked: other readings, short texts, arrays that are missing or too short; nothing is written by any of these. */
+    private void calls() {
+        byte[] today = "today".getBytes(StandardCharsets.UTF_8), bytes = new byte[Calls.READY_SIZE];
+        int[] now = Moments.numbers(WHOLE, 9), numbers = new int[9];
+        Arrays.fill(bytes, (byte) 0xa5);
+        Arrays.fill(numbers, 0xa5);
+        for (int reading : new int[] {0, 3, -1}) {
+            refusal(Reason.NO_READING, () -> Refusal.check(Calls.read(reading, today, now, numbers), today), "reading " + reading);
+            refusal(Reason.NO_READING, () -> Refusal.check(Calls.makeReady(reading, today, bytes), today), "making ready " + reading);
+            refusal(Reason.NO_READING, () -> Refusal.check(Calls.findWord(reading, today, numbers), today), "a word of reading " + reading);
+        }
+        for (int room : new int[] {0, 19}) {
+            byte[] text = new byte[room];
+            refusal(Reason.NO_ROOM, () -> Refusal.check(Calls.writeStamp(now, text), today), "a stamp in so few bytes");
+            refusal(Reason.NO_ROOM, () -> Refusal.check(Calls.writePhrase(now, text), today), "a phrase in so few bytes");
+            expect(Arrays.equals(text, new byte[room]), "nothing written where there is no room");
+        }
+        byte[] exact = new byte[20];
+        expect(Calls.number(Calls.writeStamp(now, exact)) == 0 && Calls.number(Calls.writePhrase(now, exact)) == 0, "room for exactly the text");
+
+        Class<NullPointerException> none = NullPointerException.class;
+        throwsA(none, () -> Calls.read(1, null, now, numbers), "no phrase");
+        throwsA(none, () -> Calls.read(1, today, null, numbers), "no now");
+        throwsA(none, () -> Calls.read(1, today, now, null), "no moment");
+        throwsA(none, () -> Calls.makeReady(1, null, bytes), "no phrase to be made ready");
+        throwsA(none, () -> Calls.makeReady(1, today, null), "no room for a ready phrase");
+        throwsA(none, () -> Calls.run(null, now, numbers), "no ready phrase");
+        throwsA(none, () -> Calls.run(bytes, null, numbers), "no now to run at");
+        throwsA(none, () -> Calls.run(bytes, now, null), "no moment to run to");
+        throwsA(none, () -> Calls.readStamp(null, numbers), "no text");
+        throwsA(none, () -> Calls.readStamp(today, null), "no stamp to read to");
+        throwsA(none, () -> Calls.writeStamp(null, bytes), "no stamp");
+        throwsA(none, () -> Calls.writeStamp(now, null), "no room for a stamp");
+        throwsA(none, () -> Calls.findWord(1, null, numbers), "no word");
+        throwsA(none, () -> Calls.findWord(1, today, null), "nothing to find to");
+        throwsA(none, () -> Calls.writePhrase(null, bytes), "no moment to show");
+        throwsA(none, () -> Calls.writePhrase(now, null), "no room for a phrase");
+        throwsA(none, () -> Calls.list(null, now, numbers), "no rule");
+        throwsA(none, () -> Calls.list(today, null, numbers), "no start");
+        throwsA(none, () -> Calls.list(today, now, null), "nothing to list to");
+        throwsA(none, () -> Calls.next(null, now, now, numbers), "no rule to be asked");
+        throwsA(none, () -> Calls.next(today, null, now, numbers), "no start to be asked from");
+        throwsA(none, () -> Calls.next(today, now, null, numbers), "no asked moment");
+        throwsA(none, () -> Calls.next(today, now, now, null), "no moment that comes next");
+
+        Class<ArrayIndexOutOfBoundsException> few = ArrayIndexOutOfBoundsException.class;
+        throwsA(few, () -> Calls.read(1, today, new int[6], numbers), "a now of six numbers");
+        throwsA(few, () -> Calls.read(1, today, now, new int[6]), "a moment of six numbers");
+        throwsA(few, () -> Calls.makeReady(1, today, new byte[Calls.READY_SIZE - 1]), "a short ready phrase");
+        throwsA(few, () -> Calls.run(bytes, new int[0], numbers), "a now of no numbers");
+        throwsA(few, () -> Calls.run(bytes, now, new int[0]), "a moment of no numbers");
+        throwsA(few, () -> Calls.readStamp(today, new int[8]), "a stamp of eight numbers");
+        throwsA(few, () -> Calls.writeStamp(new int[8], bytes), "eight numbers of a stamp");
+        throwsA(few, () -> Calls.findWord(1, today, new int[1]), "one number to find to");
+        throwsA(few, () -> Calls.writePhrase(new int[6], bytes), "six numbers of a moment");
+        throwsA(few, () -> Calls.list(today, new int[6], numbers), "six numbers of a start");
+        throwsA(few, () -> Calls.next(today, new int[6], now, numbers), "six numbers of a start to be asked from");
+        throwsA(few, () -> Calls.next(today, now, new int[6], numbers), "six numbers of an asked moment");
+        throwsA(few, () -> Calls.next(today, now, now, new int[6]), "six numbers for what comes next");
+        for (byte b : bytes) {
+            expect(b == (byte) 0xa5, "bytes written by a refused call");
+        }
+        for (int n : numbers) {
+            expect(n == 0xa5, "numbers written by a refused call");
+        }
+    }
+
+    private void nulls() throws Refusal {
+        Class<NullPointerException> none = NullPointerException.class;
+        byte[] phrase = {'5'}, ready = Fuzzydate.makeReady(Reading.FIRST, "today");
+        throwsA(none, () -> Fuzzydate.read(null, phrase, NOW), "no reading");
+        throwsA(none, () -> Fuzzydate.read(Reading.FIRST, (byte[]) null, NOW), "no phrase");
+        throwsA(none, () -> Fuzzydate.read(Reading.FIRST, (String) null, NOW), "no String");
+        throwsA(none, () -> Fuzzydate.read(Reading.FIRST, phrase, null), "no now");
+        throwsA(none, () -> Fuzzydate.makeReady(null, phrase), "no reading to be made ready in");
+        throwsA(none, () -> Fuzzydate.makeReady(Reading.FIRST, (byte[]) null), "no phrase to be made ready");
+        throwsA(none, () -> Fuzzydate.run(null, NOW), "no ready phrase");
+        throwsA(none, () -> Fuzzydate.run(ready, null), "no now to run at");
+        throwsA(none, () -> Fuzzydate.readStamp((byte[]) null), "no text");
+        throwsA(none, () -> Fuzzydate.writeStamp(null), "no stamp");
+        throwsA(none, () -> new Stamp(null, Offset.UNKNOWN), "no moment of a stamp");
+        throwsA(none, () -> new Stamp(NOW, null), "no offset of a stamp");
+        throwsA(none, () -> Stamp.of(null), "no OffsetDateTime");
+        throwsA(none, () -> Fuzzydate.findWord(null, phrase), "no reading of a word");
+        throwsA(none, () -> Fuzzydate.findWord(Reading.FIRST, (byte[]) null), "no word");
+        throwsA(none, () -> Fuzzydate.writePhrase(null), "no moment to show");
+        throwsA(none, () -> Fuzzydate.occurrences((byte[]) null, NOW, 1), "no rule");
+        throwsA(none, () -> Fuzzydate.occurrences((String) null, NOW, 1), "no String of a rule");
+        throwsA(none, () -> Fuzzydate.occurrences("FREQ=DAILY", null, 1), "no start");
+        throwsA(none, () -> Fuzzydate.next((byte[]) null, NOW, NOW), "no rule to be asked");
+        throwsA(none, () -> Fuzzydate.next("FREQ=DAILY", null, NOW), "no start to be asked from");
+        throwsA(none, () -> Fuzzydate.next("FREQ=DAILY", NOW, null), "no asked moment");
+    }
+
+    /** A call that may be refused, with one of these reasons; and whether it was. */
+    private boolean refusedWithin(Reason first, Reason last, Call call) {
+        try {
+            expect(call.run() != null, "an answer");
+            return false;
+        } catch (Refusal refusal) {
+            expect(refusal.reason().compareTo(first) >= 0 && refusal.reason().compareTo(last) <= 0, "the reason " + refusal.reason());
+            expect(refusal.place() >= 0 && refusal.part().length <= 256, "place and part");
+            return true;
+        }
+    }
+
+    private static byte[] flipped(byte[] bytes, int bit) {
+        byte[] damaged = bytes.clone();
+        damaged[bit / 8] ^= (byte) (1 << bit % 8);
+        return damaged;
+    }
+
+    private void garbage(long seed) throws Refusal {
+        Random random = new Random(seed);
+        for (int length = 0; length <= 400; length++) {
+            byte[] bytes = new byte[length];
+            random.nextBytes(bytes);
+            refusal(Reason.NO_SENSE, () -> Fuzzydate.run(bytes, NOW), "random bytes as a ready phrase");
+            refusal(Reason.NO_STAMP, () -> Fuzzydate.readStamp(bytes), "random bytes as a stamp");
+            unlisted(bytes, TUESDAY, Reason.NO_RULE, "no repeating rule that is taken");
+            for (Reading reading : Reading.values()) {
+                refusedWithin(Reason.TOO_LONG, Reason.NO_LEAP_DAY, () -> Fuzzydate.read(reading, bytes, NOW));
+                refusedWithin(Reason.TOO_LONG, Reason.LEFT_OVER, () -> Fuzzydate.makeReady(reading, bytes));
+                expect(Fuzzydate.findWord(reading, bytes).comparisons() <= 8, "comparisons");
+            }
+        }
+        byte[] ready = Fuzzydate.makeReady(Reading.SECOND, "2 months before 3 weeks after tomorrow at 5:00");
+        byte[] text = "2026-02-11T09:30:15.250-05:00".getBytes(StandardCharsets.US_ASCII);
+        int kept = 0;
+        for (int bit = 0; bit < 8 * ready.length; bit++) {
+            byte[] damaged = flipped(ready, bit);
+            kept += refusedWithin(Reason.NO_SENSE, Reason.NO_LEAP_DAY, () -> Fuzzydate.run(damaged, NOW)) ? 0 : 1;
+        }
+        expect(kept > 0, "steps by other amounts");
+        for (int bit = 0; bit < 8 * text.length; bit++) {
+            byte[] damaged = flipped(text, bit);
+            refusedWithin(Reason.OUTSIDE, Reason.NO_STAMP, () -> Fuzzydate.readStamp(damaged));
+        }
+        damagedRules();
+    }
+
+    /** A rule with a bit changed, as of another number, is refused by both calls alike, or begins with the start in both. */
+    private void damagedRules() {
+        byte[] rule = (TUESDAYS + ";COUNT=3").getBytes(StandardCharsets.US_ASCII);
+        int kept = 0;
+        for (int bit = 0; bit < 8 * rule.length; bit++) {
+            byte[] damaged = flipped(rule, bit);
+            Call list = () -> Fuzzydate.occurrences(damaged, TUESDAY, 1).equals(Collections.singletonList(TUESDAY)) ? damaged : null;
+            Call next = () -> Fuzzydate.next(damaged, TUESDAY, TUESDAY).equals(TUESDAY) ? damaged : null;
+            boolean unlisted = refusedWithin(Reason.NO_RULE, Reason.NO_START, list);
+            same(refusedWithin(Reason.NO_RULE, Reason.NO_START, next), unlisted, "whether a damaged rule is refused");
+            kept += unlisted ? 0 : 1;
+        }
+        expect(kept > 0, "other rules");
+    }
+
+    private Every all(long seed) throws Refusal {
+        moments();
+        refusals();
+        above127();
+        stamps();
+        offsets();
+        words();
+        phrases();
+        rules();
+        refusedRules();
+        rows();
+        nanoseconds();
+        calls();
+        nulls();
+        garbage(seed);
+        same(seen, EnumSet.allOf(Reason.class), "the reasons seen");
+        return this;
+    }
+
+    public static void main(String[] arguments) throws Exception {
+        Every first = new Every().all(0);
+        first.longest();
+        List<Callable<Void>> threads = new ArrayList<>();
+        for (int i = 0; i < THREADS; i++) {
+            int begin = 1 + i * ROUNDS;
+            threads.add(() -> {
+                for (int seed = begin; seed < begin + ROUNDS; seed++) {
+                    new Every().all(seed);
+                }
+                return null;
+            });
+        }
+        ExecutorService pool = Executors.newFixedThreadPool(THREADS);
+        List<Future<Void>> ended = pool.invokeAll(threads);
+        pool.shutdown();
+        for (Future<Void> end : ended) {
+            end.get();
+        }
+        System.out.println("bindings/java: every call answered as it should, by " + first.checks + " checks, and " + ROUNDS + " times in each of " + THREADS
+                + " threads at once");
+    }
+}

@@ -1,0 +1,266 @@
+"""Every function with good, damaged and empty input, each refusal once, in eight threads too: every.py FUZZY_H."""
+
+import ctypes
+import random
+import re
+import sys
+from concurrent.futures import ThreadPoolExecutor
+from datetime import datetime, timedelta, timezone
+
+import fuzzydate
+from fuzzydate import FoundWord, Reading, Reason, Refusal, Stamp
+
+NOW = datetime(2026, 2, 11, 9, 30, 15, 250_000)
+LEAP_DAY = datetime(2024, 2, 29, 12)
+WHOLE = datetime(2026, 3, 4, 9, 5)
+TUESDAY = datetime(2026, 2, 10, 9, 30, 15, 250_000)
+TUESDAYS = "FREQ=WEEKLY;INTERVAL=2;BYDAY=TU"
+MILLISECOND = timedelta(milliseconds=1)
+THREADS = 8
+
+
+def expect(holds, what):
+    if not holds:
+        raise AssertionError(what)
+
+
+def raises(kind, call, *arguments):
+    try:
+        given = call(*arguments)
+    except kind as error:
+        return error
+    raise AssertionError(f"{call.__name__}{arguments} gives {given}")
+
+
+def refused(reason, call, *arguments):
+    refusal = raises(Refusal, call, *arguments)
+    expect(refusal.reason == reason, f"{call.__name__}{arguments}: {refusal.reason!r}")
+    return refusal
+
+
+def moments():
+    cases = [
+        ("next friday", datetime(2026, 2, 20, 9, 30, 15, 250_000), datetime(2026, 2, 20, 9, 30, 15, 250_000)),
+        ("5/2 at noon", datetime(2026, 5, 2, 12), datetime(2026, 5, 2, 12)),
+        ("tuesday in two weeks", datetime(2026, 1, 27, 9, 30, 15, 250_000), datetime(2026, 3, 3, 9, 30, 15, 250_000)),
+    ]
+    for phrase, first, second in cases:
+        for reading, moment in [(1, first), (Reading.SECOND, second)]:
+            for form in (phrase, phrase.encode(), bytearray(phrase.encode())):
+                expect(fuzzydate.read(reading, form, NOW) == moment, phrase)
+                ready = fuzzydate.make_ready(reading, form)
+                expect(fuzzydate.run(ready, NOW) == moment, phrase + ", made ready")
+                refused(Reason.NO_SENSE, fuzzydate.run, ready[:-1], NOW)
+    expect(fuzzydate.read(1, "today", datetime.max.replace(microsecond=999_000)).year == 9999, "the last moment")
+
+
+def refusals():
+    cases = [
+        (b" " * 257, Reason.TOO_LONG, 0, b"", "longer than 256 bytes"),
+        (b"forty days ago", Reason.UNKNOWN, 0, b"forty", "not understood: b'forty' at byte 0"),
+        (b"in\0two days", Reason.UNKNOWN, 2, b"\0", "not understood: b'\\x00' at byte 2"),
+        ("at \u00e9", Reason.UNKNOWN, 3, b"\xc3", "not understood: b'\\xc3' at byte 3"),
+        (b"4294967296 days ago", Reason.LARGE_DIGITS, 0, b"4294967296", "number too large: b'4294967296' at byte 0"),
+        (b"1 " * 65, Reason.TOO_MANY, 128, b"1", "more than 64 words, numbers and marks: b'1' at byte 128"),
+        (b"", Reason.NOTHING, 0, b"", "no date or time in it"),
+        (b"five billion days ago", Reason.LARGE_SUM, 0, b"", "number in words too large"),
+        (b"5/2", Reason.LEFT_OVER, 1, b"/2", "not part of the date or time: b'/2' at byte 1"),
+        (b"this month", Reason.NO_SENSE, 0, b"", "has no sense"),
+        (b"1000/1/1", Reason.NO_DATE, 0, b"", "no such month or day"),
+        (b"january 1, 99", Reason.NO_TIME, 0, b"", "no such time of day"),
+        (b"four billion days ago", Reason.OUTSIDE, 0, b"", "outside the years 1 to 9999"),
+    ]
+    for phrase, reason, place, part, message in cases:
+        refusal = refused(reason, fuzzydate.read, 1, phrase, NOW)
+        expect((refusal.place, refusal.part, str(refusal)) == (place, part, message), str(refusal))
+        if reason <= Reason.LEFT_OVER:
+            expect(str(refused(reason, fuzzydate.make_ready, 1, phrase)) == message, message)
+        else:
+            refused(reason, fuzzydate.run, fuzzydate.make_ready(1, phrase), NOW)
+    for byte in range(128, 256):
+        expect(refused(Reason.UNKNOWN, fuzzydate.read, 2, bytes([byte]), NOW).part == bytes([byte]), "a byte above 127")
+    refused(Reason.NO_LEAP_DAY, fuzzydate.read, 1, "a year from now", LEAP_DAY)
+    refused(Reason.NO_STAMP, fuzzydate.read_stamp, "2026-02-30T09:30:15Z")
+    refused(Reason.OUTSIDE, fuzzydate.read_stamp, b"0000-02-29T00:00:00Z")
+    refused(Reason.NOT_WHOLE, fuzzydate.write_phrase, NOW)
+
+
+def below():
+    """What datetime, Reading and the rooms of this binding keep from arising."""
+    moment, text = (ctypes.c_uint32 * 7)(), ctypes.create_string_buffer(29)
+    answers = {
+        Reason.NO_NOW: fuzzydate._read(1, b"today", 5, 2026, 2, 30, 0, 0, 0, 0, moment),
+        Reason.NO_READING: fuzzydate._read(3, b"today", 5, 2026, 2, 11, 0, 0, 0, 0, moment),
+        Reason.NO_ROOM: fuzzydate._write_phrase(2026, 3, 4, 9, 5, 0, 0, text, 19),
+    }
+    for reason, answer in answers.items():
+        refused(reason, fuzzydate._checked, answer)
+    expect(list(moment) == [0] * 7 and text.raw == bytes(29), "nothing written")
+
+
+def stamps():
+    cases = [
+        ("2026-02-11t09:30:15z", 0, "2026-02-11T09:30:15Z"),
+        ("2026-02-11T09:30:15-00:00", None, "2026-02-11T09:30:15-00:00"),
+        ("2026-02-11T09:30:15.5-05:00", -300, "2026-02-11T09:30:15.500-05:00"),
+        ("2026-02-11T09:30:15.05+23:59", 1439, "2026-02-11T09:30:15.050+23:59"),
+    ]
+    for text, offset, written in cases:
+        stamp = fuzzydate.read_stamp(text)
+        expect(stamp.offset == offset and fuzzydate.write_stamp(stamp) == written, text)
+        zone = None if offset is None else timezone(timedelta(minutes=offset))
+        expect(stamp.aware() == (None if offset is None else stamp.moment.replace(tzinfo=zone)), text)
+    for offset in (1440, -1440, 2**32, -(2**32), 2**64 + 5):
+        refused(Reason.NO_STAMP, fuzzydate.write_stamp, Stamp(WHOLE, offset))
+
+
+def words():
+    cases = [(1, "Friday", 123, 7), (2, b"th", 160, 4), (1, "forty", None, 7), (2, "FORTY", 40, 5), (1, b"", None, 7), (2, b"fri\xff", None, 7)]
+    for reading, word, code, comparisons in cases:
+        expect(fuzzydate.find_word(reading, word) == FoundWord(code, comparisons), word)
+
+
+def phrases():
+    expect(fuzzydate.write_phrase(WHOLE) == "march 4 2026 at 9:05", "a phrase")
+    for moment in (WHOLE, LEAP_DAY, datetime(9999, 9, 30, 23, 59)):
+        for reading in Reading:
+            expect(fuzzydate.read(reading, fuzzydate.write_phrase(moment), NOW) == moment, "a phrase that was shown")
+
+
+def rules():
+    def on(month, day):
+        return TUESDAY.replace(month=month, day=day)
+
+    cases = [
+        (TUESDAYS, 3, [TUESDAY, on(2, 24), on(3, 10)]),
+        (b"freq=weekly;byday=su,tu,su;interval=02", 4, [TUESDAY, on(2, 15), on(2, 24), on(3, 1)]),
+        ("FREQ=DAILY;UNTIL=20260212", 1000, [TUESDAY, on(2, 11), on(2, 12)]),
+        (bytearray(b"FREQ=DAILY;UNTIL=20260212T093015"), 9, [TUESDAY, on(2, 11)]),
+        ("FREQ=MONTHLY;COUNT=2", 9, [TUESDAY, on(3, 10)]),
+        (TUESDAYS, 0, []),
+    ]
+    for rule, most, wanted in cases:
+        expect(fuzzydate.occurrences(rule, TUESDAY, most) == wanted, rule)
+        for moment, following in zip(wanted, wanted[1:] + [None]):
+            expect(fuzzydate.next(rule, TUESDAY, moment) == moment, rule)
+            if following is not None:
+                expect(fuzzydate.next(rule, TUESDAY, moment + MILLISECOND) == following, rule)
+            elif len(wanted) < most:
+                refused(Reason.NO_NEXT, fuzzydate.next, rule, TUESDAY, moment + MILLISECOND)
+    last = TUESDAY.replace(year=9999, month=12, day=31)
+    expect(fuzzydate.occurrences("FREQ=DAILY", last.replace(day=30), 9) == [last.replace(day=30), last], "the last days")
+    expect(fuzzydate.next("FREQ=DAILY", TUESDAY, last) == last, "the last day")
+    refused(Reason.NO_NEXT, fuzzydate.next, "FREQ=DAILY", TUESDAY, last + MILLISECOND)
+    for asked in (datetime.min, TUESDAY - MILLISECOND):
+        expect(fuzzydate.next(TUESDAYS, TUESDAY, asked) == TUESDAY, "asked before the start")
+
+
+def unlisted(reason, rule):
+    """A rule that both calls refuse alike, with room and without."""
+    for most in (0, 2):
+        refused(reason, fuzzydate.occurrences, rule, TUESDAY, most)
+    refused(reason, fuzzydate.next, rule, TUESDAY, TUESDAY)
+
+
+def refused_rules():
+    for rule in ("", "FREQ=YEARLY", "RRULE:FREQ=DAILY", "FREQ=DAILY;", "FREQ=DAILY;COUNT=0", b"FREQ=DAILY\0", "FREQ=DAILY\u00e9"):
+        unlisted(Reason.NO_RULE, rule)
+    for rule in ("FREQ=WEEKLY;BYDAY=MO", "FREQ=MONTHLY;BYMONTHDAY=31", "FREQ=DAILY;UNTIL=20260210T093015"):
+        unlisted(Reason.NO_START, rule)
+
+
+def rows():
+    """What is lent to listing and asking: rows at the front, all else as before, and nothing on a refusal."""
+    start, daily, once, mondays = (2026, 2, 10, 9, 30, 15, 250), b"FREQ=DAILY", b"FREQ=DAILY;COUNT=1", b"FREQ=WEEKLY;BYDAY=MO"
+    later, no_day = (2026, 2, 11, 9, 30, 15, 250), (2026, 2, 29, 9, 30, 15, 250)
+    kept = [0xA5] * 20
+    for rule, given, answer, written in [
+        (daily, start, 2 << 32, [*start, *later]),
+        (once, start, 1 << 32, [*start]),
+        (b"FREQ=YEARLY", start, Reason.NO_RULE, []),
+        (mondays, start, Reason.NO_START, []),
+        (b"FREQ=YEARLY", no_day, Reason.NO_NOW, []),
+    ]:
+        lent = (ctypes.c_uint32 * 20)(*kept)
+        expect(fuzzydate._list(rule, len(rule), *given, lent, 20) == answer, rule)
+        expect(list(lent) == written + kept[len(written) :], rule)
+    for rule, given, asked, answer, written in [
+        (daily, start, later, 0, [*later]),
+        (once, start, later, Reason.NO_NEXT, []),
+        (b"FREQ=YEARLY", start, later, Reason.NO_RULE, []),
+        (mondays, start, later, Reason.NO_START, []),
+        (mondays, no_day, later, Reason.NO_NOW, []),
+        (daily, start, no_day, Reason.NO_NOW, []),
+    ]:
+        lent = (ctypes.c_uint32 * 20)(*kept)
+        expect(fuzzydate._next(rule, len(rule), *given, *asked, lent) == answer, rule)
+        expect(list(lent) == written + kept[len(written) :], rule)
+
+
+def longest():
+    """The most that can be wanted."""
+    months = fuzzydate.occurrences("FREQ=MONTHLY", datetime.min, 2**70)
+    expect(len(months) == 12 * 9999 and months[-1] == datetime(9999, 12, 1), "all months")
+
+
+def misused():
+    ready = fuzzydate.make_ready(1, "today")
+    for now in (NOW.replace(microsecond=1), NOW.replace(tzinfo=timezone.utc)):
+        raises(ValueError, fuzzydate.read, 1, "today", now)
+        raises(ValueError, fuzzydate.run, ready, now)
+        raises(ValueError, fuzzydate.write_phrase, now)
+        raises(ValueError, fuzzydate.write_stamp, Stamp(now, 0))
+        raises(ValueError, fuzzydate.occurrences, TUESDAYS, now, 1)
+        raises(ValueError, fuzzydate.next, TUESDAYS, now, TUESDAY)
+        raises(ValueError, fuzzydate.next, TUESDAYS, TUESDAY, now)
+    for reading in (0, 3, None, 2**32 + 1):
+        raises(ValueError, fuzzydate.read, reading, "today", NOW)
+    for phrase in (None, 5):
+        raises(TypeError, fuzzydate.read, 1, phrase, NOW)
+        raises(TypeError, fuzzydate.make_ready, 1, phrase)
+        raises(TypeError, fuzzydate.run, phrase, NOW)
+        raises(TypeError, fuzzydate.read_stamp, phrase)
+        raises(TypeError, fuzzydate.find_word, 1, phrase)
+        raises(TypeError, fuzzydate.occurrences, phrase, TUESDAY, 1)
+        raises(TypeError, fuzzydate.next, phrase, TUESDAY, TUESDAY)
+    raises(UnicodeEncodeError, fuzzydate.read, 1, "\ud800", NOW)
+    raises(AttributeError, fuzzydate.read, 1, "today", None)
+    raises(ValueError, fuzzydate.occurrences, TUESDAYS, TUESDAY, -1)
+
+
+def garbage(seed):
+    chosen = random.Random(seed)
+    for length in range(401):
+        some = chosen.randbytes(length)
+        refused(Reason.NO_SENSE, fuzzydate.run, some, NOW)
+        refused(Reason.NO_STAMP, fuzzydate.read_stamp, some)
+        unlisted(Reason.NO_RULE, some)
+        expect(fuzzydate.find_word(2, some).comparisons <= 8, "comparisons")
+        try:
+            fuzzydate.read(2, some, NOW)
+        except Refusal as refusal:
+            expect(some[refusal.place :].startswith(refusal.part), "a part")
+
+
+def as_the_header(header):
+    """The names, numbers and words of the refusals, and the sizes, are those of fuzzy.h."""
+    numbers = dict(re.findall(r"^ *FUZZY_(\w+) = (\d+),? +/\*", header, re.M))
+    said = dict(re.findall(r"case FUZZY_(\w+): return \"(.*)\";", header))
+    expect({r.name: (str(r.value), r.words) for r in Reason} == {name: (numbers[name], said[name]) for name in numbers}, "refusals of the header")
+    sizes = re.findall(r"^#define FUZZY_(\w+) (\d+)$", header, re.M)
+    expect(sizes != [] and all(getattr(fuzzydate, "_" + name) == int(size) for name, size in sizes), "sizes of the header")
+
+
+def every(seed):
+    for part in (moments, refusals, below, stamps, words, phrases, rules, refused_rules, rows, misused):
+        part()
+    garbage(seed)
+
+
+with open(sys.argv[1]) as header:
+    as_the_header(header.read())
+every(0)
+longest()
+with ThreadPoolExecutor(THREADS) as pool:
+    list(pool.map(every, range(1, 1 + 2 * THREADS)))
+print(f"bindings/python: every call answered as it should, and in {THREADS} threads at once")

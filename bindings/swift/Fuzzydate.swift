@@ -1,0 +1,192 @@
+// Reminder phrases such as "next friday at 3 pm", read at a now that the caller gives. A phrase is its bytes; a String stands for its UTF-8. Any bytes
+// and any numbers get an answer: what the call gives, or a Refusal, which is thrown. All functions may run in any thread.
+import CFuzzydate
+
+/// A date and time of the years 1 to 9999, with milliseconds from 0 to 999. Other numbers may stand here too: such a moment is refused.
+public struct Moment: Hashable, Sendable {
+    public var year, month, day, hour, minute, second, millisecond: UInt32
+
+    public init(year: UInt32, month: UInt32, day: UInt32, hour: UInt32, minute: UInt32, second: UInt32, millisecond: UInt32) {
+        (self.year, self.month, self.day) = (year, month, day)
+        (self.hour, self.minute, self.second, self.millisecond) = (hour, minute, second, millisecond)
+    }
+
+    /// The moment of the numbers at the front.
+    fileprivate init(_ n: [UInt32]) {
+        self.init(year: n[0], month: n[1], day: n[2], hour: n[3], minute: n[4], second: n[5], millisecond: n[6])
+    }
+}
+
+/// The two readings of a phrase; the first is the Rust library's.
+public enum Reading: UInt32, Sendable {
+    case first = 1, second
+}
+
+/// Why something is refused, under the names and in the order of fuzzy.h, which says more of each.
+public enum Reason: UInt32, Sendable {
+    case tooLong = 1, unknown, largeDigits, tooMany, nothing, largeSum, leftOver, noNow, noSense, noDate, noTime, outside, noLeapDay
+    case noStamp, noReading, notWhole, noRoom, noRule, noStart, noNext
+
+    /// What is wrong, in plain words.
+    public var words: String { String(cString: fuzzy_word(rawValue)) }
+}
+
+/// A refusal: the reason, the place in the phrase, counted in bytes, and the offending part of the phrase, which may be empty.
+public struct Refusal: Error, Hashable {
+    public let reason: Reason
+    public let place: Int
+    public let part: [UInt8]
+}
+
+/// A distance from UTC in minutes, 0 to 1439.
+public enum Offset: Hashable, Sendable {
+    /// By 0 minutes it is "Z".
+    case east(UInt32)
+    /// By 0 minutes it is written as `unknown` is.
+    case west(UInt32)
+    /// "-00:00": the moment is UTC, and where it was written is not known.
+    case unknown
+}
+
+/// A civil moment as RFC 3339 text has it, and its offset.
+public struct Stamp: Hashable, Sendable {
+    public var moment: Moment
+    public var offset: Offset
+
+    public init(moment: Moment, offset: Offset) {
+        (self.moment, self.offset) = (moment, offset)
+    }
+}
+
+/// What looking a word up says: its lexeme's code, none where the reading has no such word, and how many words it was compared with.
+public struct FoundWord: Hashable, Sendable {
+    public let code: UInt32?
+    public let comparisons: UInt32
+}
+
+public enum Fuzzydate {
+    /// A phrase at a now. Where it states a time, noon and midnight too, second and millisecond are 0; else they are now's.
+    public static func read(_ reading: Reading, _ phrase: [UInt8], now n: Moment) throws -> Moment {
+        var moment = numbers(FUZZY_MOMENT_NUMBERS)
+        let answer = fuzzy_read(
+            reading.rawValue, phrase, phrase.count, n.year, n.month, n.day, n.hour, n.minute, n.second, n.millisecond, &moment)
+        _ = try checked(answer, phrase)
+        return Moment(moment)
+    }
+
+    public static func read(_ reading: Reading, _ phrase: String, now: Moment) throws -> Moment {
+        try read(reading, Array(phrase.utf8), now: now)
+    }
+
+    /// A phrase made ready without a now, in bytes that can be stored and sent.
+    public static func makeReady(_ reading: Reading, _ phrase: [UInt8]) throws -> [UInt8] {
+        var ready = bytes(FUZZY_READY_SIZE)
+        let length = try checked(fuzzy_make_ready(reading.rawValue, phrase, phrase.count, &ready), phrase)
+        return Array(ready.prefix(length))
+    }
+
+    public static func makeReady(_ reading: Reading, _ phrase: String) throws -> [UInt8] {
+        try makeReady(reading, Array(phrase.utf8))
+    }
+
+    /// A ready phrase at a now: what `read` gives for its phrase at that now, in the reading that it was made in.
+    public static func run(_ ready: [UInt8], now n: Moment) throws -> Moment {
+        var moment = numbers(FUZZY_MOMENT_NUMBERS)
+        _ = try checked(fuzzy_run(ready, ready.count, n.year, n.month, n.day, n.hour, n.minute, n.second, n.millisecond, &moment))
+        return Moment(moment)
+    }
+
+    /// A text as an RFC 3339 stamp, all of it, with letters in either case, and behind the second a fraction of one to three digits or none.
+    public static func readStamp(_ text: [UInt8]) throws -> Stamp {
+        var stamp = numbers(FUZZY_STAMP_NUMBERS)
+        _ = try checked(fuzzy_read_stamp(text, text.count, &stamp))
+        let offset: Offset = stamp[7] == 0 ? .east(stamp[8]) : stamp[8] == 0 ? .unknown : .west(stamp[8])
+        return Stamp(moment: Moment(stamp), offset: offset)
+    }
+
+    public static func readStamp(_ text: String) throws -> Stamp {
+        try readStamp(Array(text.utf8))
+    }
+
+    /// A stamp as text, which reads back as the same stamp.
+    public static func writeStamp(_ stamp: Stamp) throws -> String {
+        let m = stamp.moment
+        let (west, minutes): (UInt32, UInt32)
+        switch stamp.offset {
+        case .east(let east): (west, minutes) = (0, east)
+        case .west(let other): (west, minutes) = (1, other)
+        case .unknown: (west, minutes) = (1, 0)
+        }
+        var text = bytes(FUZZY_STAMP_SIZE)
+        let answer = fuzzy_write_stamp(m.year, m.month, m.day, m.hour, m.minute, m.second, m.millisecond, west, minutes, &text, text.count)
+        return String(decoding: text.prefix(try checked(answer)), as: UTF8.self)
+    }
+
+    /// Looks a word up while it is typed, with letters in either case, by at most 8 comparisons.
+    public static func findWord(_ reading: Reading, _ word: [UInt8]) -> FoundWord {
+        var found = numbers(FUZZY_FOUND_NUMBERS)
+        _ = fuzzy_find_word(reading.rawValue, word, word.count, &found)  // refused only for a reading that Reading cannot be
+        return FoundWord(code: found[0] == 0 ? nil : found[0], comparisons: found[1])
+    }
+
+    public static func findWord(_ reading: Reading, _ word: String) -> FoundWord {
+        findWord(reading, Array(word.utf8))
+    }
+
+    /// A moment of whole minutes as a phrase for people to edit, which `read` gives back at every now.
+    public static func writePhrase(_ m: Moment) throws -> String {
+        var text = bytes(FUZZY_PHRASE_SIZE)
+        let answer = fuzzy_write_phrase(m.year, m.month, m.day, m.hour, m.minute, m.second, m.millisecond, &text, text.count)
+        return String(decoding: text.prefix(try checked(answer)), as: UTF8.self)
+    }
+
+    /// The first occurrences of a repeating rule of RFC 5545 from a start on, in order, up to so many: the start itself, and then every one at its time of
+    /// day, as far as COUNT, UNTIL and year 9999 allow. The rule is its text, as "FREQ=WEEKLY;INTERVAL=2;BYDAY=TU"; fuzzy.h says which are taken. Room is
+    /// asked for as many as are wanted at most, whatever the rule has.
+    public static func occurrences(_ rule: [UInt8], from s: Moment, most: UInt) throws -> [Moment] {
+        let size = Int(FUZZY_MOMENT_NUMBERS)
+        var moments = numbers(FUZZY_MOMENT_NUMBERS * Int32(min(most, days)))
+        let answer = fuzzy_list(
+            rule, rule.count, s.year, s.month, s.day, s.hour, s.minute, s.second, s.millisecond, &moments, moments.count)
+        return (0..<(try checked(answer))).map { Moment(Array(moments[size * $0..<size * ($0 + 1)])) }
+    }
+
+    public static func occurrences(_ rule: String, from start: Moment, most: UInt) throws -> [Moment] {
+        try occurrences(Array(rule.utf8), from: start, most: most)
+    }
+
+    /// Which occurrence comes next: of those from a start on the first at or after the asked moment, found without the ones before it. Where none is left,
+    /// by COUNT, UNTIL or year 9999, it is refused.
+    public static func next(_ rule: [UInt8], from s: Moment, asked a: Moment) throws -> Moment {
+        var moment = numbers(FUZZY_MOMENT_NUMBERS)
+        let answer = fuzzy_next(
+            rule, rule.count, s.year, s.month, s.day, s.hour, s.minute, s.second, s.millisecond, a.year, a.month, a.day, a.hour, a.minute, a.second,
+            a.millisecond, &moment)
+        _ = try checked(answer)
+        return Moment(moment)
+    }
+
+    public static func next(_ rule: String, from start: Moment, asked: Moment) throws -> Moment {
+        try next(Array(rule.utf8), from: start, asked: asked)
+    }
+
+    /// The days of the calendar: no rule has more occurrences.
+    private static let days: UInt = 3_652_059
+
+    private static func numbers(_ count: Int32) -> [UInt32] {
+        Array(repeating: 0, count: Int(count))
+    }
+
+    private static func bytes(_ count: Int32) -> [UInt8] {
+        Array(repeating: 0, count: Int(count))
+    }
+
+    /// The length of an answer, unless it is a refusal: that is thrown, with its part of the phrase.
+    private static func checked(_ answer: UInt64, _ phrase: [UInt8] = []) throws -> Int {
+        let number = fuzzy_number(answer), place = fuzzy_place(answer), length = fuzzy_length(answer)
+        if number == 0 {
+            return length
+        }
+        throw Refusal(reason: Reason(rawValue: number)!, place: place, part: Array(phrase[place..<place + length]))
+    }
+}

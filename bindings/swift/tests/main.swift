@@ -1,0 +1,203 @@
+// Every function with good, damaged and empty input, each refusal that can arise here, and all of it in eight threads.
+import CFuzzydate
+import Dispatch
+
+let now = Moment(year: 2026, month: 2, day: 11, hour: 9, minute: 30, second: 15, millisecond: 250)
+let leapDay = Moment(year: 2024, month: 2, day: 29, hour: 12, minute: 0, second: 0, millisecond: 0)
+let whole = Moment(year: 2026, month: 3, day: 4, hour: 9, minute: 5, second: 0, millisecond: 0)
+let noNow = Moment(year: 2026, month: 2, day: 30, hour: 0, minute: 0, second: 0, millisecond: 0)
+
+func expect(_ holds: Bool, _ what: String) {
+    if !holds {
+        fatalError(what)
+    }
+}
+
+func refusal(_ reason: Reason, _ what: String, _ call: () throws -> Any) -> Refusal {
+    do {
+        let given = try call()
+        fatalError("\(what) gives \(given)")
+    } catch let refusal as Refusal {
+        expect(refusal.reason == reason, "\(what): \(refusal)")
+        return refusal
+    } catch {
+        fatalError("\(what): \(error)")
+    }
+}
+
+func moments() throws {
+    let cases: [(String, Reading, Moment)] = [
+        ("next friday", .first, Moment(year: 2026, month: 2, day: 20, hour: 9, minute: 30, second: 15, millisecond: 250)),
+        ("5/2 at noon", .second, Moment(year: 2026, month: 5, day: 2, hour: 12, minute: 0, second: 0, millisecond: 0)),
+        ("tuesday in two weeks", .first, Moment(year: 2026, month: 1, day: 27, hour: 9, minute: 30, second: 15, millisecond: 250)),
+        ("tuesday in two weeks", .second, Moment(year: 2026, month: 3, day: 3, hour: 9, minute: 30, second: 15, millisecond: 250)),
+    ]
+    for (phrase, reading, moment) in cases {
+        expect(try Fuzzydate.read(reading, phrase, now: now) == moment, phrase)
+        let ready = try Fuzzydate.makeReady(reading, phrase)
+        expect(try Fuzzydate.run(ready, now: now) == moment, phrase + ", made ready")
+        _ = refusal(.noSense, phrase + ", cut short") { try Fuzzydate.run(Array(ready.dropLast()), now: now) }
+    }
+}
+
+func refusals() throws {
+    let cases: [([UInt8], Reason, Int, [UInt8])] = [
+        (Array(repeating: 32, count: 257), .tooLong, 0, []),
+        (Array("forty days ago".utf8), .unknown, 0, Array("forty".utf8)),
+        (Array("at \u{e9}".utf8), .unknown, 3, [0xc3]),
+        ([255], .unknown, 0, [255]),
+        (Array("4294967296 days ago".utf8), .largeDigits, 0, Array("4294967296".utf8)),
+        (Array(String(repeating: "1 ", count: 65).utf8), .tooMany, 128, [49]),
+        ([], .nothing, 0, []),
+        (Array("five billion days ago".utf8), .largeSum, 0, []),
+        (Array("5/2".utf8), .leftOver, 1, Array("/2".utf8)),
+        (Array("this month".utf8), .noSense, 0, []),
+        (Array("1000/1/1".utf8), .noDate, 0, []),
+        (Array("january 1, 99".utf8), .noTime, 0, []),
+        (Array("four billion days ago".utf8), .outside, 0, []),
+    ]
+    for (phrase, reason, place, part) in cases {
+        let wanted = Refusal(reason: reason, place: place, part: part)
+        expect(refusal(reason, "\(reason)") { try Fuzzydate.read(.first, phrase, now: now) } == wanted, "\(wanted)")
+        if reason.rawValue <= Reason.leftOver.rawValue {
+            expect(refusal(reason, "\(reason)") { try Fuzzydate.makeReady(.first, phrase) } == wanted, "\(wanted), made ready")
+        }
+    }
+    _ = refusal(.noLeapDay, "29 February") { try Fuzzydate.read(.first, "a year from now", now: leapDay) }
+    _ = refusal(.noNow, "30 February") { try Fuzzydate.read(.first, "today", now: noNow) }
+    _ = refusal(.noNow, "30 February shown") { try Fuzzydate.writePhrase(noNow) }
+    _ = refusal(.notWhole, "seconds shown") { try Fuzzydate.writePhrase(now) }
+    expect(Reason.unknown.words == "not understood" && Reason.noNext.words == "no occurrence is left", "words")
+    expect(Reason(rawValue: 0) == nil && Reason(rawValue: Reason.noNext.rawValue + 1) == nil, "no other reasons")
+}
+
+func stamps() throws {
+    let cases: [(String, Offset, String)] = [
+        ("2026-02-11t09:30:15.25z", .east(0), "2026-02-11T09:30:15.250Z"),
+        ("2026-02-11T09:30:15.25-00:00", .unknown, "2026-02-11T09:30:15.250-00:00"),
+        ("2026-02-11T09:30:15.25-05:00", .west(300), "2026-02-11T09:30:15.250-05:00"),
+        ("2026-02-11T09:30:15.25+23:59", .east(1439), "2026-02-11T09:30:15.250+23:59"),
+    ]
+    for (text, offset, written) in cases {
+        let stamp = try Fuzzydate.readStamp(text)
+        expect(stamp == Stamp(moment: now, offset: offset), text)
+        expect(try Fuzzydate.writeStamp(stamp) == written, text)
+    }
+    expect(try Fuzzydate.writeStamp(Stamp(moment: whole, offset: .west(0))) == "2026-03-04T09:05:00-00:00", "west by 0 minutes")
+    _ = refusal(.noStamp, "an offset of 1440") { try Fuzzydate.writeStamp(Stamp(moment: whole, offset: .east(1440))) }
+    _ = refusal(.noNow, "a stamp of 30 February") { try Fuzzydate.writeStamp(Stamp(moment: noNow, offset: .unknown)) }
+    _ = refusal(.outside, "year 0") { try Fuzzydate.readStamp("0000-02-29T00:00:00Z") }
+}
+
+func wordsAndPhrases() throws {
+    expect(Fuzzydate.findWord(.first, "Friday") == FoundWord(code: 123, comparisons: 7), "Friday")
+    expect(Fuzzydate.findWord(.second, "FORTY") == FoundWord(code: 40, comparisons: 5), "FORTY")
+    expect(Fuzzydate.findWord(.first, "") == FoundWord(code: nil, comparisons: 7), "an empty word")
+    expect(try Fuzzydate.writePhrase(whole) == "march 4 2026 at 9:05", "a phrase")
+    for reading in [Reading.first, .second] {
+        expect(try Fuzzydate.read(reading, Fuzzydate.writePhrase(whole), now: now) == whole, "a phrase that was shown")
+    }
+}
+
+/// A moment of 09:30:15 and so many milliseconds.
+func on(_ year: UInt32, _ month: UInt32, _ day: UInt32, _ millisecond: UInt32 = 250) -> Moment {
+    Moment(year: year, month: month, day: day, hour: 9, minute: 30, second: 15, millisecond: millisecond)
+}
+
+let tuesday = on(2026, 2, 10)
+let tuesdays = "FREQ=WEEKLY;INTERVAL=2;BYDAY=TU"
+
+func rules() throws {
+    let cases: [(String, UInt, [Moment])] = [
+        (tuesdays, 3, [tuesday, on(2026, 2, 24), on(2026, 3, 10)]),
+        ("freq=weekly;byday=su,tu,su;interval=02", 4, [tuesday, on(2026, 2, 15), on(2026, 2, 24), on(2026, 3, 1)]),
+        ("FREQ=DAILY;UNTIL=20260212", 1000, [tuesday, on(2026, 2, 11), on(2026, 2, 12)]),
+        ("FREQ=DAILY;UNTIL=20260212T093015", 9, [tuesday, on(2026, 2, 11)]),
+        ("FREQ=MONTHLY;COUNT=2", 9, [tuesday, on(2026, 3, 10)]),
+        (tuesdays, 0, []),
+    ]
+    for (rule, most, wanted) in cases {
+        expect(try Fuzzydate.occurrences(rule, from: tuesday, most: most) == wanted, rule)
+        for (i, moment) in wanted.enumerated() {
+            expect(try Fuzzydate.next(rule, from: tuesday, asked: moment) == moment, rule + ", asked at an occurrence")
+            var after = moment
+            after.millisecond += 1
+            if i + 1 < wanted.count {
+                expect(try Fuzzydate.next(rule, from: tuesday, asked: after) == wanted[i + 1], rule + ", asked a millisecond after an occurrence")
+            } else if wanted.count < most {
+                _ = refusal(.noNext, rule) { try Fuzzydate.next(rule, from: tuesday, asked: after) }
+            }
+        }
+    }
+    expect(try Fuzzydate.next(tuesdays, from: tuesday, asked: on(1, 1, 1)) == tuesday, "asked before the start")
+    expect(try Fuzzydate.next(tuesdays, from: tuesday, asked: on(2026, 2, 10, 249)) == tuesday, "asked a millisecond before the start")
+    expect(try Fuzzydate.occurrences("FREQ=DAILY", from: on(9999, 12, 30), most: 9) == [on(9999, 12, 30), on(9999, 12, 31)], "the last days")
+    expect(try Fuzzydate.next("FREQ=DAILY", from: tuesday, asked: on(9999, 12, 31)) == on(9999, 12, 31), "the last day")
+    _ = refusal(.noNext, "behind the last day") { try Fuzzydate.next("FREQ=DAILY", from: tuesday, asked: on(9999, 12, 31, 251)) }
+}
+
+/// A rule or a start that both calls refuse alike, with room and without.
+func unlisted(_ rule: [UInt8], _ start: Moment, _ reason: Reason) {
+    let wanted = Refusal(reason: reason, place: 0, part: [])
+    for most: UInt in [0, 2] {
+        expect(refusal(reason, "\(rule)") { try Fuzzydate.occurrences(rule, from: start, most: most) } == wanted, "\(rule)")
+    }
+    expect(refusal(reason, "\(rule)") { try Fuzzydate.next(rule, from: start, asked: tuesday) } == wanted, "\(rule), asked")
+}
+
+func refusedRules() {
+    for rule in ["", "FREQ=YEARLY", "RRULE:FREQ=DAILY", "FREQ=DAILY;", "FREQ=DAILY;COUNT=0", "FREQ=DAILY\0", "FREQ=DAILY\u{e9}"] {
+        unlisted(Array(rule.utf8), tuesday, .noRule)
+    }
+    for rule in ["FREQ=WEEKLY;BYDAY=MO", "FREQ=MONTHLY;BYMONTHDAY=31", "FREQ=DAILY;UNTIL=20260210T093015"] {
+        unlisted(Array(rule.utf8), tuesday, .noStart)
+    }
+    unlisted(Array("FREQ=YEARLY".utf8), noNow, .noNow)
+    unlisted(Array(tuesdays.utf8), on(2026, 2, 10, 1000), .noNow)
+    _ = refusal(.noNow, "asked on 30 February") { try Fuzzydate.next(tuesdays, from: tuesday, asked: noNow) }
+}
+
+/// What is lent to listing and asking: rows at the front, all else as before, and nothing on a refusal.
+func rows() {
+    let cases: [(String, Int, UInt32)] = [("FREQ=DAILY", 2, 0), ("FREQ=DAILY;COUNT=1", 1, 20), ("FREQ=YEARLY", 0, 18), ("FREQ=WEEKLY;BYDAY=MO", 0, 19)]
+    for (rule, count, refused) in cases {
+        let text = Array(rule.utf8), untouched = [UInt32](repeating: 0xa5, count: 20)
+        var listed = untouched, next = untouched
+        let answer = fuzzy_list(text, text.count, 2026, 2, 10, 9, 30, 15, 250, &listed, 20)
+        expect(fuzzy_length(answer) == count && Array(listed[(7 * count)...]) == Array(untouched[(7 * count)...]), rule + ", listed")
+        let asked = fuzzy_next(text, text.count, 2026, 2, 10, 9, 30, 15, 250, 2026, 2, 11, 9, 30, 15, 250, &next)
+        expect(fuzzy_number(asked) == refused && (refused == 0 || next == untouched), rule + ", asked")
+    }
+}
+
+/// The most that can be wanted.
+func longest() throws {
+    let months = try Fuzzydate.occurrences("FREQ=MONTHLY", from: on(1, 1, 1), most: UInt.max)
+    expect(months.count == 12 * 9999 && months.last == on(9999, 12, 1), "all months")
+}
+
+func garbage() {
+    for length in 0...400 {
+        let bytes = (0..<length).map { _ in UInt8.random(in: 0...255) }
+        _ = refusal(.noSense, "random bytes as a ready phrase") { try Fuzzydate.run(bytes, now: now) }
+        _ = refusal(.noStamp, "random bytes as a stamp") { try Fuzzydate.readStamp(bytes) }
+        unlisted(bytes, tuesday, .noRule)
+        expect(Fuzzydate.findWord(.second, bytes).comparisons <= 8, "comparisons")
+    }
+}
+
+func every() throws {
+    try moments()
+    try refusals()
+    try stamps()
+    try wordsAndPhrases()
+    try rules()
+    refusedRules()
+    rows()
+    garbage()
+}
+
+try every()
+try longest()
+DispatchQueue.concurrentPerform(iterations: 8) { _ in try! every() }
+print("bindings/swift: every call answered as it should, and in eight threads at once")
