@@ -154,8 +154,9 @@ uint64_t fuzzy_next(const uint8_t *rule, size_t rule_length, uint32_t year, uint
 /* What the calls for boards below are made of: the same calls on a board's parts. */
 uint64_t fuzzy_board_make_in(uint32_t lengths[FUZZY_BOARD_SLOTS], uint32_t state[FUZZY_MOMENT_NUMBERS + 1], uint32_t year, uint32_t month,
                              uint32_t day, uint32_t hour, uint32_t minute, uint32_t second, uint32_t millisecond);
-uint64_t fuzzy_board_add_in(uint32_t reading, const uint8_t *phrase, size_t phrase_length, uint8_t ready[FUZZY_BOARD_SLOTS * FUZZY_READY_SIZE],
-                            uint32_t lengths[FUZZY_BOARD_SLOTS], uint64_t keys[FUZZY_BOARD_SLOTS], uint32_t state[FUZZY_MOMENT_NUMBERS + 1]);
+uint64_t fuzzy_board_add_in(uint8_t ready[FUZZY_BOARD_SLOTS * FUZZY_READY_SIZE], uint32_t lengths[FUZZY_BOARD_SLOTS],
+                            uint64_t keys[FUZZY_BOARD_SLOTS], uint32_t state[FUZZY_MOMENT_NUMBERS + 1], uint32_t reading, const uint8_t *phrase,
+                            size_t phrase_length);
 uint64_t fuzzy_board_remove_in(uint32_t lengths[FUZZY_BOARD_SLOTS], uint64_t keys[FUZZY_BOARD_SLOTS], uint32_t state[FUZZY_MOMENT_NUMBERS + 1],
                                uint32_t slot);
 uint64_t fuzzy_board_again_in(const uint8_t ready[FUZZY_BOARD_SLOTS * FUZZY_READY_SIZE], const uint32_t lengths[FUZZY_BOARD_SLOTS],
@@ -176,7 +177,7 @@ static inline uint64_t fuzzy_board_make(struct fuzzy_board *board, uint32_t year
  * before, what fuzzy_make_ready refuses, 15 and 1 to 7, and behind that 24 for a full board. A phrase that refuses at the board's now is taken:
  * it is held last, and may have a moment at another now. */
 static inline uint64_t fuzzy_board_add(struct fuzzy_board *board, uint32_t reading, const uint8_t *phrase, size_t phrase_length) {
-    return fuzzy_board_add_in(reading, phrase, phrase_length, board->ready, board->lengths, board->keys, board->state);
+    return fuzzy_board_add_in(board->ready, board->lengths, board->keys, board->state, reading, phrase, phrase_length);
 }
 
 /* One reminder less: the slot is free again. 0, or 25 for a slot that holds nothing, 256 and above too: then all is as before. */

@@ -163,13 +163,13 @@ extern "C" {
         millisecond: u32,
     ) -> u64;
     fn fuzzy_board_add_in(
-        reading: u32,
-        phrase: *const u8,
-        phrase_length: usize,
         ready: *mut u8,
         lengths: *mut u32,
         keys: *mut u64,
         state: *mut u32,
+        reading: u32,
+        phrase: *const u8,
+        phrase_length: usize,
     ) -> u64;
     fn fuzzy_board_remove_in(lengths: *mut u32, keys: *mut u64, state: *mut u32, slot: u32) -> u64;
     fn fuzzy_board_again_in(
@@ -935,13 +935,13 @@ impl Board {
         // SAFETY: the pointers are those of a slice, whose size is said, and of arrays of the sizes that the function may write.
         let answer = unsafe {
             fuzzy_board_add_in(
-                reading as u32,
-                bytes.as_ptr(),
-                bytes.len(),
                 parts.ready.as_mut_ptr(),
                 parts.lengths.as_mut_ptr(),
                 parts.keys.as_mut_ptr(),
                 parts.state.as_mut_ptr(),
+                reading as u32,
+                bytes.as_ptr(),
+                bytes.len(),
             )
         };
         number_of(answer, bytes)

@@ -139,7 +139,7 @@ fn write_add(
         return;
     }
     let reading = (line[0] % 16) as u32;
-    write_answer(fuzzy_board_add_in(reading, &line[2..], ready, lengths, keys, state));
+    write_answer(fuzzy_board_add_in(ready, lengths, keys, state, reading, &line[2..]));
 }
 
 // The head, and its moment in a lent array.
