@@ -44,9 +44,9 @@ extern "C" {
 #define FUZZY_BOARD_SLOTS 256
 
 /* A board: up to 256 ready reminders, each in a slot of 0 to 255, and beside them the order of their moments at the board's now. It is the
- * caller's own memory, 101,408 bytes: no call allocates or keeps anything elsewhere. It has no pointers, so it may be copied, and stored for
- * machines of the same byte order. Its contents are made by fuzzy_board_make and changed by the calls below; with any other contents every call
- * still answers, and touches nothing outside the board. */
+ * caller's own memory, 101,408 bytes: no call allocates or keeps anything elsewhere. It has no pointers, so it may be copied; what may be stored
+ * and sent are phrases and ready phrases. Its contents are made by fuzzy_board_make and changed by the calls below; with any other contents every
+ * call still answers, and touches nothing outside the board. */
 struct fuzzy_board {
     uint64_t keys[FUZZY_BOARD_SLOTS];
     uint32_t lengths[FUZZY_BOARD_SLOTS];
