@@ -1,6 +1,6 @@
-/* Prints the most bytes of stack that reading, making ready, running, listing and asking for what comes next were seen to use, over the replayed list
- * and over phrases that nest as deeply as 256 bytes let them, and over a rule of each FREQ: stack LIST. A call runs on a stack of its own that is full of
- * a pattern; what an empty call uses is taken off. */
+/* Prints the most bytes of stack that reading, making ready and running were seen to use, over the replayed list and over phrases that nest as deeply
+ * as 256 bytes let them, those for rules over a rule of each FREQ, and those for boards over such phrases: stack LIST. A call runs on a stack of its own
+ * that is full of a pattern; what an empty call uses is taken off. */
 #define _DEFAULT_SOURCE
 #include "fuzzy.h"
 #include "lent.h"
@@ -14,6 +14,8 @@ static struct line line;
 static uint8_t ready[FUZZY_READY_SIZE];
 static uint32_t moment[FUZZY_MOMENT_NUMBERS];
 static uint32_t rows[64 * FUZZY_MOMENT_NUMBERS];
+static struct fuzzy_board board;
+static uint32_t slots[FUZZY_BOARD_SLOTS];
 static uint64_t made;
 static ucontext_t here, there;
 
@@ -42,6 +44,30 @@ static void call_next(void) {
     fuzzy_next(line.phrase, line.length, 2024, 2, 29, 12, 0, 0, 0, 9996, 2, 29, 12, 0, 0, 0, moment);
 }
 
+static void call_board_make(void) {
+    fuzzy_board_make(&board, 2024, 2, 29, 12, 0, 0, 0);
+}
+
+static void call_board_add(void) {
+    fuzzy_board_add(&board, FUZZY_FIRST, line.phrase, line.length);
+}
+
+static void call_board_remove(void) {
+    fuzzy_board_remove(&board, 0);
+}
+
+static void call_board_again(void) {
+    fuzzy_board_again(&board, 2026, 2, 11, 9, 30, 15, 250);
+}
+
+static void call_board_head(void) {
+    fuzzy_board_head(&board, moment);
+}
+
+static void call_board_order(void) {
+    fuzzy_board_order(&board, slots);
+}
+
 /* The bytes of stack that a call changes, counted from the top down to the lowest one. */
 static size_t used_by(void (*call)(void)) {
     uint8_t *p, *end = stack.first + stack.size;
@@ -56,7 +82,9 @@ static size_t used_by(void (*call)(void)) {
     return (size_t)(end - p);
 }
 
-static size_t most[5];
+#define CALLS 11
+
+static size_t most[CALLS];
 
 /* The three functions for phrases on the phrase of `line`. */
 static void measure(void) {
@@ -68,6 +96,17 @@ static void measure(void) {
     }
 }
 
+/* The six functions for boards, with the phrase of `line` as the only reminder. */
+static void keep(void) {
+    static void (*const calls[6])(void) = {call_board_make,  call_board_add,   call_board_again,
+                                           call_board_head, call_board_order, call_board_remove};
+    size_t i;
+    for (i = 0; i < 6; i++) {
+        size_t used = used_by(calls[i]);
+        if (used > most[5 + i]) most[5 + i] = used;
+    }
+}
+
 /* A part over and over, as often as there is room for it, and an end. */
 static void nested(const char *part, const char *end) {
     size_t n = strlen(part), last = strlen(end);
@@ -75,6 +114,7 @@ static void nested(const char *part, const char *end) {
     memcpy(line.phrase + line.length, end, last);
     line.length += last;
     measure();
+    keep();
 }
 
 /* The two functions for rules on a rule. */
@@ -90,7 +130,9 @@ static void repeat(const char *rule) {
 }
 
 int main(int count, char **arguments) {
-    static const char *const names[5] = {"fuzzy_read", "fuzzy_make_ready", "fuzzy_run", "fuzzy_list", "fuzzy_next"};
+    static const char *const names[CALLS] = {"fuzzy_read",        "fuzzy_make_ready", "fuzzy_run",         "fuzzy_list",
+                                             "fuzzy_next",        "fuzzy_board_make", "fuzzy_board_add",   "fuzzy_board_again",
+                                             "fuzzy_board_head",  "fuzzy_board_order", "fuzzy_board_remove"};
     static const char *const parts[] = {"million ", "1 million ", "a day after ", "1 day before ", "1day from", "1day after ", "1 day, ", "1 day and "};
     static const char *const ends[] = {"days ago", "today", "noon", "1 day ago", "now", ""};
     static char text[8192];
@@ -111,6 +153,6 @@ int main(int count, char **arguments) {
     repeat("FREQ=WEEKLY;UNTIL=99991231T235959;BYDAY=MO,TU,WE,TH,FR,SA,SU;INTERVAL=2;WKST=MO");
     repeat("FREQ=WEEKLY;BYDAY=MO,TU,WE,TH,FR,SA,SU;INTERVAL=2;COUNT=3652058");
     repeat("FREQ=MONTHLY;BYMONTHDAY=+29;INTERVAL=12;COUNT=3652058");
-    for (i = 0; i < 5; i++) printf("%-18s %6zu bytes of stack\n", names[i], most[i] - nothing);
+    for (i = 0; i < CALLS; i++) printf("%-18s %6zu bytes of stack\n", names[i], most[i] - nothing);
     return 0;
 }
