@@ -68,3 +68,15 @@ NotWhole = 16
 -- "a buffer too short"
 abbrev pub NoRoom : ℕ
 NoRoom = 17
+
+-- "24 for a full board"
+abbrev pub FullBoard : ℕ
+FullBoard = 24
+
+-- "25 for a slot that holds nothing"
+abbrev pub EmptySlot : ℕ
+EmptySlot = 25
+
+-- "26 when no entry has a moment"
+abbrev pub NoMoment : ℕ
+NoMoment = 26

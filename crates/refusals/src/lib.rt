@@ -70,3 +70,12 @@ pub const NOT_WHOLE: u8 = 16;
 
 // The buffer is too short.
 pub const NO_ROOM: u8 = 17;
+
+// Every slot of the board holds a reminder.
+pub const FULL_BOARD: u8 = 24;
+
+// The board's slot holds nothing.
+pub const EMPTY_SLOT: u8 = 25;
+
+// No entry of the board has a moment.
+pub const NO_MOMENT: u8 = 26;
