@@ -89,13 +89,13 @@ make-keeps m n sized e =
     let free : (i : ℕ) → isFilled m′ i ≡ false = λ i. rw (eq-eqb _ 0 (zeros 256 i)) in
     let order = order-none m′ n free in
     let board : IsBoard m′ =
-        record {
-          sized = record { ready = sized .ready; lengths = length-replicate {A = ℕ} 256 0; keys = sized .keys; state = refl };
-          now = ok .0;
-          held = λ s f. let z : _≡_ {A = Bool} true false = sym f ∙ free s in absurd (differ z);
-          row = sym order;
-          count = sym (ap (λ (l : List ℕ). length l) order);
-        } in
+    record {
+      sized = record { ready = sized .ready; lengths = length-replicate {A = ℕ} 256 0; keys = sized .keys; state = refl };
+      now = ok .0;
+      held = λ s f. let z : _≡_ {A = Bool} true false = sym f ∙ free s in absurd (differ z);
+      row = sym order;
+      count = sym (ap (λ (l : List ℕ). length l) order);
+    } in
     rw (← (ok .1)) board
 
 -- "running all again at a new now"
@@ -107,24 +107,30 @@ again-keeps m n board e =
     let row = orderAt m n in
     let m′ = memory (m .ready) (m .lengths) (sets (m .keys) 0 row) (stateOf n (length row)) in
     let same : orderAt m′ n ≡ row =
-        order-anywhere (m .ready) (m .lengths) (sets (m .keys) 0 row) (stateOf n (length row)) n
-        ∙ sym (order-anywhere (m .ready) (m .lengths) (m .keys) (m .state) n) in
+    order-anywhere (m .ready) (m .lengths) (sets (m .keys) 0 row) (stateOf n (length row)) n
+    ∙ sym (order-anywhere (m .ready) (m .lengths) (m .keys) (m .state) n) in
     let board′ : IsBoard m′ =
-        record {
-          sized = record { ready = size .ready; lengths = size .lengths; keys = length-sets (m .keys) 0 row ∙ size .keys; state = refl };
-          now = ok .0;
-          held = λ s f. let h = board .held s f in record { reading = h .reading; phrase = h .phrase; steps = h .steps; made = h .made; bytes = h .bytes };
-          row = stored-row (record { few = order-few m n; sized = size .keys; count = refl }) ∙ sym same;
-          count = sym (ap (λ (l : List ℕ). length l) same);
-        } in
+    record {
+      sized = record { ready = size .ready; lengths = size .lengths; keys = length-sets (m .keys) 0 row ∙ size .keys; state = refl };
+      now = ok .0;
+      held = λ s f. let h = board .held s f in record { reading = h .reading; phrase = h .phrase; steps = h .steps; made = h .made; bytes = h .bytes };
+      row = stored-row (record { few = order-few m n; sized = size .keys; count = refl }) ∙ sym same;
+      count = sym (ap (λ (l : List ℕ). length l) same);
+    } in
     rw (← (ok .1)) board′
 
 -- another count leaves the now
 count-now : (l : List ℕ) (k : ℕ) → nowIn (set l 7 k) ≡ nowIn l
 count-now l k =
-    rw (getD-set-other l 7 0 k 0 (λ e. omega arith), getD-set-other l 7 1 k 0 (λ e. omega arith), getD-set-other l 7 2 k 0 (λ e. omega arith),
-    getD-set-other l 7 3 k 0 (λ e. omega arith), getD-set-other l 7 4 k 0 (λ e. omega arith), getD-set-other l 7 5 k 0 (λ e. omega arith),
-    getD-set-other l 7 6 k 0 (λ e. omega arith))
+    rw (
+      getD-set-other l 7 0 k 0 (λ e. omega arith),
+      getD-set-other l 7 1 k 0 (λ e. omega arith),
+      getD-set-other l 7 2 k 0 (λ e. omega arith),
+      getD-set-other l 7 3 k 0 (λ e. omega arith),
+      getD-set-other l 7 4 k 0 (λ e. omega arith),
+      getD-set-other l 7 5 k 0 (λ e. omega arith),
+      getD-set-other l 7 6 k 0 (λ e. omega arith),
+    )
 
 -- a memory that has the reminders of another one, but for one slot
 record Change (m m′ : Memory) (s : ℕ) : Type 0 where
@@ -169,13 +175,13 @@ removed-board m s board here =
     let row = without s (rowIn m) in
     let m′ = removed m s in
     let change : Change m m′ s =
-        record {
-          lengths = λ i ne. getD-set-other (m .lengths) s i 0 0 ne;
-          phrases = λ i ne. rw (getD-set-other (m .lengths) s i 0 0 ne);
-        } in
+    record {
+      lengths = λ i ne. getD-set-other (m .lengths) s i 0 0 ne;
+      phrases = λ i ne. rw (getD-set-other (m .lengths) s i 0 0 ne);
+    } in
     let free : isFilled m′ s ≡ false = rw (eq-eqb _ 0 (getD-set-same (m .lengths) s 0 0 (omega (arith, size .lengths)))) in
     let few : length row ≤ 256 =
-        omega (arith, length-without s (rowIn m), ap (λ (l : List ℕ). length l) (board .row), order-few m (nowIn (m .state))) in
+    omega (arith, length-without s (rowIn m), ap (λ (l : List ℕ). length l) (board .row), order-few m (nowIn (m .state))) in
     change-board change board
     (record {
       ready = size .ready;
@@ -255,12 +261,12 @@ module _ (m : Memory) (reading : Reading) (phrase : List ℕ) (ss : List Step) (
       let small : length p ≤ 384 = omega (arith, list .most) in
       let none : length p ≡ 0 → ⊥ = λ z. omega (arith, some ss (list .list)) in
       let change : Change m m′ s =
-          record {
-            lengths = λ i ne. getD-set-other (m .lengths) s i (length p) 0 ne;
-            phrases = λ i ne.
-                rw (getD-set-other (m .lengths) s i (length p) 0 ne)
-                (other-slot (m .ready) p s i (min (getD (m .lengths) i 0) 384) ne small (omega arith));
-          } in
+      record {
+        lengths = λ i ne. getD-set-other (m .lengths) s i (length p) 0 ne;
+        phrases = λ i ne.
+            rw (getD-set-other (m .lengths) s i (length p) 0 ne)
+            (other-slot (m .ready) p s i (min (getD (m .lengths) i 0) 384) ne small (omega arith));
+      } in
       let own : getD (m′ .lengths) s 0 ≡ length p = getD-set-same (m .lengths) s (length p) 0 (omega (arith, size .lengths, free .here)) in
       let full : isFilled m′ s ≡ true = rw (own, ne-eqb (length p) 0 none) in
       let least : min (length p) 384 ≡ length p = omega arith in

@@ -32,7 +32,9 @@ ghost use Rattle.board.specs.Boards.{memory, memoryAfter, atInstant, due
 // A board made empty at a now: 0, or 8 and nothing written.
 pub fn make(lengths: &mut [u32; 256], state: &mut [u32; 8], at: Moment) -> u8
     ensures { λ r. ⌜ ((ready keys : List ℕ) → r ≡ refusalOf (makeOf (memory ready (now (lengths .entry)) keys (now (state .entry))) at) .number) ⌝ }
-    ensures { λ _. ⌜ ((ready keys : List ℕ) → let m = memory ready (now (lengths .entry)) keys (now (state .entry)) in memory ready (now (lengths .exit)) keys (now (state .exit)) ≡ memoryAfter m (makeOf m at)) ⌝ }
+    ensures { λ _.
+        ⌜ ((ready keys : List ℕ) → let m = memory ready (now (lengths .entry)) keys (now (state .entry)) in
+        memory ready (now (lengths .exit)) keys (now (state .exit)) ≡ memoryAfter m (makeOf m at)) ⌝ }
 {
     if at.valid() {
         *lengths = [0; 256];
@@ -51,8 +53,11 @@ pub fn add(
     keys: &mut [u64; 256],
     state: &mut [u32; 8],
 ) -> Added
-    ensures { λ r. ⌜ r ≡ addedOf (addOf (memory (now (ready .entry)) (now (lengths .entry)) (now (keys .entry)) (now (state .entry))) (readyOf reading (wordsIn reading) (now (phrase .entry)))) ⌝ }
-    ensures { λ _. ⌜ (let m = memory (now (ready .entry)) (now (lengths .entry)) (now (keys .entry)) (now (state .entry)) in memory (now (ready .exit)) (now (lengths .exit)) (now (keys .exit)) (now (state .exit)) ≡ memoryAfter m (addOf m (readyOf reading (wordsIn reading) (now (phrase .entry))))) ⌝ }
+    ensures { λ r.
+        ⌜ r ≡ addedOf (addOf (memory (now (ready .entry)) (now (lengths .entry)) (now (keys .entry)) (now (state .entry))) (readyOf reading (wordsIn reading) (now (phrase .entry)))) ⌝ }
+    ensures { λ _.
+        ⌜ (let m = memory (now (ready .entry)) (now (lengths .entry)) (now (keys .entry)) (now (state .entry)) in
+        memory (now (ready .exit)) (now (lengths .exit)) (now (keys .exit)) (now (state .exit)) ≡ memoryAfter m (addOf m (readyOf reading (wordsIn reading) (now (phrase .entry))))) ⌝ }
 {
     let made = make_ready(reading, phrase);
     let refusal = made.refusal;
@@ -75,16 +80,20 @@ pub fn add(
             slot: 0,
         };
     }
-    Added {
-        refusal,
-        slot: 0,
-    }
+    Added { refusal, slot: 0 }
 }
 
 // One reminder less: 0, or 25 and nothing written.
-pub fn remove(lengths: &mut [u32; 256], keys: &mut [u64; 256], state: &mut [u32; 8], slot: u32) -> u8
+pub fn remove(
+    lengths: &mut [u32; 256],
+    keys: &mut [u64; 256],
+    state: &mut [u32; 8],
+    slot: u32,
+) -> u8
     ensures { λ r. ⌜ ((ready : List ℕ) → r ≡ refusalOf (removeOf (memory ready (now (lengths .entry)) (now (keys .entry)) (now (state .entry))) slot) .number) ⌝ }
-    ensures { λ _. ⌜ ((ready : List ℕ) → let m = memory ready (now (lengths .entry)) (now (keys .entry)) (now (state .entry)) in memory ready (now (lengths .exit)) (now (keys .exit)) (now (state .exit)) ≡ memoryAfter m (removeOf m slot)) ⌝ }
+    ensures { λ _.
+        ⌜ ((ready : List ℕ) → let m = memory ready (now (lengths .entry)) (now (keys .entry)) (now (state .entry)) in
+        memory ready (now (lengths .exit)) (now (keys .exit)) (now (state .exit)) ≡ memoryAfter m (removeOf m slot)) ⌝ }
 {
     if slot >= 256 {
         return EMPTY_SLOT;
@@ -108,7 +117,9 @@ pub fn again(
     at: Moment,
 ) -> u8
     ensures { λ r. ⌜ r ≡ refusalOf (againOf (memory (now (ready .entry)) (now (lengths .entry)) (now (keys .entry)) (now (state .entry))) at) .number ⌝ }
-    ensures { λ _. ⌜ (let m = memory (now (ready .entry)) (now (lengths .entry)) (now (keys .entry)) (now (state .entry)) in memory (now (ready .entry)) (now (lengths .entry)) (now (keys .exit)) (now (state .exit)) ≡ memoryAfter m (againOf m at)) ⌝ }
+    ensures { λ _.
+        ⌜ (let m = memory (now (ready .entry)) (now (lengths .entry)) (now (keys .entry)) (now (state .entry)) in
+        memory (now (ready .entry)) (now (lengths .entry)) (now (keys .exit)) (now (state .exit)) ≡ memoryAfter m (againOf m at)) ⌝ }
 {
     if at.valid() {
         let n = order_anew(ready, lengths, keys, at);

@@ -1,11 +1,12 @@
 // What is due first: up to 256 ready reminders in the caller's own memory, and beside them the order of their moments.
 use calendar::moments::Moment;
 use refusals::Refusal;
-mod rows;
-mod instants;
-mod slots;
-mod holding;
+
 pub mod calls;
+mod holding;
+mod instants;
+mod rows;
+mod slots;
 
 // The slot that is due first and its moment, or none.
 pub enum Earliest {

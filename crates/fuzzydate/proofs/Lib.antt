@@ -1,4 +1,3 @@
-pub mod ReadyNumbers
 pub mod Readings
 pub mod WrittenBack
 pub mod WrittenNumbers
