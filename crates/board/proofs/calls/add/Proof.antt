@@ -43,7 +43,7 @@ returns c =
     let entry = c .before .before .before .before .before .before .before .before .before .before .before .before .before .before .before in
     let free = c .before .before .before .before .before .before .before .free-slot .ensures .0 (entry .args .ready .now) (entry .args .keys .now) in
     let size : length (encodeOf (made .list)) ≡ 16 * c .before .before .before .before .before .before .before .before .before .before .before .before .before .make-ready .result .plan .n =
-        length-encoded (made .list) ∙ omega (arith, made .count) in
+    length-encoded (made .list) ∙ omega (arith, made .count) in
     let room = lt-ltb _ _ (c .before .before .before .before .before .before .if2 .taken) in
     (rw (made .is, ← free, room), rw (made .is, ← free, room, size, ← (made .plan)) (c .hold .ensures))
 
