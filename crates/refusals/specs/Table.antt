@@ -80,3 +80,15 @@ NoStart = 19
 -- "20 exactly if no occurrence in years 1 to 9999 is at or after the moment"
 abbrev pub NoNext : ℕ
 NoNext = 20
+
+-- "24 for a full board"
+abbrev pub FullBoard : ℕ
+FullBoard = 24
+
+-- "25 for a slot that holds nothing"
+abbrev pub EmptySlot : ℕ
+EmptySlot = 25
+
+-- "26 when no entry has a moment"
+abbrev pub NoMoment : ℕ
+NoMoment = 26

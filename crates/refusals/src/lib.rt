@@ -79,3 +79,12 @@ pub const NO_START: u8 = 19;
 
 // No occurrence in years 1 to 9999 is at or after the moment.
 pub const NO_NEXT: u8 = 20;
+
+// Every slot of the board holds a reminder.
+pub const FULL_BOARD: u8 = 24;
+
+// The board's slot holds nothing.
+pub const EMPTY_SLOT: u8 = 25;
+
+// No entry of the board has a moment.
+pub const NO_MOMENT: u8 = 26;
