@@ -1,3 +1,4 @@
+pub mod BoardNumbers
 pub mod NextNumbers
 pub mod Readings
 pub mod WrittenBack
