@@ -18,5 +18,6 @@ pub mod Shown
 pub mod Rules
 pub mod Repeats
 pub mod Coming
+pub mod Board
 pub mod Fuzzydate
 pub mod Text

@@ -28,6 +28,9 @@ use Rattle.rules.specs.Rules.{ruleAnswer}
 use Rattle.rules.specs.declared.Rule.{Rule}
 use Rattle.rules.specs.declared.read.RuleRead.{RuleRead}
 use Rattle.rules.specs.declared.read.RuleRead.the-variants.{Is as IsRule, Refused as RuleRefused}
+use Rattle.board.specs.Boards.{Due, headFrom}
+use Rattle.board.specs.declared.Earliest.{Earliest}
+use Rattle.board.specs.declared.Earliest.the-variants.{Next as NextDue, Nothing as NothingDue}
 use Rattle.answer.specs.Answer.{answerFrom}
 use Rattle.answer.specs.declared.Answered.{Answered}
 use Rattle.answer.specs.declared.Answered.the-variants.{At as AnsweredAt, Refused as AnsweredRefused}
@@ -144,3 +147,14 @@ rule-back RuleRefused = refl
 
 pub rule-one : (x y : RuleRead) → ruleAnswer x ≡ ruleAnswer y → x ≡ y
 rule-one = given-back ruleAnswer ruleRead rule-back
+
+abbrev earliest : Answer Due → Earliest
+earliest (given d) = NextDue (d .slot) (d .moment)
+earliest (refusedAnswer r) = NothingDue
+
+earliest-back : (x : Earliest) → earliest (headFrom x) ≡ x
+earliest-back (NextDue s t) = refl
+earliest-back NothingDue = refl
+
+pub earliest-one : (x y : Earliest) → headFrom x ≡ headFrom y → x ≡ y
+earliest-one = given-back headFrom earliest earliest-back
