@@ -100,6 +100,7 @@ new-board {n} {m} {m′} sized c = go (isMoment n) refl (make-says c)
   where
     empty : Memory
     empty = memory (m .ready) (replicate 256 0) (m .keys) (stateOf n 0)
+
     go : (b : Bool) → isMoment n ≡ b → let w = cond b (done 0 empty) (refuse NoNow 0 0) in (0 ≡ codeOf w) × (m′ ≡ memoryAfter m w) → IsBoard m′
     go true e says = subst IsBoard (sym (says .1)) (make-keeps m n {d = record { number = 0; after = empty }} sized (rw e))
     go false e says = absurd (omega (arith, says .0))

@@ -51,6 +51,7 @@ added-within m reading s = go (made-ready reading s)
         Holds OneOf256 (Bounded 1 24 256) (andThen (cond b (given k) (refuse FullBoard 0 0)) (λ k. done k (f k)))
     slot k true e f = of-given (ltb-true k 256 e)
     slot k false e f = of-refusal {r = refusalAt FullBoard 0 0} (omega arith)
+
     go : {w : ReadyPhrase} → Holds MadeReady (Bounded 1 7 (min (length s) 256)) w → Holds OneOf256 (Bounded 1 24 256) (addOf m w)
     go (of-given p) = slot (freeSlot m) (ltb (freeSlot m) 256) refl _
     go (of-refusal {r} b) = of-refusal {r = r} (omega (arith, b))

@@ -524,7 +524,11 @@ pub extern "C" fn fuzzy_board_again(
 
 // The reminder of a board that is due first: its slot and its moment's seven numbers, or 26 and nothing written.
 #[no_mangle]
-pub extern "C" fn fuzzy_board_head(keys: &[u64; 256], state: &[u32; 8], moment: &mut [u32; 7]) -> u64
+pub extern "C" fn fuzzy_board_head(
+    keys: &[u64; 256],
+    state: &[u32; 8],
+    moment: &mut [u32; 7],
+) -> u64
     ensures { λ r. ⌜ ((ready lengths : List ℕ) → r ≡ dueCode (headOf (memory ready lengths (now (keys .entry)) (now (state .entry))))) ⌝ }
     ensures { λ _. ⌜ ((ready lengths : List ℕ) → now (moment .exit) ≡ dueAfter (headOf (memory ready lengths (now (keys .entry)) (now (state .entry)))) (now (moment .entry))) ⌝ }
 {
@@ -547,7 +551,11 @@ pub extern "C" fn fuzzy_board_head(keys: &[u64; 256], state: &[u32; 8], moment: 
 
 // The slots of a board in the order of their moments, at the front of a lent array: how many there are.
 #[no_mangle]
-pub extern "C" fn fuzzy_board_order(keys: &[u64; 256], state: &[u32; 8], slots: &mut [u32; 256]) -> u64
+pub extern "C" fn fuzzy_board_order(
+    keys: &[u64; 256],
+    state: &[u32; 8],
+    slots: &mut [u32; 256],
+) -> u64
     ensures { λ r. ⌜ ((ready lengths : List ℕ) → r ≡ 4294967296 * length (orderOf (memory ready lengths (now (keys .entry)) (now (state .entry))))) ⌝ }
     ensures { λ _. ⌜ ((ready lengths : List ℕ) → now (slots .exit) ≡ sets (now (slots .entry)) 0 (orderOf (memory ready lengths (now (keys .entry)) (now (state .entry))))) ⌝ }
 {
