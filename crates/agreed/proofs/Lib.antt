@@ -2,3 +2,4 @@ pub mod Agreed
 pub mod ShownAgain
 pub mod Later
 pub mod NextListed
+pub mod BoardKept

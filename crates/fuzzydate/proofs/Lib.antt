@@ -1,5 +1,5 @@
+pub mod BoardNumbers
 pub mod NextNumbers
 pub mod Readings
-pub mod ReadyNumbers
 pub mod WrittenBack
 pub mod WrittenNumbers

@@ -25,6 +25,7 @@ use Rattle.stamp.specs.declared.Stamp.{Stamp}
 use Rattle.rules.specs.Rules.{readRule}
 use Rattle.repeats.specs.Listing.{listOf}
 use Rattle.coming.specs.Next.{nextOf}
+use Rattle.board.specs.Boards.{Done, Due}
 use Rattle.fuzzydate.specs.declared.Chosen.{Chosen}
 use Rattle.fuzzydate.specs.declared.Chosen.the-variants.{As, Neither}
 
@@ -109,3 +110,18 @@ listIn s t size = cond (isMoment t) (andThen (readRule s) (λ r. listOf r t size
 -- the first occurrence at or after an asked moment: "8 covers the asked moment too; after 18 and 19, 20"
 abbrev pub nextIn : List ℕ → Moment → Moment → Answer Moment
 nextIn s t asked = cond (isMoment t && isMoment asked) (andThen (readRule s) (λ r. nextOf r t asked)) (refuse NoNow 0 0)
+
+-- of a reminder that is added: 0 for the number and the place, and its slot from bit 32 on
+abbrev pub addedCode : Answer Done → ℕ
+addedCode (given d) = 4294967296 * d .number
+addedCode (refused r) = code r
+
+-- of the one that is due first: its slot likewise
+abbrev pub dueCode : Answer Due → ℕ
+dueCode (given d) = 4294967296 * d .slot
+dueCode (refused r) = code r
+
+-- its moment's seven numbers are written over what was lent; on a refusal it stays
+abbrev pub dueAfter : Answer Due → List ℕ → List ℕ
+dueAfter (given d) lent = seven (d .moment)
+dueAfter (refused r) lent = lent

@@ -1,4 +1,7 @@
 -- The promises of `fuzzydate`. Assumes nothing.
+use mathlib.Core.Path.{ap}
+use mathlib.Core.List.{[]}
+use Rattle.board.specs.Boards.{Memory}
 use Rattle.settled.proofs.Settled.{Same, Settled, same}
 use Rattle.fuzzydate.proofs.fuzzy_read.Reads as fuzzy-read'
 use Rattle.fuzzydate.proofs.fuzzy_make_ready.Reads as fuzzy-make-ready'
@@ -9,6 +12,12 @@ use Rattle.fuzzydate.proofs.fuzzy_find_word.Reads as fuzzy-find-word'
 use Rattle.fuzzydate.proofs.fuzzy_write_phrase.Reads as fuzzy-write-phrase'
 use Rattle.fuzzydate.proofs.fuzzy_list.Reads as fuzzy-list'
 use Rattle.fuzzydate.proofs.fuzzy_next.Reads as fuzzy-next'
+use Rattle.fuzzydate.proofs.fuzzy_board_make.Reads as fuzzy-board-make'
+use Rattle.fuzzydate.proofs.fuzzy_board_add.Reads as fuzzy-board-add'
+use Rattle.fuzzydate.proofs.fuzzy_board_remove.Reads as fuzzy-board-remove'
+use Rattle.fuzzydate.proofs.fuzzy_board_again.Reads as fuzzy-board-again'
+use Rattle.fuzzydate.proofs.fuzzy_board_head.Reads as fuzzy-board-head'
+use Rattle.fuzzydate.proofs.fuzzy_board_order.Reads as fuzzy-board-order'
 
 pub fuzzy-read : Settled fuzzy-read'.Post × Same fuzzy-read'.Post (λ κs z e. e .1 .1 .1 .1 .1 .1 .1 .1 .1 .0 .now)
 fuzzy-read = (same fuzzy-read'.Post _ _ (λ κs a z e p. p .0), same fuzzy-read'.Post _ _ (λ κs a z e p. p .1))
@@ -36,3 +45,58 @@ fuzzy-list = (same fuzzy-list'.Post _ _ (λ κs a z e p. p .0), same fuzzy-list'
 
 pub fuzzy-next : Settled fuzzy-next'.Post × Same fuzzy-next'.Post (λ κs z e. e .1 .1 .1 .1 .1 .1 .1 .1 .1 .1 .1 .1 .1 .1 .1 .0 .now)
 fuzzy-next = (same fuzzy-next'.Post _ _ (λ κs a z e p. p .0), same fuzzy-next'.Post _ _ (λ κs a z e p. p .1))
+
+pub fuzzy-board-make : Settled fuzzy-board-make'.Post × Same fuzzy-board-make'.Post (λ κs z e. e .0 .now) × Same fuzzy-board-make'.Post (λ κs z e. e .1 .0 .now)
+fuzzy-board-make = (
+  same fuzzy-board-make'.Post _ _ (λ κs a z e p. p .0 [] []),
+  same fuzzy-board-make'.Post _ _ (λ κs a z e p. ap (λ (m : Memory). m .lengths) (p .1 [] [])),
+  same fuzzy-board-make'.Post _ _ (λ κs a z e p. ap (λ (m : Memory). m .state) (p .1 [] [])),
+)
+
+pub fuzzy-board-add :
+    Settled fuzzy-board-add'.Post
+    × Same fuzzy-board-add'.Post (λ κs z e. e .0 .now)
+    × Same fuzzy-board-add'.Post (λ κs z e. e .1 .0 .now)
+    × Same fuzzy-board-add'.Post (λ κs z e. e .1 .1 .0 .now)
+    × Same fuzzy-board-add'.Post (λ κs z e. e .1 .1 .1 .0 .now)
+fuzzy-board-add = (
+  same fuzzy-board-add'.Post _ _ (λ κs a z e p. p .0),
+  same fuzzy-board-add'.Post _ _ (λ κs a z e p. ap (λ (m : Memory). m .ready) (p .1)),
+  same fuzzy-board-add'.Post _ _ (λ κs a z e p. ap (λ (m : Memory). m .lengths) (p .1)),
+  same fuzzy-board-add'.Post _ _ (λ κs a z e p. ap (λ (m : Memory). m .keys) (p .1)),
+  same fuzzy-board-add'.Post _ _ (λ κs a z e p. ap (λ (m : Memory). m .state) (p .1)),
+)
+
+pub fuzzy-board-remove :
+    Settled fuzzy-board-remove'.Post
+    × Same fuzzy-board-remove'.Post (λ κs z e. e .0 .now)
+    × Same fuzzy-board-remove'.Post (λ κs z e. e .1 .0 .now)
+    × Same fuzzy-board-remove'.Post (λ κs z e. e .1 .1 .0 .now)
+fuzzy-board-remove = (
+  same fuzzy-board-remove'.Post _ _ (λ κs a z e p. p .0 []),
+  same fuzzy-board-remove'.Post _ _ (λ κs a z e p. ap (λ (m : Memory). m .lengths) (p .1 [])),
+  same fuzzy-board-remove'.Post _ _ (λ κs a z e p. ap (λ (m : Memory). m .keys) (p .1 [])),
+  same fuzzy-board-remove'.Post _ _ (λ κs a z e p. ap (λ (m : Memory). m .state) (p .1 [])),
+)
+
+pub fuzzy-board-again :
+    Settled fuzzy-board-again'.Post
+    × Same fuzzy-board-again'.Post (λ κs z e. e .1 .1 .0 .now)
+    × Same fuzzy-board-again'.Post (λ κs z e. e .1 .1 .1 .0 .now)
+fuzzy-board-again = (
+  same fuzzy-board-again'.Post _ _ (λ κs a z e p. p .0),
+  same fuzzy-board-again'.Post _ _ (λ κs a z e p. ap (λ (m : Memory). m .keys) (p .1)),
+  same fuzzy-board-again'.Post _ _ (λ κs a z e p. ap (λ (m : Memory). m .state) (p .1)),
+)
+
+pub fuzzy-board-head : Settled fuzzy-board-head'.Post × Same fuzzy-board-head'.Post (λ κs z e. e .1 .1 .0 .now)
+fuzzy-board-head = (
+  same fuzzy-board-head'.Post _ _ (λ κs a z e p. p .0 [] []),
+  same fuzzy-board-head'.Post _ _ (λ κs a z e p. p .1 [] []),
+)
+
+pub fuzzy-board-order : Settled fuzzy-board-order'.Post × Same fuzzy-board-order'.Post (λ κs z e. e .1 .1 .0 .now)
+fuzzy-board-order = (
+  same fuzzy-board-order'.Post _ _ (λ κs a z e p. p .0 [] []),
+  same fuzzy-board-order'.Post _ _ (λ κs a z e p. p .1 [] []),
+)

@@ -20,5 +20,6 @@ pub mod Repeats
 pub mod Coming
 pub mod Tzif
 pub mod Zones
+pub mod Board
 pub mod Fuzzydate
 pub mod Text

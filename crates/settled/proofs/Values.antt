@@ -31,6 +31,9 @@ use Rattle.rules.specs.declared.read.RuleRead.the-variants.{Is as IsRule, Refus
 use Rattle.zones.specs.Civil.{answerOf}
 use Rattle.zones.specs.declared.search.Resolved.{Resolved}
 use Rattle.zones.specs.declared.search.Resolved.the-variants.{At as ResolvedAt, Refused as ResolvedRefused}
+use Rattle.board.specs.Boards.{Due, headFrom}
+use Rattle.board.specs.declared.Earliest.{Earliest}
+use Rattle.board.specs.declared.Earliest.the-variants.{Next as NextDue, Nothing as NothingDue}
 use Rattle.answer.specs.Answer.{answerFrom}
 use Rattle.answer.specs.declared.Answered.{Answered}
 use Rattle.answer.specs.declared.Answered.the-variants.{At as AnsweredAt, Refused as AnsweredRefused}
@@ -158,3 +161,14 @@ resolved-back (ResolvedRefused k) = refl
 
 pub resolved-one : (x y : Resolved) → answerOf x ≡ answerOf y → x ≡ y
 resolved-one = given-back answerOf resolvedOf resolved-back
+
+abbrev earliest : Answer Due → Earliest
+earliest (given d) = NextDue (d .slot) (d .moment)
+earliest (refusedAnswer r) = NothingDue
+
+earliest-back : (x : Earliest) → earliest (headFrom x) ≡ x
+earliest-back (NextDue s t) = refl
+earliest-back NothingDue = refl
+
+pub earliest-one : (x y : Earliest) → headFrom x ≡ headFrom y → x ≡ y
+earliest-one = given-back headFrom earliest earliest-back

@@ -1,0 +1,9 @@
+pub mod Keys
+pub mod Carried
+pub mod Free
+pub mod Orders
+pub mod Anew
+pub mod ReadyNumbers
+pub mod Heads
+pub mod Bytes
+pub mod Kept
