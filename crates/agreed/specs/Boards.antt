@@ -7,15 +7,15 @@ use Rattle.calendar.specs.Moments.{momentOf}
 use Rattle.calendar.specs.declared.moments.Moment.{Moment}
 use Rattle.board.specs.Boards.{Memory, memory}
 use Rattle.board.specs.Scans.{Sized}
-use Rattle.fuzzydate.proofs.fuzzy_board_make.Reads as make'
-use Rattle.fuzzydate.proofs.fuzzy_board_add.Reads as add'
-use Rattle.fuzzydate.proofs.fuzzy_board_remove.Reads as remove'
-use Rattle.fuzzydate.proofs.fuzzy_board_again.Reads as again'
-use Rattle.fuzzydate.proofs.fuzzy_board_head.Reads as head'
-use Rattle.fuzzydate.proofs.fuzzy_board_order.Reads as order'
+use Rattle.fuzzydate.proofs.fuzzy_board_make_in.Reads as make'
+use Rattle.fuzzydate.proofs.fuzzy_board_add_in.Reads as add'
+use Rattle.fuzzydate.proofs.fuzzy_board_remove_in.Reads as remove'
+use Rattle.fuzzydate.proofs.fuzzy_board_again_in.Reads as again'
+use Rattle.fuzzydate.proofs.fuzzy_board_head_in.Reads as head'
+use Rattle.fuzzydate.proofs.fuzzy_board_order_in.Reads as order'
 use Rattle.agreed.specs.Calls.{Call}
 
--- `fuzzy_board_make` at a now
+-- `fuzzy_board_make_in` at a now
 pub record Make (n : Moment) (m : Memory) (k : ℕ) (m′ : Memory) : Type 0 where
   pub call : Call make'.Post
   pub now-is :
@@ -25,7 +25,7 @@ pub record Make (n : Moment) (m : Memory) (k : ℕ) (m′ : Memory) : Type 0 whe
   pub answer-is : call .result ≡ k
   pub behind : memory (m .ready) (call .exit .0 .now) (m .keys) (call .exit .1 .0 .now) ≡ m′
 
--- `fuzzy_board_add` of a phrase in a reading
+-- `fuzzy_board_add_in` of a phrase in a reading
 pub record Add (reading : ℕ) (phrase : List ℕ) (m : Memory) (k : ℕ) (m′ : Memory) : Type 0 where
   pub call : Call add'.Post
   pub reading-is : call .given .1 .1 .1 .1 .0 ≡ reading
@@ -34,7 +34,7 @@ pub record Add (reading : ℕ) (phrase : List ℕ) (m : Memory) (k : ℕ) (m′ 
   pub answer-is : call .result ≡ k
   pub behind : memory (call .exit .0 .now) (call .exit .1 .0 .now) (call .exit .1 .1 .0 .now) (call .exit .1 .1 .1 .0 .now) ≡ m′
 
--- `fuzzy_board_remove` of a slot
+-- `fuzzy_board_remove_in` of a slot
 pub record Remove (s : ℕ) (m : Memory) (k : ℕ) (m′ : Memory) : Type 0 where
   pub call : Call remove'.Post
   pub slot-is : call .given .1 .1 .1 .0 ≡ s
@@ -42,7 +42,7 @@ pub record Remove (s : ℕ) (m : Memory) (k : ℕ) (m′ : Memory) : Type 0 wher
   pub answer-is : call .result ≡ k
   pub behind : memory (m .ready) (call .exit .0 .now) (call .exit .1 .0 .now) (call .exit .1 .1 .0 .now) ≡ m′
 
--- `fuzzy_board_again` at a now
+-- `fuzzy_board_again_in` at a now
 pub record Again (n : Moment) (m : Memory) (k : ℕ) (m′ : Memory) : Type 0 where
   pub call : Call again'.Post
   pub now-is :
@@ -64,7 +64,7 @@ pub data Made : Memory → Type 0 where
   new : {n : Moment} {m m′ : Memory} → Sized m → Make n m 0 m′ → Made m′
   then : {m m′ : Memory} {k : ℕ} → Made m → Changed m k m′ → Made m′
 
--- `fuzzy_board_head`, which leaves `array′` in an array that held `array`
+-- `fuzzy_board_head_in`, which leaves `array′` in an array that held `array`
 pub record Head (m : Memory) (array : List ℕ) (k : ℕ) (array′ : List ℕ) : Type 0 where
   pub call : Call head'.Post
   pub before : memory (m .ready) (m .lengths) (call .given .0 .now) (call .given .1 .0 .now) ≡ m
@@ -72,7 +72,7 @@ pub record Head (m : Memory) (array : List ℕ) (k : ℕ) (array′ : List ℕ) 
   pub answer-is : call .result ≡ k
   pub array′-is : call .exit .1 .1 .0 .now ≡ array′
 
--- `fuzzy_board_order`, which leaves `slots′` in an array of 256 numbers that held `slots`
+-- `fuzzy_board_order_in`, which leaves `slots′` in an array of 256 numbers that held `slots`
 pub record Order (m : Memory) (slots : List ℕ) (k : ℕ) (slots′ : List ℕ) : Type 0 where
   pub call : Call order'.Post
   pub before : memory (m .ready) (m .lengths) (call .given .0 .now) (call .given .1 .0 .now) ≡ m

@@ -419,7 +419,7 @@ pub extern "C" fn fuzzy_next(
 
 // A board made empty at a now: 0, or 8 and nothing written.
 #[no_mangle]
-pub extern "C" fn fuzzy_board_make(
+pub extern "C" fn fuzzy_board_make_in(
     lengths: &mut [u32; 256],
     state: &mut [u32; 8],
     year: u32,
@@ -449,7 +449,7 @@ pub extern "C" fn fuzzy_board_make(
 
 // One reminder more on a board, made ready in reading 1 or 2: its slot, or what reading refuses or 24, and nothing written.
 #[no_mangle]
-pub extern "C" fn fuzzy_board_add(
+pub extern "C" fn fuzzy_board_add_in(
     ready: &mut [u8; 98304],
     lengths: &mut [u32; 256],
     keys: &mut [u64; 256],
@@ -476,7 +476,7 @@ pub extern "C" fn fuzzy_board_add(
 
 // One reminder less on a board: 0, or 25 and nothing written.
 #[no_mangle]
-pub extern "C" fn fuzzy_board_remove(
+pub extern "C" fn fuzzy_board_remove_in(
     lengths: &mut [u32; 256],
     keys: &mut [u64; 256],
     state: &mut [u32; 8],
@@ -492,7 +492,7 @@ pub extern "C" fn fuzzy_board_remove(
 
 // All reminders of a board run again at another now: 0, or 8 and nothing written.
 #[no_mangle]
-pub extern "C" fn fuzzy_board_again(
+pub extern "C" fn fuzzy_board_again_in(
     ready: &[u8; 98304],
     lengths: &[u32; 256],
     keys: &mut [u64; 256],
@@ -524,7 +524,7 @@ pub extern "C" fn fuzzy_board_again(
 
 // The reminder of a board that is due first: its slot and its moment's seven numbers, or 26 and nothing written.
 #[no_mangle]
-pub extern "C" fn fuzzy_board_head(
+pub extern "C" fn fuzzy_board_head_in(
     keys: &[u64; 256],
     state: &[u32; 8],
     moment: &mut [u32; 7],
@@ -551,7 +551,7 @@ pub extern "C" fn fuzzy_board_head(
 
 // The slots of a board in the order of their moments, at the front of a lent array: how many there are.
 #[no_mangle]
-pub extern "C" fn fuzzy_board_order(
+pub extern "C" fn fuzzy_board_order_in(
     keys: &[u64; 256],
     state: &[u32; 8],
     slots: &mut [u32; 256],

@@ -12,12 +12,12 @@ use Rattle.fuzzydate.proofs.fuzzy_find_word.Reads as fuzzy-find-word'
 use Rattle.fuzzydate.proofs.fuzzy_write_phrase.Reads as fuzzy-write-phrase'
 use Rattle.fuzzydate.proofs.fuzzy_list.Reads as fuzzy-list'
 use Rattle.fuzzydate.proofs.fuzzy_next.Reads as fuzzy-next'
-use Rattle.fuzzydate.proofs.fuzzy_board_make.Reads as fuzzy-board-make'
-use Rattle.fuzzydate.proofs.fuzzy_board_add.Reads as fuzzy-board-add'
-use Rattle.fuzzydate.proofs.fuzzy_board_remove.Reads as fuzzy-board-remove'
-use Rattle.fuzzydate.proofs.fuzzy_board_again.Reads as fuzzy-board-again'
-use Rattle.fuzzydate.proofs.fuzzy_board_head.Reads as fuzzy-board-head'
-use Rattle.fuzzydate.proofs.fuzzy_board_order.Reads as fuzzy-board-order'
+use Rattle.fuzzydate.proofs.fuzzy_board_make_in.Reads as fuzzy-board-make-in'
+use Rattle.fuzzydate.proofs.fuzzy_board_add_in.Reads as fuzzy-board-add-in'
+use Rattle.fuzzydate.proofs.fuzzy_board_remove_in.Reads as fuzzy-board-remove-in'
+use Rattle.fuzzydate.proofs.fuzzy_board_again_in.Reads as fuzzy-board-again-in'
+use Rattle.fuzzydate.proofs.fuzzy_board_head_in.Reads as fuzzy-board-head-in'
+use Rattle.fuzzydate.proofs.fuzzy_board_order_in.Reads as fuzzy-board-order-in'
 
 pub fuzzy-read : Settled fuzzy-read'.Post × Same fuzzy-read'.Post (λ κs z e. e .1 .1 .1 .1 .1 .1 .1 .1 .1 .0 .now)
 fuzzy-read = (same fuzzy-read'.Post _ _ (λ κs a z e p. p .0), same fuzzy-read'.Post _ _ (λ κs a z e p. p .1))
@@ -46,57 +46,57 @@ fuzzy-list = (same fuzzy-list'.Post _ _ (λ κs a z e p. p .0), same fuzzy-list'
 pub fuzzy-next : Settled fuzzy-next'.Post × Same fuzzy-next'.Post (λ κs z e. e .1 .1 .1 .1 .1 .1 .1 .1 .1 .1 .1 .1 .1 .1 .1 .0 .now)
 fuzzy-next = (same fuzzy-next'.Post _ _ (λ κs a z e p. p .0), same fuzzy-next'.Post _ _ (λ κs a z e p. p .1))
 
-pub fuzzy-board-make : Settled fuzzy-board-make'.Post × Same fuzzy-board-make'.Post (λ κs z e. e .0 .now) × Same fuzzy-board-make'.Post (λ κs z e. e .1 .0 .now)
-fuzzy-board-make = (
-  same fuzzy-board-make'.Post _ _ (λ κs a z e p. p .0 [] []),
-  same fuzzy-board-make'.Post _ _ (λ κs a z e p. ap (λ (m : Memory). m .lengths) (p .1 [] [])),
-  same fuzzy-board-make'.Post _ _ (λ κs a z e p. ap (λ (m : Memory). m .state) (p .1 [] [])),
+pub fuzzy-board-make-in : Settled fuzzy-board-make-in'.Post × Same fuzzy-board-make-in'.Post (λ κs z e. e .0 .now) × Same fuzzy-board-make-in'.Post (λ κs z e. e .1 .0 .now)
+fuzzy-board-make-in = (
+  same fuzzy-board-make-in'.Post _ _ (λ κs a z e p. p .0 [] []),
+  same fuzzy-board-make-in'.Post _ _ (λ κs a z e p. ap (λ (m : Memory). m .lengths) (p .1 [] [])),
+  same fuzzy-board-make-in'.Post _ _ (λ κs a z e p. ap (λ (m : Memory). m .state) (p .1 [] [])),
 )
 
-pub fuzzy-board-add :
-    Settled fuzzy-board-add'.Post
-    × Same fuzzy-board-add'.Post (λ κs z e. e .0 .now)
-    × Same fuzzy-board-add'.Post (λ κs z e. e .1 .0 .now)
-    × Same fuzzy-board-add'.Post (λ κs z e. e .1 .1 .0 .now)
-    × Same fuzzy-board-add'.Post (λ κs z e. e .1 .1 .1 .0 .now)
-fuzzy-board-add = (
-  same fuzzy-board-add'.Post _ _ (λ κs a z e p. p .0),
-  same fuzzy-board-add'.Post _ _ (λ κs a z e p. ap (λ (m : Memory). m .ready) (p .1)),
-  same fuzzy-board-add'.Post _ _ (λ κs a z e p. ap (λ (m : Memory). m .lengths) (p .1)),
-  same fuzzy-board-add'.Post _ _ (λ κs a z e p. ap (λ (m : Memory). m .keys) (p .1)),
-  same fuzzy-board-add'.Post _ _ (λ κs a z e p. ap (λ (m : Memory). m .state) (p .1)),
+pub fuzzy-board-add-in :
+    Settled fuzzy-board-add-in'.Post
+    × Same fuzzy-board-add-in'.Post (λ κs z e. e .0 .now)
+    × Same fuzzy-board-add-in'.Post (λ κs z e. e .1 .0 .now)
+    × Same fuzzy-board-add-in'.Post (λ κs z e. e .1 .1 .0 .now)
+    × Same fuzzy-board-add-in'.Post (λ κs z e. e .1 .1 .1 .0 .now)
+fuzzy-board-add-in = (
+  same fuzzy-board-add-in'.Post _ _ (λ κs a z e p. p .0),
+  same fuzzy-board-add-in'.Post _ _ (λ κs a z e p. ap (λ (m : Memory). m .ready) (p .1)),
+  same fuzzy-board-add-in'.Post _ _ (λ κs a z e p. ap (λ (m : Memory). m .lengths) (p .1)),
+  same fuzzy-board-add-in'.Post _ _ (λ κs a z e p. ap (λ (m : Memory). m .keys) (p .1)),
+  same fuzzy-board-add-in'.Post _ _ (λ κs a z e p. ap (λ (m : Memory). m .state) (p .1)),
 )
 
-pub fuzzy-board-remove :
-    Settled fuzzy-board-remove'.Post
-    × Same fuzzy-board-remove'.Post (λ κs z e. e .0 .now)
-    × Same fuzzy-board-remove'.Post (λ κs z e. e .1 .0 .now)
-    × Same fuzzy-board-remove'.Post (λ κs z e. e .1 .1 .0 .now)
-fuzzy-board-remove = (
-  same fuzzy-board-remove'.Post _ _ (λ κs a z e p. p .0 []),
-  same fuzzy-board-remove'.Post _ _ (λ κs a z e p. ap (λ (m : Memory). m .lengths) (p .1 [])),
-  same fuzzy-board-remove'.Post _ _ (λ κs a z e p. ap (λ (m : Memory). m .keys) (p .1 [])),
-  same fuzzy-board-remove'.Post _ _ (λ κs a z e p. ap (λ (m : Memory). m .state) (p .1 [])),
+pub fuzzy-board-remove-in :
+    Settled fuzzy-board-remove-in'.Post
+    × Same fuzzy-board-remove-in'.Post (λ κs z e. e .0 .now)
+    × Same fuzzy-board-remove-in'.Post (λ κs z e. e .1 .0 .now)
+    × Same fuzzy-board-remove-in'.Post (λ κs z e. e .1 .1 .0 .now)
+fuzzy-board-remove-in = (
+  same fuzzy-board-remove-in'.Post _ _ (λ κs a z e p. p .0 []),
+  same fuzzy-board-remove-in'.Post _ _ (λ κs a z e p. ap (λ (m : Memory). m .lengths) (p .1 [])),
+  same fuzzy-board-remove-in'.Post _ _ (λ κs a z e p. ap (λ (m : Memory). m .keys) (p .1 [])),
+  same fuzzy-board-remove-in'.Post _ _ (λ κs a z e p. ap (λ (m : Memory). m .state) (p .1 [])),
 )
 
-pub fuzzy-board-again :
-    Settled fuzzy-board-again'.Post
-    × Same fuzzy-board-again'.Post (λ κs z e. e .1 .1 .0 .now)
-    × Same fuzzy-board-again'.Post (λ κs z e. e .1 .1 .1 .0 .now)
-fuzzy-board-again = (
-  same fuzzy-board-again'.Post _ _ (λ κs a z e p. p .0),
-  same fuzzy-board-again'.Post _ _ (λ κs a z e p. ap (λ (m : Memory). m .keys) (p .1)),
-  same fuzzy-board-again'.Post _ _ (λ κs a z e p. ap (λ (m : Memory). m .state) (p .1)),
+pub fuzzy-board-again-in :
+    Settled fuzzy-board-again-in'.Post
+    × Same fuzzy-board-again-in'.Post (λ κs z e. e .1 .1 .0 .now)
+    × Same fuzzy-board-again-in'.Post (λ κs z e. e .1 .1 .1 .0 .now)
+fuzzy-board-again-in = (
+  same fuzzy-board-again-in'.Post _ _ (λ κs a z e p. p .0),
+  same fuzzy-board-again-in'.Post _ _ (λ κs a z e p. ap (λ (m : Memory). m .keys) (p .1)),
+  same fuzzy-board-again-in'.Post _ _ (λ κs a z e p. ap (λ (m : Memory). m .state) (p .1)),
 )
 
-pub fuzzy-board-head : Settled fuzzy-board-head'.Post × Same fuzzy-board-head'.Post (λ κs z e. e .1 .1 .0 .now)
-fuzzy-board-head = (
-  same fuzzy-board-head'.Post _ _ (λ κs a z e p. p .0 [] []),
-  same fuzzy-board-head'.Post _ _ (λ κs a z e p. p .1 [] []),
+pub fuzzy-board-head-in : Settled fuzzy-board-head-in'.Post × Same fuzzy-board-head-in'.Post (λ κs z e. e .1 .1 .0 .now)
+fuzzy-board-head-in = (
+  same fuzzy-board-head-in'.Post _ _ (λ κs a z e p. p .0 [] []),
+  same fuzzy-board-head-in'.Post _ _ (λ κs a z e p. p .1 [] []),
 )
 
-pub fuzzy-board-order : Settled fuzzy-board-order'.Post × Same fuzzy-board-order'.Post (λ κs z e. e .1 .1 .0 .now)
-fuzzy-board-order = (
-  same fuzzy-board-order'.Post _ _ (λ κs a z e p. p .0 [] []),
-  same fuzzy-board-order'.Post _ _ (λ κs a z e p. p .1 [] []),
+pub fuzzy-board-order-in : Settled fuzzy-board-order-in'.Post × Same fuzzy-board-order-in'.Post (λ κs z e. e .1 .1 .0 .now)
+fuzzy-board-order-in = (
+  same fuzzy-board-order-in'.Post _ _ (λ κs a z e p. p .0 [] []),
+  same fuzzy-board-order-in'.Post _ _ (λ κs a z e p. p .1 [] []),
 )

@@ -1,6 +1,6 @@
 use borrow.Author.Needs.{needs}
-use Rattle.fuzzydate.proofs.fuzzy_board_head.Statement.{statement}
-use Rattle.fuzzydate.proofs.fuzzy_board_head.Tie as tie
+use Rattle.fuzzydate.proofs.fuzzy_board_head_in.Statement.{statement}
+use Rattle.fuzzydate.proofs.fuzzy_board_head_in.Tie as tie
 
 head-requires : tie.Need-head-requires
 head-requires c κs = search needs
@@ -32,8 +32,8 @@ returns-2 c =
     let is = c .enum-told .given .1 in
     ((λ ready lengths. rw (← (head .ensures ready lengths), is)), λ ready lengths. rw (← (head .ensures ready lengths), is) (search needs))
 
-pub fuzzy-board-head-spec : {M : Type 1} → statement M
-fuzzy-board-head-spec =
+pub fuzzy-board-head-in-spec : {M : Type 1} → statement M
+fuzzy-board-head-in-spec =
     tie.close
     (tie.spec
     head-requires

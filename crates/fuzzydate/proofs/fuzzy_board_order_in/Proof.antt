@@ -6,8 +6,8 @@ use denote.Ref.{now}
 use Rattle.board.specs.Boards.{memory}
 use Rattle.fuzzydate.proofs.BoardNumbers.{order-few}
 use borrow.Author.Needs.{needs}
-use Rattle.fuzzydate.proofs.fuzzy_board_order.Statement.{statement}
-use Rattle.fuzzydate.proofs.fuzzy_board_order.Tie as tie
+use Rattle.fuzzydate.proofs.fuzzy_board_order_in.Statement.{statement}
+use Rattle.fuzzydate.proofs.fuzzy_board_order_in.Tie as tie
 
 order-requires : tie.Need-order-requires
 order-requires c κs = search needs
@@ -20,5 +20,5 @@ mul-result c =
 returns : tie.Need-returns
 returns c = ((λ ready lengths. ap (λ (k : ℕ). 4294967296 * k) (c .order .ensures .0 ready lengths)), c .order .ensures .1)
 
-pub fuzzy-board-order-spec : {M : Type 1} → statement M
-fuzzy-board-order-spec = tie.close (tie.spec order-requires mul-result returns)
+pub fuzzy-board-order-in-spec : {M : Type 1} → statement M
+fuzzy-board-order-in-spec = tie.close (tie.spec order-requires mul-result returns)

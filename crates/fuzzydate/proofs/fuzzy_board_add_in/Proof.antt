@@ -12,8 +12,8 @@ use Rattle.board.specs.declared.Added.{Added}
 use Rattle.fuzzydate.specs.Called.{readyIn, addedCode}
 use Rattle.fuzzydate.proofs.BoardNumbers.{OneOf256, added-within}
 use borrow.Author.Needs.{needs}
-use Rattle.fuzzydate.proofs.fuzzy_board_add.Statement.{statement}
-use Rattle.fuzzydate.proofs.fuzzy_board_add.Tie as tie
+use Rattle.fuzzydate.proofs.fuzzy_board_add_in.Statement.{statement}
+use Rattle.fuzzydate.proofs.fuzzy_board_add_in.Tie as tie
 
 -- the memory at the entry
 abbrev memoryAt : tie.Start → Memory
@@ -93,8 +93,8 @@ returns-3 c =
       added .add .ensures .1 ∙ ap (memoryAfter (memoryAt entry)) (sym (chosen-of added)),
     )
 
-pub fuzzy-board-add-spec : {M : Type 1} → statement M
-fuzzy-board-add-spec =
+pub fuzzy-board-add-in-spec : {M : Type 1} → statement M
+fuzzy-board-add-in-spec =
     tie.close
     (tie.spec
     choose-requires
