@@ -1,8 +1,10 @@
 package fuzzydate;
 
+import java.nio.ByteBuffer;
+
 /**
  * The functions of fuzzy.h by their names there, over fuzzydate_jni.c. An answer is the header's one number; what a call writes goes to the front of
- * its last array, and on a refusal nothing does.
+ * its last array, and on a refusal nothing does. A board is a direct buffer of BOARD_SIZE bytes, used by one thread at a time.
  */
 final class Calls {
     static final int MOMENT_NUMBERS = 7;
@@ -11,6 +13,8 @@ final class Calls {
     static final int READY_SIZE = 384;
     static final int STAMP_SIZE = 29;
     static final int PHRASE_SIZE = 26;
+    static final int BOARD_SLOTS = 256;
+    static final int BOARD_SIZE = 101408;
 
     static {
         System.loadLibrary("fuzzydate_jni");
@@ -35,6 +39,18 @@ final class Calls {
     static native long list(byte[] rule, int[] start, int[] moments);
 
     static native long next(byte[] rule, int[] start, int[] asked, int[] moment);
+
+    static native long boardMake(ByteBuffer board, int[] now);
+
+    static native long boardAdd(ByteBuffer board, int reading, byte[] phrase);
+
+    static native long boardRemove(ByteBuffer board, int slot);
+
+    static native long boardAgain(ByteBuffer board, int[] now);
+
+    static native long boardHead(ByteBuffer board, int[] moment);
+
+    static native long boardOrder(ByteBuffer board, int[] slots);
 
     static native int number(long answer);
 

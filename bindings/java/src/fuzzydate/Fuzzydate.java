@@ -131,7 +131,7 @@ public final class Fuzzydate {
         return next(bytes(rule), start, asked);
     }
 
-    private static byte[] bytes(String text) {
+    static byte[] bytes(String text) {
         return text.getBytes(StandardCharsets.UTF_8);
     }
 

@@ -1,6 +1,6 @@
 package fuzzydate;
 
-/** Why something is refused, in the order of the numbers, which begin with 1. */
+/** Why something is refused, in the order of the numbers, which begin with 1. A name behind a gap states its number. */
 public enum Reason {
     /** The phrase has more than 256 bytes. */
     TOO_LONG,
@@ -41,15 +41,36 @@ public enum Reason {
     /** The start doesn't match the rule, or lies past its UNTIL. */
     NO_START,
     /** No occurrence of the rule is at or after the asked moment. */
-    NO_NEXT;
+    NO_NEXT,
+    /** No slot of the board is free. */
+    FULL_BOARD(24),
+    /** The slot of the board holds nothing. */
+    EMPTY_SLOT(25),
+    /** No reminder of the board has a moment at its now. */
+    NO_MOMENT(26);
+
+    private final int number;
+
+    Reason() {
+        number = ordinal() + 1;
+    }
+
+    Reason(int number) {
+        this.number = number;
+    }
 
     static Reason of(int number) {
-        return values()[number - 1];
+        for (Reason reason : values()) {
+            if (reason.number == number) {
+                return reason;
+            }
+        }
+        throw new IllegalArgumentException("no refusal has the number " + number);
     }
 
     /** Its number in the table of refusals. */
     public int number() {
-        return ordinal() + 1;
+        return number;
     }
 
     /** What is wrong, in plain words. */
