@@ -1,16 +1,15 @@
 -- Making a board gives a right one, and every call keeps it right.
 use Prim.Native.Nat.{ℕ, zero, suc, _+_, _*_, _≤_, _<_, min}
-use native.Mathlib.Nat.{not-suc-le-zero, le-of-suc-le-suc}
 use native.Mathlib.Omega.{arith}
 use mathlib.Core.Path.{_≡_, refl, ap, sym, _∙_}
 use mathlib.Core.Bool.{Bool, true, false, cond, not, _&&_, and-eq-true-iff}
 use mathlib.Core.List.{List, [], _∷_, map}
 use lib.Dec.{eqb, ltb}
-use lib.ListN.{length, getD, take, drop, set, replicate, length-replicate, length-set}
+use lib.ListN.{length, getD, take, set, replicate, length-replicate, length-set}
 use lib.Seq.{sets, length-sets, length-take-le, getD-set-same, getD-set-other}
-use borrow.Author.Tests.{eq-eqb, ne-eqb, eqb-true, ltb-true}
+use borrow.Author.Tests.{eq-eqb, ne-eqb, ltb-true, ltb-false}
 use Rattle.refusals.specs.Table.{FullBoard}
-use Rattle.refusals.specs.Answers.{given, refused, refuse, andThen}
+use Rattle.refusals.specs.Answers.{given, refused, refusalAt, refuse, andThen}
 use Rattle.refusals.specs.declared.Refusal.{Refusal}
 use Rattle.refusals.proofs.Holds.{given-holds}
 use Rattle.digits.proofs.Order.{Tri, tri, below, equal, above}
@@ -25,15 +24,16 @@ use Rattle.steps.proofs.Small.{all-smaller}
 use Rattle.answer.specs.Answer.{placed, answerOf}
 use Rattle.ready.specs.Ready.{readyOf}
 use Rattle.ready.proofs.ReadyPhrases.{made-ready, ready-answers}
-use Rattle.records.specs.Records.{encodeOf, decodeOf}
+use Rattle.records.specs.Records.{encodeOf}
 use Rattle.records.proofs.Lists.{length-encoded, decoded-back}
 use Rattle.numbers.specs.Slices.{oneIf}
 use Rattle.board.specs.Rows.{insert, slotOf, without}
 use Rattle.board.specs.Boards.{Memory, memory, Done, done, nowIn, countIn, stateOf, rowIn, isFilled, phraseAt, outcomeAt, keyAt, keysFrom, orderAt}
-use Rattle.board.specs.Boards.{makeOf, lowestFree, freeSlot, slotFor, filled, entered, addOf, removed, removeOf, againOf, orderOf}
-use Rattle.board.specs.Scans.{timesIn, Held, Sized, IsBoard}
+use Rattle.board.specs.Boards.{makeOf, freeSlot, slotFor, filled, entered, addOf, removed, removeOf, againOf, orderOf}
+use Rattle.board.specs.Scans.{timesIn, Held, Sized, IsBoard, Empty, MovedTo, Others, Put, TakenOut}
 use Rattle.board.proofs.Keys.{length-insert, length-without}
 use Rattle.board.proofs.Orders.{Alike, order-few, order-filled, order-emptied, each-once}
+use Rattle.board.proofs.Free.{Free, free-slot, full-filled}
 use Rattle.board.proofs.Anew.{order-anywhere}
 use Rattle.board.proofs.Bytes.{own-slot, other-slot}
 
@@ -81,12 +81,18 @@ unfolding orderAt
 order-none m n h = rw (none-filled m n h 256 0)
 
 -- "A board is made empty at a valid now"
+pub make-empties : (m : Memory) (n : Moment) {d : Done} → makeOf m n ≡ given d → Empty n (d .after)
+unfolding makeOf
+make-empties m n e =
+    let ok = taken (isMoment n) _ _ e in
+    rw (← (ok .1)) (record { now = refl; free = λ s. rw (eq-eqb _ 0 (zeros 256 s)) })
+
 pub make-keeps : (m : Memory) (n : Moment) {d : Done} → Sized m → makeOf m n ≡ given d → IsBoard (d .after)
 unfolding makeOf
 make-keeps m n sized e =
     let ok = taken (isMoment n) _ _ e in
     let m′ = memory (m .ready) (replicate 256 0) (m .keys) (stateOf n 0) in
-    let free : (i : ℕ) → isFilled m′ i ≡ false = λ i. rw (eq-eqb _ 0 (zeros 256 i)) in
+    let free = (rw (← (ok .1)) at (make-empties m n e)) .free in
     let order = order-none m′ n free in
     let board : IsBoard m′ =
     record {
@@ -99,6 +105,10 @@ make-keeps m n sized e =
     rw (← (ok .1)) board
 
 -- "running all again at a new now"
+pub again-moves : (m : Memory) (n : Moment) {d : Done} → againOf m n ≡ given d → MovedTo n m (d .after)
+unfolding againOf
+again-moves m n e = rw (← (taken (isMoment n) _ _ e .1)) (record { now = refl; ready = refl; lengths = refl })
+
 pub again-keeps : (m : Memory) (n : Moment) {d : Done} → IsBoard m → againOf m n ≡ given d → IsBoard (d .after)
 unfolding againOf
 again-keeps m n board e =
@@ -132,12 +142,7 @@ count-now l k =
       getD-set-other l 7 6 k 0 (λ e. omega arith),
     )
 
--- a memory that has the reminders of another one, but for one slot
-record Change (m m′ : Memory) (s : ℕ) : Type 0 where
-  lengths : (i : ℕ) → (i ≡ s → ⊥) → getD (m′ .lengths) i 0 ≡ getD (m .lengths) i 0
-  phrases : (i : ℕ) → (i ≡ s → ⊥) → phraseAt m′ i ≡ phraseAt m i
-
-module _ {m m′ : Memory} {s : ℕ} (change : Change m m′ s) where
+module _ {m m′ : Memory} {s : ℕ} (change : Others m m′ s) where
   change-alike : (n : Moment) → Alike m m′ n s
   unfolding keyAt
   change-alike n = record { filled = λ i ne. rw (change .lengths i ne); keys = λ i ne. rw (change .phrases i ne) }
@@ -158,9 +163,10 @@ module _ {m m′ : Memory} {s : ℕ} (change : Change m m′ s) where
 
   -- a right board again, where the row that is stored is the order
   change-board :
-      {keys row : List ℕ} → IsBoard m → Sized m′ → (isFilled m′ s ≡ true → Held m′ s) → nowIn (m′ .state) ≡ nowIn (m .state) →
-      m′ .keys ≡ sets keys 0 row → Stored keys row (getD (m′ .state) 7 0) → row ≡ orderAt m′ (nowIn (m .state)) → IsBoard m′
-  change-board board sized own same stored kept order =
+      {keys row : List ℕ} → IsBoard m → Sized m′ → (isFilled m′ s ≡ true → Held m′ s) → m′ .keys ≡ sets keys 0 row →
+      Stored keys row (getD (m′ .state) 7 0) → row ≡ orderAt m′ (nowIn (m .state)) → IsBoard m′
+  change-board board sized own stored kept order =
+      let same = change .now in
       record {
         sized = sized;
         now = ap isMoment same ∙ board .now;
@@ -169,73 +175,50 @@ module _ {m m′ : Memory} {s : ℕ} (change : Change m m′ s) where
         count = kept .count ∙ ap (λ (l : List ℕ). length l) order ∙ ap (λ (n : Moment). length (orderAt m′ n)) (sym same);
       }
 
-removed-board : (m : Memory) (s : ℕ) → IsBoard m → s < 256 → IsBoard (removed m s)
-removed-board m s board here =
+taken-out : (m : Memory) (s : ℕ) → Sized m → s < 256 → isFilled m s ≡ true → TakenOut s m (removed m s)
+taken-out m s size here held =
+    record {
+      filled = held;
+      free = rw (eq-eqb _ 0 (getD-set-same (m .lengths) s 0 0 (omega (arith, size .lengths))));
+      others =
+          record {
+            now = count-now (m .state) (length (without s (rowIn m)));
+            lengths = λ i ne. getD-set-other (m .lengths) s i 0 0 ne;
+            phrases = λ i ne. rw (getD-set-other (m .lengths) s i 0 0 ne);
+          };
+    }
+
+removed-board : (m : Memory) (s : ℕ) → IsBoard m → TakenOut s m (removed m s) → IsBoard (removed m s)
+removed-board m s board out =
     let size = board .sized in
     let row = without s (rowIn m) in
-    let m′ = removed m s in
-    let change : Change m m′ s =
-    record {
-      lengths = λ i ne. getD-set-other (m .lengths) s i 0 0 ne;
-      phrases = λ i ne. rw (getD-set-other (m .lengths) s i 0 0 ne);
-    } in
-    let free : isFilled m′ s ≡ false = rw (eq-eqb _ 0 (getD-set-same (m .lengths) s 0 0 (omega (arith, size .lengths)))) in
     let few : length row ≤ 256 =
     omega (arith, length-without s (rowIn m), ap (λ (l : List ℕ). length l) (board .row), order-few m (nowIn (m .state))) in
-    change-board change board
+    change-board (out .others) board
     (record {
       ready = size .ready;
       lengths = length-set (m .lengths) s 0 ∙ size .lengths;
       keys = length-sets (m .keys) 0 row ∙ size .keys;
       state = length-set (m .state) 7 (length row) ∙ size .state;
     })
-    (λ f. absurd (differ (sym f ∙ free)))
-    (count-now (m .state) (length row))
+    (λ f. absurd (differ (sym f ∙ out .free)))
     refl
     (record { few = few; sized = size .keys; count = getD-set-same (m .state) 7 (length row) 0 (omega (arith, size .state)) })
-    (ap (without s) (board .row) ∙ order-emptied (change-alike change (nowIn (m .state))) free)
+    (ap (without s) (board .row) ∙ order-emptied (change-alike (out .others) (nowIn (m .state))) (out .free))
 
 -- one reminder less
+pub remove-takes : (m : Memory) (s : ℕ) {d : Done} → Sized m → removeOf m s ≡ given d → TakenOut s m (d .after)
+unfolding removeOf
+remove-takes m s size e =
+    let ok = taken (ltb s 256 && isFilled m s) _ _ e in
+    let both = and-eq-true-iff (ltb s 256) (isFilled m s) .0 (ok .0) in
+    rw (← (ok .1)) (taken-out m s size (ltb-true s 256 (both .0)) (both .1))
+
 pub remove-keeps : (m : Memory) (s : ℕ) {d : Done} → IsBoard m → removeOf m s ≡ given d → IsBoard (d .after)
 unfolding removeOf
 remove-keeps m s board e =
     let ok = taken (ltb s 256 && isFilled m s) _ _ e in
-    let here = ltb-true s 256 (and-eq-true-iff (ltb s 256) (isFilled m s) .0 (ok .0) .0) in
-    rw (← (ok .1)) (removed-board m s board here)
-
--- the lowest free slot is free
-free-is : (l : List ℕ) → lowestFree l < length l → getD l (lowestFree l) 0 ≡ 0
-free-is [] h = absurd (not-suc-le-zero h)
-free-is (k ∷ l) h = go (eqb k 0) refl (λ g. free-is l g) h
-  where
-    go : (b : Bool) → eqb k 0 ≡ b → (lowestFree l < length l → getD l (lowestFree l) 0 ≡ 0) → cond b 0 (suc (lowestFree l)) < suc (length l) →
-        getD (k ∷ l) (cond b 0 (suc (lowestFree l))) 0 ≡ 0
-    go true e on g = eqb-true k 0 e
-    go false e on g = on (le-of-suc-le-suc g)
-
--- and no lower one is: "A removed slot is used again, lowest first."
-pub lower-filled : (l : List ℕ) (i : ℕ) → i < lowestFree l → getD l i 0 ≡ 0 → ⊥
-lower-filled [] i h e = not-suc-le-zero h
-lower-filled (k ∷ l) zero h e = not-suc-le-zero (rw (eq-eqb k 0 e) at h)
-lower-filled (k ∷ l) (suc i) h e = go (eqb k 0) (λ g. lower-filled l i g e) h
-  where
-    go : (b : Bool) → (i < lowestFree l → ⊥) → suc i < cond b 0 (suc (lowestFree l)) → ⊥
-    go true on g = not-suc-le-zero g
-    go false on g = on (le-of-suc-le-suc g)
-
-record Free (m : Memory) (s : ℕ) : Type 0 where
-  here : s < 256
-  empty : isFilled m s ≡ false
-  room : countIn (m .state) < 256
-
-free-slot : (m : Memory) → Sized m → freeSlot m < 256 → Free m (freeSlot m)
-free-slot m sized h = go (ltb (countIn (m .state)) 256) refl h
-  where
-    go : (b : Bool) → ltb (countIn (m .state)) 256 ≡ b → cond b (lowestFree (m .lengths)) 256 < 256 → Free m (cond b (lowestFree (m .lengths)) 256)
-    go true e g =
-        let empty = free-is (m .lengths) (omega (arith, sized .lengths)) in
-        record { here = g; empty = rw (eq-eqb _ 0 empty); room = ltb-true _ _ e }
-    go false e g = absurd (omega arith)
+    rw (← (ok .1)) (removed-board m s board (rw (← (ok .1)) at (remove-takes m s (board .sized) e)))
 
 -- a list that was made has a step
 some : (ss : List Step) → isList ss ≡ true → 0 < length ss
@@ -248,56 +231,103 @@ unfolding keyAt
 key-entered m n s = refl
 
 module _ (m : Memory) (reading : Reading) (phrase : List ℕ) (ss : List Step) (made : readyOf reading (wordsIn reading) phrase ≡ given ss) where
-  added-board : (s : ℕ) → IsBoard m → Free m s → IsBoard (entered (filled m s (encodeOf ss)) s)
+  -- the slot with its phrase, and the key in the row
+  abbrev joined : ℕ → Memory
+  joined s = entered (filled m s (encodeOf ss)) s
+
+  small : length (encodeOf ss) ≤ 384
+  small = omega (arith, length-encoded ss, given-holds (made-ready reading phrase) made .most)
+
+  own-length : (s : ℕ) → Sized m → Free m s → getD (joined s .lengths) s 0 ≡ length (encodeOf ss)
+  own-length s size free = getD-set-same (m .lengths) s (length (encodeOf ss)) 0 (omega (arith, size .lengths, free .here))
+
+  own-bytes : (s : ℕ) → Sized m → Free m s → phraseAt (joined s) s ≡ encodeOf ss
+  own-bytes s size free =
+      let p = encodeOf ss in
+      let least : min (length p) 384 ≡ length p = omega (arith, small) in
+      rw (own-length s size free, least) (own-slot (m .ready) p s (omega (arith, small, size .ready, free .here)))
+
+  abbrev now-held : (s : ℕ) → Sized m → Free m s → Held (joined s) s
+  now-held s size free = record { reading = reading; phrase = phrase; steps = ss; made = made; bytes = own-bytes s size free }
+
+  put-in : (s : ℕ) → Sized m → Free m s → Put (answerOf reading (wordsIn reading) phrase) s m (joined s)
+  put-in s size free =
+      let p = encodeOf ss in
+      let none : length p ≡ 0 → ⊥ = λ z. omega (arith, length-encoded ss, some ss (given-holds (made-ready reading phrase) made .list)) in
+      record {
+        here = free .here;
+        free = free .empty;
+        lowest = free .lowest;
+        filled = rw (own-length s size free, ne-eqb (length p) 0 none);
+        gives = λ n. held-answers (now-held s size free) n;
+        others =
+            record {
+              now = count-now (m .state) (countIn (m .state) + 1);
+              lengths = λ i ne. getD-set-other (m .lengths) s i (length p) 0 ne;
+              phrases = λ i ne.
+                  rw (getD-set-other (m .lengths) s i (length p) 0 ne)
+                  (other-slot (m .ready) p s i (min (getD (m .lengths) i 0) 384) ne small (omega arith));
+            };
+      }
+
+  added-board : (s : ℕ) → IsBoard m → Free m s → IsBoard (joined s)
   added-board s board free =
       let size = board .sized in
       let p = encodeOf ss in
       let n = nowIn (m .state) in
       let m₁ = filled m s p in
-      let m′ = entered m₁ s in
       let row = insert (keyAt m₁ n s) (rowIn m) in
-      let list = given-holds (made-ready reading phrase) made in
-      let long : length p ≡ 16 * length ss = length-encoded ss in
-      let small : length p ≤ 384 = omega (arith, list .most) in
-      let none : length p ≡ 0 → ⊥ = λ z. omega (arith, some ss (list .list)) in
-      let change : Change m m′ s =
-      record {
-        lengths = λ i ne. getD-set-other (m .lengths) s i (length p) 0 ne;
-        phrases = λ i ne.
-            rw (getD-set-other (m .lengths) s i (length p) 0 ne)
-            (other-slot (m .ready) p s i (min (getD (m .lengths) i 0) 384) ne small (omega arith));
-      } in
-      let own : getD (m′ .lengths) s 0 ≡ length p = getD-set-same (m .lengths) s (length p) 0 (omega (arith, size .lengths, free .here)) in
-      let full : isFilled m′ s ≡ true = rw (own, ne-eqb (length p) 0 none) in
-      let least : min (length p) 384 ≡ length p = omega arith in
-      let bytes : phraseAt m′ s ≡ p = rw (own, least) (own-slot (m .ready) p s (omega (arith, size .ready, free .here))) in
+      let put = put-in s size free in
+      let order = order-filled (change-alike (put .others) n) (free .empty) (put .filled) (free .here) in
       let count : length (rowIn m) ≡ countIn (m .state) = length-take-le (countIn (m .state)) (m .keys) (omega (arith, size .keys)) in
       let longer : length row ≡ suc (length (rowIn m)) = length-insert (keyAt m₁ n s) (rowIn m) in
       let state = getD-set-same (m .state) 7 (countIn (m .state) + 1) 0 (omega (arith, size .state)) in
-      change-board change board
+      change-board (put .others) board
       (record {
         ready = length-sets (m .ready) (384 * s) p ∙ size .ready;
         lengths = length-set (m .lengths) s (length p) ∙ size .lengths;
         keys = length-sets (m .keys) 0 row ∙ size .keys;
         state = length-set (m .state) 7 (countIn (m .state) + 1) ∙ size .state;
       })
-      (λ f. record { reading = reading; phrase = phrase; steps = ss; made = made; bytes = bytes })
-      (count-now (m .state) (countIn (m .state) + 1))
+      (λ f. now-held s size free)
       refl
       (record { few = omega (arith, free .room); sized = size .keys; count = state ∙ omega arith })
-      (ap (insert (keyAt m₁ n s)) (board .row) ∙ sym (order-filled (change-alike change n) (free .empty) full (free .here) ∙ ap (λ (k : ℕ). insert k (orderAt m n)) (key-entered m₁ n s)))
+      (ap (insert (keyAt m₁ n s)) (board .row) ∙ sym (order ∙ ap (λ (k : ℕ). insert k (orderAt m n)) (key-entered m₁ n s)))
 
-  -- one reminder more
-  pub add-keeps : {d : Done} → IsBoard m → addOf m (given ss) ≡ given d → IsBoard (d .after)
+  -- a reminder that was added went to the free slot
+  joined-free : {d : Done} → addOf m (given ss) ≡ given d → (freeSlot m < 256) × (joined (freeSlot m) ≡ d .after) × (freeSlot m ≡ d .number)
   unfolding addOf slotFor
-  add-keeps {d} board e = go (ltb (freeSlot m) 256) refl e
+  joined-free {d} e = go (ltb (freeSlot m) 256) refl e
     where
       go : (b : Bool) → ltb (freeSlot m) 256 ≡ b →
-          andThen (cond b (given (freeSlot m)) (refuse FullBoard 0 0)) (λ s. done s (entered (filled m s (encodeOf ss)) s)) ≡ given d → IsBoard (d .after)
-      go true f g =
-          let same : entered (filled m (freeSlot m) (encodeOf ss)) (freeSlot m) ≡ d .after = cc in
-          rw (← same) (added-board (freeSlot m) board (free-slot m (board .sized) (ltb-true _ _ f)))
+          andThen (cond b (given (freeSlot m)) (refuse FullBoard 0 0)) (λ s. done s (joined s)) ≡ given d →
+          (freeSlot m < 256) × (joined (freeSlot m) ≡ d .after) × (freeSlot m ≡ d .number)
+      go true f g = (ltb-true _ _ f, cc, cc)
       go false f g = let z : _≡_ {A = ℕ} 0 1 = cc in absurd (omega arith)
+
+  -- one reminder more
+  pub add-puts : {d : Done} → Sized m → addOf m (given ss) ≡ given d → Put (answerOf reading (wordsIn reading) phrase) (d .number) m (d .after)
+  add-puts size e =
+      let to = joined-free e in
+      rw (← (to .1), ← (to .2)) (put-in (freeSlot m) size (free-slot m size (to .0)))
+
+  pub add-keeps : {d : Done} → IsBoard m → addOf m (given ss) ≡ given d → IsBoard (d .after)
+  add-keeps board e =
+      let to = joined-free e in
+      rw (← (to .1)) (added-board (freeSlot m) board (free-slot m (board .sized) (to .0)))
+
+-- "24 for a full board"
+pub add-full :
+    (m : Memory) (ss : List Step) {r : Refusal} → IsBoard m → addOf m (given ss) ≡ refused r →
+    (r ≡ refusalAt FullBoard 0 0) × ((s : ℕ) → s < 256 → isFilled m s ≡ true)
+unfolding addOf slotFor
+add-full m ss {r} board e = go (ltb (freeSlot m) 256) refl e
+  where
+    go : (b : Bool) → ltb (freeSlot m) 256 ≡ b →
+        andThen (cond b (given (freeSlot m)) (refuse FullBoard 0 0)) (λ s. done s (entered (filled m s (encodeOf ss)) s)) ≡ refused r →
+        (r ≡ refusalAt FullBoard 0 0) × ((s : ℕ) → s < 256 → isFilled m s ≡ true)
+    go true f g = let z : _≡_ {A = ℕ} 0 1 = cc in absurd (omega arith)
+    go false f g = (cc, full-filled m board (ltb-false (freeSlot m) 256 f))
 
 -- "the whole order holds each filled slot once"
 pub order-once : (m : Memory) → IsBoard m → (s : ℕ) → s < 256 → timesIn s (orderOf m) ≡ oneIf (isFilled m s)
