@@ -1,10 +1,11 @@
--- Of a board that was made by the calls of apps: the order is kept, the head is what a scan gives, and a refused call leaves it. Assumes nothing.
-use Prim.Native.Nat.{ℕ, _*_, _<_}
+-- Of a board that was made by the calls of apps: the order is kept and by moment, the head is what a scan gives, and a refused call leaves it.
+-- Assumes nothing.
+use Prim.Native.Nat.{ℕ, suc, _*_, _<_}
 use native.Mathlib.Omega.{arith}
 use mathlib.Core.Path.{_≡_, refl, sym, subst, ap, _∙_}
 use mathlib.Core.Bool.{Bool, true, false, cond}
 use mathlib.Core.List.{List}
-use lib.ListN.{length, take, replicate}
+use lib.ListN.{length, getD, take, replicate}
 use lib.Seq.{sets}
 use Rattle.digits.proofs.Stores.{sets-taken}
 use Rattle.refusals.specs.Table.{NoNow}
@@ -17,37 +18,38 @@ use Rattle.numbers.specs.Slices.{oneIf}
 use Rattle.answer.specs.Answer.{placed, answerOf}
 use Rattle.ready.specs.Ready.{ReadyPhrase, readyOf}
 use Rattle.board.specs.Boards.{Memory, memory, Done, done, memoryAfter, nowIn, stateOf, isFilled, outcomeAt, makeOf, addOf, removeOf, againOf, headOf, orderOf}
-use Rattle.board.specs.Scans.{Sized, IsBoard, scanOf, timesIn}
+use Rattle.board.specs.Scans.{Sized, IsBoard, scanOf, timesIn, Before}
 use Rattle.board.proofs.Heads.{head-scan}
 use Rattle.board.proofs.Kept.{held-answers, make-keeps, again-keeps, remove-keeps, add-keeps, order-once}
+use Rattle.board.proofs.InOrder.{order-before}
 use Rattle.fuzzydate.specs.Called.{readingOf, readyIn, codeOf, addedCode, dueCode, dueAfter}
 use Rattle.fuzzydate.proofs.BoardNumbers.{order-few}
 use Rattle.agreed.specs.Calls.{number, size}
 use Rattle.agreed.specs.Boards.{Make, Add, Remove, Again, Changed, by-make, by-add, by-remove, by-again, Made, new, then, Head, Order}
 
 -- a call answers and leaves what a definition says of the memory before it
-abbrev Says : (Answer Done → ℕ) → (Memory → Answer Done) → Memory → ℕ → Memory → Type 0
+abbrev pub Says : (Answer Done → ℕ) → (Memory → Answer Done) → Memory → ℕ → Memory → Type 0
 Says code f m k m′ = (k ≡ code (f m)) × (m′ ≡ memoryAfter m (f m))
 
-make-says : {n : Moment} {m m′ : Memory} {k : ℕ} → Make n m k m′ → Says codeOf (λ x. makeOf x n) m k m′
+pub make-says : {n : Moment} {m m′ : Memory} {k : ℕ} → Make n m k m′ → Says codeOf (λ x. makeOf x n) m k m′
 make-says {n} {m} {m′} {k} c =
     let p = c .call .promised in
     subst (λ (x : Memory). Says codeOf (λ y. makeOf y n) x k m′) (c .before)
     (rw (← (c .now-is), ← (c .answer-is), ← (c .behind)) (p .0 (m .ready) (m .keys), p .1 (m .ready) (m .keys)))
 
-add-says : {reading : ℕ} {phrase : List ℕ} {m m′ : Memory} {k : ℕ} → Add reading phrase m k m′ → Says addedCode (λ x. addOf x (readyIn reading phrase)) m k m′
+pub add-says : {reading : ℕ} {phrase : List ℕ} {m m′ : Memory} {k : ℕ} → Add reading phrase m k m′ → Says addedCode (λ x. addOf x (readyIn reading phrase)) m k m′
 add-says {reading} {phrase} {m} {m′} {k} c =
     let p = c .call .promised in
     subst (λ (x : Memory). Says addedCode (λ y. addOf y (readyIn reading phrase)) x k m′) (c .before)
     (rw (← (c .reading-is), ← (c .phrase-is), ← (c .answer-is), ← (c .behind)) (p .0, p .1))
 
-remove-says : {s : ℕ} {m m′ : Memory} {k : ℕ} → Remove s m k m′ → Says codeOf (λ x. removeOf x s) m k m′
+pub remove-says : {s : ℕ} {m m′ : Memory} {k : ℕ} → Remove s m k m′ → Says codeOf (λ x. removeOf x s) m k m′
 remove-says {s} {m} {m′} {k} c =
     let p = c .call .promised in
     subst (λ (x : Memory). Says codeOf (λ y. removeOf y s) x k m′) (c .before)
     (rw (← (c .slot-is), ← (c .answer-is), ← (c .behind)) (p .0 (m .ready), p .1 (m .ready)))
 
-again-says : {n : Moment} {m m′ : Memory} {k : ℕ} → Again n m k m′ → Says codeOf (λ x. againOf x n) m k m′
+pub again-says : {n : Moment} {m m′ : Memory} {k : ℕ} → Again n m k m′ → Says codeOf (λ x. againOf x n) m k m′
 again-says {n} {m} {m′} {k} c =
     let p = c .call .promised in
     subst (λ (x : Memory). Says codeOf (λ y. againOf y n) x k m′) (c .before)
@@ -119,17 +121,27 @@ head-scanned {m} {array} {array′} {k} made c =
     (subst (λ (x : Memory). (k ≡ dueCode (headOf x)) × (array′ ≡ dueAfter (headOf x) array)) (c .before)
     (rw (← (c .array-is), ← (c .answer-is), ← (c .array′-is)) (p .0 (m .ready) (m .lengths), p .1 (m .ready) (m .lengths))))
 
--- "the whole order holds each filled slot once"
-pub ordered-once :
-    {m : Memory} {slots slots′ : List ℕ} {k : ℕ} → Made m → Order m slots k slots′ → (s : ℕ) → s < 256 →
-    timesIn s (take (size k) slots′) ≡ oneIf (isFilled m s)
-ordered-once {m} {slots} {slots′} {k} made c s h =
+-- the slots that asking for the order wrote
+order-read : {m : Memory} {slots slots′ : List ℕ} {k : ℕ} → Order m slots k slots′ → take (size k) slots′ ≡ orderOf m
+order-read {m} {slots} {slots′} {k} c =
     let p = c .call .promised in
     let says : (k ≡ 4294967296 * length (orderOf m)) × (slots′ ≡ sets slots 0 (orderOf m)) =
     subst (λ (x : Memory). (k ≡ 4294967296 * length (orderOf x)) × (slots′ ≡ sets slots 0 (orderOf x))) (c .before)
     (rw (← (c .slots-are), ← (c .answer-is), ← (c .slots′-are)) (p .0 (m .ready) (m .lengths), p .1 (m .ready) (m .lengths))) in
     let count : length (orderOf m) ≡ size k = omega (arith, says .0) in
-    rw (says .1, sets-taken (orderOf m) slots (omega (arith, order-few m, c .numbers)) (size k) count) (order-once m (made-board made) s h)
+    rw (says .1) (sets-taken (orderOf m) slots (omega (arith, order-few m, c .numbers)) (size k) count)
+
+-- "the whole order holds each filled slot once"
+pub ordered-once :
+    {m : Memory} {slots slots′ : List ℕ} {k : ℕ} → Made m → Order m slots k slots′ → (s : ℕ) → s < 256 →
+    timesIn s (take (size k) slots′) ≡ oneIf (isFilled m s)
+ordered-once {m} made c s h = rw (order-read c) (order-once m (made-board made) s h)
+
+-- "an order by moment", "ties by lower slot", and those that refuse "last, by slot": each slot stands before the next one
+pub ordered-before :
+    {m : Memory} {slots slots′ : List ℕ} {k : ℕ} → Made m → Order m slots k slots′ → let l = take (size k) slots′ in
+    (i : ℕ) → suc i < length l → Before m (getD l i 0) (getD l (suc i) 0)
+ordered-before {m} made c i h = rw (order-read c) (order-before m (made-board made) i (rw (order-read c) at h))
 
 -- "Moments are those of demand 2 at the board's now."
 pub made-answers :

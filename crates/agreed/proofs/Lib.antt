@@ -3,3 +3,4 @@ pub mod ShownAgain
 pub mod Later
 pub mod NextListed
 pub mod BoardKept
+pub mod BoardCalls
