@@ -44,6 +44,20 @@ extern "C" {
  * UTC where west is 0, and below 25 hours west of it where west is 1, then never 0. */
 #define FUZZY_LOCAL_NUMBERS 9
 
+/* The reminders that a board has room for. */
+#define FUZZY_BOARD_SLOTS 256
+
+/* A board: up to 256 ready reminders, each in a slot of 0 to 255, and beside them the order of their moments at the board's now. It is the
+ * caller's own memory, 101,408 bytes: no call allocates or keeps anything elsewhere. It has no pointers, so it may be copied; what may be stored
+ * and sent are phrases and ready phrases. Its contents are made by fuzzy_board_make and changed by the calls below; with any other contents every
+ * call still answers, and touches nothing outside the board. */
+struct fuzzy_board {
+    uint64_t keys[FUZZY_BOARD_SLOTS];
+    uint32_t lengths[FUZZY_BOARD_SLOTS];
+    uint32_t state[FUZZY_MOMENT_NUMBERS + 1];
+    uint8_t ready[FUZZY_BOARD_SLOTS * FUZZY_READY_SIZE];
+};
+
 /* The two readings of a phrase; the first is the Rust library's. They differ in what "in" behind a weekday means: at Wednesday, 11 February 2026,
  * "tuesday in two weeks" is 27 January in the first and 3 March in the second; and in what the year behind month and day is: any number in the first,
  * so that "march 3 5 pm" is refused, and four digits in the second, in which it is 17:00 on 3 March. The second also takes "24th" with any ending,
@@ -78,7 +92,10 @@ enum fuzzy_refusal {
     FUZZY_NO_NEXT = 20,        /* no occurrence of the rule is at or after the asked moment */
     FUZZY_NO_ZONE = 21,        /* no zone: no TZif file of version 2 or later, or one that passes a bound */
     FUZZY_PAST_LAST = 22,      /* at or past the last transition of the zone's file */
-    FUZZY_NO_INSTANT = 23      /* a civil time that does not occur in the zone */
+    FUZZY_NO_INSTANT = 23,     /* a civil time that does not occur in the zone */
+    FUZZY_FULL_BOARD = 24,     /* no slot of the board is free */
+    FUZZY_EMPTY_SLOT = 25,     /* the slot holds nothing */
+    FUZZY_NO_MOMENT = 26       /* no entry of the board has a moment */
 };
 
 /* A phrase at a now, in one of the two readings. 0: the moment's seven numbers are in `moment`. Else a refusal. Where the phrase states a
@@ -159,6 +176,58 @@ uint64_t fuzzy_run_in_zone(const uint8_t *ready, size_t ready_length, const uint
 uint64_t fuzzy_read_in_zone(uint32_t reading, const uint8_t *phrase, size_t phrase_length, const uint8_t *zone, size_t zone_length, int64_t second,
                             uint32_t millisecond, int64_t *due, uint32_t moment[FUZZY_LOCAL_NUMBERS]);
 
+/* What the calls for boards below are made of: the same calls on a board's parts. */
+uint64_t fuzzy_board_make_in(uint32_t lengths[FUZZY_BOARD_SLOTS], uint32_t state[FUZZY_MOMENT_NUMBERS + 1], uint32_t year, uint32_t month,
+                             uint32_t day, uint32_t hour, uint32_t minute, uint32_t second, uint32_t millisecond);
+uint64_t fuzzy_board_add_in(uint8_t ready[FUZZY_BOARD_SLOTS * FUZZY_READY_SIZE], uint32_t lengths[FUZZY_BOARD_SLOTS],
+                            uint64_t keys[FUZZY_BOARD_SLOTS], uint32_t state[FUZZY_MOMENT_NUMBERS + 1], uint32_t reading, const uint8_t *phrase,
+                            size_t phrase_length);
+uint64_t fuzzy_board_remove_in(uint32_t lengths[FUZZY_BOARD_SLOTS], uint64_t keys[FUZZY_BOARD_SLOTS], uint32_t state[FUZZY_MOMENT_NUMBERS + 1],
+                               uint32_t slot);
+uint64_t fuzzy_board_again_in(const uint8_t ready[FUZZY_BOARD_SLOTS * FUZZY_READY_SIZE], const uint32_t lengths[FUZZY_BOARD_SLOTS],
+                              uint64_t keys[FUZZY_BOARD_SLOTS], uint32_t state[FUZZY_MOMENT_NUMBERS + 1], uint32_t year, uint32_t month,
+                              uint32_t day, uint32_t hour, uint32_t minute, uint32_t second, uint32_t millisecond);
+uint64_t fuzzy_board_head_in(const uint64_t keys[FUZZY_BOARD_SLOTS], const uint32_t state[FUZZY_MOMENT_NUMBERS + 1],
+                             uint32_t moment[FUZZY_MOMENT_NUMBERS]);
+uint64_t fuzzy_board_order_in(const uint64_t keys[FUZZY_BOARD_SLOTS], const uint32_t state[FUZZY_MOMENT_NUMBERS + 1],
+                              uint32_t slots[FUZZY_BOARD_SLOTS]);
+
+/* A board made empty at a now, whatever it held. 0, or 8 for a now that is no moment: then all of it is as before. */
+static inline uint64_t fuzzy_board_make(struct fuzzy_board *board, uint32_t year, uint32_t month, uint32_t day, uint32_t hour, uint32_t minute,
+                                        uint32_t second, uint32_t millisecond) {
+    return fuzzy_board_make_in(board->lengths, board->state, year, month, day, hour, minute, second, millisecond);
+}
+
+/* One reminder more, made ready in a reading. fuzzy_number 0: it stands in slot fuzzy_length, the lowest that was free. Else, and then all is as
+ * before, what fuzzy_make_ready refuses, 15 and 1 to 7, and behind that 24 for a full board. A phrase that refuses at the board's now is taken:
+ * it is held last, and may have a moment at another now. */
+static inline uint64_t fuzzy_board_add(struct fuzzy_board *board, uint32_t reading, const uint8_t *phrase, size_t phrase_length) {
+    return fuzzy_board_add_in(board->ready, board->lengths, board->keys, board->state, reading, phrase, phrase_length);
+}
+
+/* One reminder less: the slot is free again. 0, or 25 for a slot that holds nothing, 256 and above too: then all is as before. */
+static inline uint64_t fuzzy_board_remove(struct fuzzy_board *board, uint32_t slot) {
+    return fuzzy_board_remove_in(board->lengths, board->keys, board->state, slot);
+}
+
+/* All reminders run again at another now, later or older, which is then the board's. 0, or 8 for one that is no moment: then all is as before. */
+static inline uint64_t fuzzy_board_again(struct fuzzy_board *board, uint32_t year, uint32_t month, uint32_t day, uint32_t hour, uint32_t minute,
+                                         uint32_t second, uint32_t millisecond) {
+    return fuzzy_board_again_in(board->ready, board->lengths, board->keys, board->state, year, month, day, hour, minute, second, millisecond);
+}
+
+/* What is due first: the earliest moment of all reminders at the board's now, and of equal ones that of the lowest slot. fuzzy_number 0: its
+ * slot is fuzzy_length, and its seven numbers are in `moment`. Else 26, where no reminder has a moment. Nothing is searched. */
+static inline uint64_t fuzzy_board_head(const struct fuzzy_board *board, uint32_t moment[FUZZY_MOMENT_NUMBERS]) {
+    return fuzzy_board_head_in(board->keys, board->state, moment);
+}
+
+/* The whole order: each filled slot once, by moment and, of equal ones, by slot; behind them those that refuse at the board's now, by slot. It
+ * is never refused: fuzzy_length slots were written, and what stands behind them in `slots` stays. */
+static inline uint64_t fuzzy_board_order(const struct fuzzy_board *board, uint32_t slots[FUZZY_BOARD_SLOTS]) {
+    return fuzzy_board_order_in(board->keys, board->state, slots);
+}
+
 /* Which refusal an answer is; 0 where it is none. */
 static inline unsigned fuzzy_number(uint64_t answer) { return (unsigned)(answer & 0xffffu); }
 
@@ -166,7 +235,7 @@ static inline unsigned fuzzy_number(uint64_t answer) { return (unsigned)(answer 
 static inline size_t fuzzy_place(uint64_t answer) { return (size_t)((answer >> 16) & 0xffffu); }
 
 /* The length of a refusal's part; without a refusal, how many bytes fuzzy_make_ready, fuzzy_write_stamp or fuzzy_write_phrase
- * wrote, or how many rows fuzzy_list did. */
+ * wrote, how many rows fuzzy_list or slots fuzzy_board_order did, or the slot of fuzzy_board_add and fuzzy_board_head. */
 static inline size_t fuzzy_length(uint64_t answer) { return (size_t)(answer >> 32); }
 
 /* A word for each refusal, to be shown to people; "done" for 0. */
@@ -196,6 +265,9 @@ static inline const char *fuzzy_word(unsigned number) {
     case FUZZY_NO_ZONE: return "no zone file that is taken";
     case FUZZY_PAST_LAST: return "later than the zone's file knows";
     case FUZZY_NO_INSTANT: return "the zone's clocks skip that time";
+    case FUZZY_FULL_BOARD: return "no slot is free";
+    case FUZZY_EMPTY_SLOT: return "the slot holds nothing";
+    case FUZZY_NO_MOMENT: return "nothing has a moment";
     default: return "no answer of this library";
     }
 }

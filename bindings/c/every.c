@@ -511,8 +511,8 @@ static void unzoned(void) {
 static void damaged(void) {
     struct lent due = fresh(), local = fresh();
     uint64_t answer = in_zone(FUZZY_FIRST, "tomorrow", 8, BEFORE_GAP, 250, &due, &local);
-    int written = answer == 0;
-    expect(written || answer == FUZZY_NO_NOW || answer == FUZZY_OUTSIDE || answer >= FUZZY_NO_ZONE, "an answer in a damaged zone");
+    int written = answer == 0, by_zone = answer >= FUZZY_NO_ZONE && answer <= FUZZY_NO_INSTANT;
+    expect(written || answer == FUZZY_NO_NOW || answer == FUZZY_OUTSIDE || by_zone, "an answer in a damaged zone");
     expect(kept_from(&due, written ? sizeof due.in.due : 0), "nothing written but the instant in a damaged zone");
     expect(kept_from(&local, written ? sizeof local.in.local : 0), "nothing written but what the clocks of a damaged zone show");
 }
@@ -548,6 +548,184 @@ static void take_zone(const char *name) {
     if (file == NULL) return;
     zone_length = fread(zone, 1, sizeof zone, file);
     fclose(file);
+}
+
+/* a board between two guards, and how it was before a call */
+static struct guarded {
+    uint8_t before[GUARD];
+    struct fuzzy_board board;
+    uint8_t after[GUARD];
+} held, was;
+
+#define IN_SLOT(slot) ((uint64_t)(slot) << 32)
+
+/* the guards of the board are as they were */
+static void board_guarded(void) {
+    size_t i;
+    for (i = 0; i < GUARD; i++) expect(held.before[i] == PATTERN && held.after[i] == PATTERN, "nothing written beside a board");
+}
+
+/* a call's answer; where it is a refusal, every byte of the board is as it was */
+static void answered(uint64_t answer, uint64_t wanted, const char *what) {
+    expect(answer == wanted, what);
+    if (fuzzy_number(wanted) != 0) expect(memcmp(&held, &was, sizeof held) == 0, "a refused call leaves the board as before");
+    board_guarded();
+    was = held;
+}
+
+static uint64_t add_phrase(uint32_t reading, const char *phrase) {
+    return fuzzy_board_add(&held.board, reading, (const uint8_t *)phrase, strlen(phrase));
+}
+
+static uint64_t again_at(uint32_t year, uint32_t month, uint32_t day, uint32_t millisecond) {
+    return fuzzy_board_again(&held.board, year, month, day, 0, 0, 0, millisecond);
+}
+
+/* the head's slot, month, day and hour; in no slot 26, and nothing written */
+static void heads(uint32_t slot, uint32_t month, uint32_t day, uint32_t hour) {
+    struct lent l = fresh();
+    uint64_t answer = fuzzy_board_head(&held.board, l.in.moment);
+    int none = slot == FUZZY_BOARD_SLOTS;
+    expect(answer == (none ? FUZZY_NO_MOMENT : IN_SLOT(slot)), "the slot of a head");
+    if (!none) expect(l.in.moment[1] == month && l.in.moment[2] == day && l.in.moment[3] == hour, "the moment of a head");
+    expect(kept_from(&l, none ? 0 : sizeof l.in.moment), "nothing written but the head's moment");
+    expect(memcmp(&held, &was, sizeof held) == 0, "asking leaves the board as before");
+}
+
+/* the order has these slots, and nothing is written behind them */
+static void ordered(const uint32_t *slots, size_t count) {
+    static uint32_t found[FUZZY_BOARD_SLOTS + 1];
+    size_t i;
+    memset(found, PATTERN, sizeof found);
+    expect(fuzzy_board_order(&held.board, found) == (uint64_t)count << 32, "the count of an order");
+    expect(memcmp(found, slots, count * sizeof *slots) == 0, "the slots of an order");
+    for (i = count; i <= FUZZY_BOARD_SLOTS; i++) expect(found[i] == 0xa5a5a5a5u, "nothing written behind an order");
+    expect(memcmp(&held, &was, sizeof held) == 0, "asking leaves the board as before");
+}
+
+/* what adding refuses before it looks for a slot, in either reading */
+static void unadded(const char *many) {
+    answered(add_phrase(0, "forty"), FUZZY_NO_READING, "adding in no reading");
+    answered(add_phrase(3, "now"), FUZZY_NO_READING, "adding in no reading");
+    answered(fuzzy_board_add(&held.board, 1, (const uint8_t *)many, 257), FUZZY_TOO_LONG, "adding a long phrase");
+    answered(add_phrase(2, "next fryday"), FUZZY_UNKNOWN | 5u << 16 | (uint64_t)6 << 32, "adding what is not understood");
+    answered(add_phrase(1, "4294967296 days ago"), FUZZY_LARGE_DIGITS | (uint64_t)10 << 32, "adding large digits");
+    answered(fuzzy_board_add(&held.board, 2, (const uint8_t *)many, 256), FUZZY_TOO_MANY | 128u << 16 | (uint64_t)1 << 32, "adding 65 numbers");
+    answered(add_phrase(1, ""), FUZZY_NOTHING, "adding nothing");
+    answered(add_phrase(2, "five billion days ago"), FUZZY_LARGE_SUM, "adding a large sum");
+    answered(add_phrase(1, "5/2"), FUZZY_LEFT_OVER | 1u << 16 | (uint64_t)2 << 32, "adding what is left over");
+}
+
+/* few reminders: ties, one that refuses at every now, one that refuses at one, and both readings */
+static void small_board(const char *many) {
+    static const uint32_t first[] = {1, 3, 4, 2, 0, 5, 6}, second[] = {3, 4, 2, 0, 5, 6};
+    static const uint32_t leap_day[] = {3, 4, 2, 6, 0, 1, 5}, none[] = {0, 1};
+    answered(fuzzy_board_make(&held.board, 2026, 2, 30, 0, 0, 0, 0), FUZZY_NO_NOW, "a board at no now");
+    answered(fuzzy_board_make(&held.board, NOW), 0, "a board");
+    heads(FUZZY_BOARD_SLOTS, 0, 0, 0);
+    ordered(none, 0);
+    answered(fuzzy_board_remove(&held.board, 0), FUZZY_EMPTY_SLOT, "removing from an empty board");
+    unadded(many);
+    answered(add_phrase(1, "next friday"), IN_SLOT(0), "adding");
+    answered(add_phrase(1, "tuesday in two weeks"), IN_SLOT(1), "adding");
+    answered(add_phrase(1, "noon"), IN_SLOT(2), "adding");
+    answered(add_phrase(2, "an hour ago"), IN_SLOT(3), "adding");
+    answered(add_phrase(1, "60 minutes ago"), IN_SLOT(4), "adding a tie");
+    answered(add_phrase(1, "this month"), IN_SLOT(5), "adding what refuses at every now");
+    answered(add_phrase(1, "1000/1/1"), IN_SLOT(6), "adding what refuses at every now");
+    ordered(first, 7);
+    heads(1, 1, 27, 9);
+    answered(fuzzy_board_remove(&held.board, 7), FUZZY_EMPTY_SLOT, "removing from a slot that was never filled");
+    answered(fuzzy_board_remove(&held.board, 256), FUZZY_EMPTY_SLOT, "removing from slot 256");
+    answered(fuzzy_board_remove(&held.board, 257), FUZZY_EMPTY_SLOT, "removing from slot 257");
+    answered(fuzzy_board_remove(&held.board, UINT32_MAX), FUZZY_EMPTY_SLOT, "removing from the last number");
+    answered(fuzzy_board_remove(&held.board, 1), 0, "removing");
+    answered(fuzzy_board_remove(&held.board, 1), FUZZY_EMPTY_SLOT, "removing twice");
+    ordered(second, 6);
+    heads(3, 2, 11, 8);
+    answered(again_at(2026, 13, 1, 0), FUZZY_NO_NOW, "running again in month 13");
+    answered(again_at(2026, 2, 12, 1000), FUZZY_NO_NOW, "running again at millisecond 1000");
+    ordered(second, 6);
+    answered(again_at(2026, 2, 12, 0), 0, "running again at midnight");
+    heads(3, 2, 11, 23);
+    answered(fuzzy_board_remove(&held.board, 6), 0, "removing what refuses");
+    answered(add_phrase(1, "a year from now"), IN_SLOT(1), "adding into the lowest free slot");
+    answered(add_phrase(2, "march 3, 2024"), IN_SLOT(6), "adding into the next");
+    answered(again_at(2024, 2, 29, 0), 0, "running again at an older now");
+    ordered(leap_day, 7);
+    answered(fuzzy_board_make(&held.board, NOW), 0, "making a board anew");
+    heads(FUZZY_BOARD_SLOTS, 0, 0, 0);
+    answered(add_phrase(1, "this month"), IN_SLOT(0), "adding what refuses at every now");
+    heads(FUZZY_BOARD_SLOTS, 0, 0, 0);
+    ordered(none, 1);
+}
+
+/* as many as there are slots, all at one moment, and no more */
+static void full_board(const char *many) {
+    static uint32_t slots[FUZZY_BOARD_SLOTS];
+    uint32_t i;
+    answered(fuzzy_board_make(&held.board, NOW), 0, "a board");
+    for (i = 0; i < FUZZY_BOARD_SLOTS; i++) {
+        answered(add_phrase(1 + i % 2, "tomorrow"), IN_SLOT(i), "filling a board");
+        slots[i] = i;
+    }
+    ordered(slots, FUZZY_BOARD_SLOTS);
+    heads(0, 2, 12, 9);
+    answered(add_phrase(1, "now"), FUZZY_FULL_BOARD, "adding to a full board");
+    unadded(many);
+    answered(again_at(2026, 2, 30, 0), FUZZY_NO_NOW, "running a full board again at no now");
+    answered(again_at(2026, 2, 12, 0), 0, "running a full board again");
+    heads(0, 2, 13, 0);
+    answered(fuzzy_board_remove(&held.board, 200), 0, "removing from a full board");
+    answered(fuzzy_board_remove(&held.board, 77), 0, "removing from a full board");
+    answered(add_phrase(1, "now"), IN_SLOT(77), "the lowest free slot first");
+    heads(77, 2, 12, 0);
+    answered(add_phrase(1, "now"), IN_SLOT(200), "then the next");
+    answered(add_phrase(1, "now"), FUZZY_FULL_BOARD, "adding to a board that is full again");
+}
+
+/* memory that no call made: every call answers, and nothing beside it is written */
+static void any_memory(uint8_t filling, uint32_t count) {
+    static uint32_t slots[FUZZY_BOARD_SLOTS];
+    uint32_t moment[FUZZY_MOMENT_NUMBERS], now[FUZZY_MOMENT_NUMBERS], slot;
+    uint64_t answer;
+    size_t i;
+    memset(&held.board, filling, sizeof held.board);
+    held.board.state[7] = count;
+    answer = fuzzy_board_head(&held.board, moment);
+    expect(fuzzy_number(answer) == 0 || answer == FUZZY_NO_MOMENT, "a head of any memory");
+    if (fuzzy_number(answer) == 0) {
+        answer = fuzzy_read(FUZZY_FIRST, (const uint8_t *)"now", 3, moment[0], moment[1], moment[2], moment[3], moment[4], moment[5], moment[6], now);
+        expect(answer == 0, "a head of any memory is a moment");
+    }
+    answer = fuzzy_board_order(&held.board, slots);
+    expect(fuzzy_number(answer) == 0 && fuzzy_length(answer) <= FUZZY_BOARD_SLOTS, "an order of any memory");
+    for (i = 0; i < fuzzy_length(answer); i++) expect(slots[i] < FUZZY_BOARD_SLOTS, "slots of any memory");
+    answer = add_phrase(1, "next friday");
+    expect(fuzzy_number(answer) == 0 ? fuzzy_length(answer) < FUZZY_BOARD_SLOTS : answer == FUZZY_FULL_BOARD, "adding to any memory");
+    for (slot = 0; slot <= FUZZY_BOARD_SLOTS; slot++) {
+        answer = fuzzy_board_remove(&held.board, slot);
+        expect(answer == 0 || answer == FUZZY_EMPTY_SLOT, "removing from any memory");
+    }
+    memset(held.board.lengths, filling, sizeof held.board.lengths);
+    expect(again_at(2026, 2, 12, 0) == 0, "running any memory again");
+    board_guarded();
+    was = held;
+    answered(fuzzy_board_make(&held.board, NOW), 0, "making a board of any memory");
+    heads(FUZZY_BOARD_SLOTS, 0, 0, 0);
+}
+
+static void boards(const char *many) {
+    static const uint8_t fillings[] = {0, 1, 16, 127, 128, PATTERN, 255};
+    static const uint32_t counts[] = {0, 1, 255, 256, 257, UINT32_MAX};
+    size_t i, k;
+    memset(&held, PATTERN, sizeof held);
+    was = held;
+    small_board(many);
+    full_board(many);
+    for (i = 0; i < sizeof fillings; i++) {
+        for (k = 0; k < sizeof counts / sizeof counts[0]; k++) any_memory(fillings[i], counts[k]);
+    }
 }
 
 int main(int count, char **arguments) {
@@ -615,6 +793,7 @@ int main(int count, char **arguments) {
     zones(many, sizeof many);
     unready(many);
     files(many, sizeof many);
+    boards(many);
 
     printf(failed ? "some calls failed\n" : "every call answered as it should\n");
     return failed;

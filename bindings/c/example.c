@@ -1,5 +1,5 @@
 /* Reads phrases at one now, a ready phrase at two, one phrase in both readings, and stamps, looks words up, shows a moment as a phrase, lists a
- * rule's occurrences and says which comes next, and reads phrases in the zone of a file: example ZONE. Copy what you need. */
+ * rule's occurrences and says which comes next, reads phrases in the zone of a file, and keeps reminders on a board: example ZONE. Copy what you need. */
 #include "fuzzy.h"
 
 #include <stdio.h>
@@ -109,6 +109,34 @@ static void show_in_zone(const struct zone *zone, const char *phrase, int64_t se
     }
 }
 
+/* Shows what is due first on a board, or that nothing is. */
+static void show_head(const struct fuzzy_board *board) {
+    uint32_t moment[FUZZY_MOMENT_NUMBERS];
+    uint64_t answer = fuzzy_board_head(board, moment);
+    if (fuzzy_number(answer) == 0) {
+        printf("slot %u, ", (unsigned)fuzzy_length(answer));
+    }
+    show("due first", fuzzy_number(answer), moment);
+}
+
+/* Three reminders on a board, one removed, and all run again at midnight. A board is large: not on a small stack. */
+static void show_board(void) {
+    static const char *const reminders[] = {"friday at 3 pm", "noon", "an hour from now"};
+    static struct fuzzy_board board;
+    size_t i;
+    if (fuzzy_board_make(&board, 2026, 2, 11, 9, 30, 15, 0) != 0) return;
+    show_head(&board);
+    for (i = 0; i < sizeof reminders / sizeof reminders[0]; i++) {
+        uint64_t added = fuzzy_board_add(&board, FUZZY_FIRST, (const uint8_t *)reminders[i], strlen(reminders[i]));
+        printf("%s: %s, slot %u\n", reminders[i], fuzzy_word(fuzzy_number(added)), (unsigned)fuzzy_length(added));
+    }
+    show_head(&board);
+    printf("slot 2 removed: %s\n", fuzzy_word(fuzzy_number(fuzzy_board_remove(&board, 2))));
+    show_head(&board);
+    printf("again at midnight: %s\n", fuzzy_word(fuzzy_number(fuzzy_board_again(&board, 2026, 2, 12, 0, 0, 0, 0))));
+    show_head(&board);
+}
+
 int main(int count, char **arguments) {
     static struct zone new_york;
     static const char *const phrases[] = {"next friday at 3 pm", "an hour ago", "forty days ago", "5/2"};
@@ -177,5 +205,7 @@ int main(int count, char **arguments) {
     show_in_zone(&new_york, "today 2:30", 1772951400);
     show_in_zone(&new_york, "2 years from now", 1772951400);
     show_in_zone(&new_york, "today 1:30", 1793514600);
+
+    show_board();
     return 0;
 }

@@ -1,6 +1,6 @@
-/* Prints the most bytes of stack that reading, making ready and running, in a zone too, listing and asking for what comes next were seen to use, over the
- * replayed list and over phrases that nest as deeply as 256 bytes let them, and over a rule of each FREQ: stack LIST ZONE. A call runs on a stack of its
- * own that is full of a pattern; what an empty call uses is taken off. */
+/* Prints the most bytes of stack that reading, making ready and running, in a zone too, were seen to use, over the replayed list and over phrases that nest
+ * as deeply as 256 bytes let them, those for rules over a rule of each FREQ, and those for boards over such phrases: stack LIST ZONE. A call runs on a stack
+ * of its own that is full of a pattern; what an empty call uses is taken off. */
 #define _DEFAULT_SOURCE
 #include "fuzzy.h"
 #include "lent.h"
@@ -19,6 +19,8 @@ static uint8_t zone[65536];
 static size_t zone_length;
 static int64_t due;
 static uint32_t local[FUZZY_LOCAL_NUMBERS];
+static struct fuzzy_board board;
+static uint32_t slots[FUZZY_BOARD_SLOTS];
 static ucontext_t here, there;
 
 static void call_nothing(void) {
@@ -57,6 +59,30 @@ static void call_next(void) {
     fuzzy_next(line.phrase, line.length, 2024, 2, 29, 12, 0, 0, 0, 9996, 2, 29, 12, 0, 0, 0, moment);
 }
 
+static void call_board_make(void) {
+    fuzzy_board_make(&board, 2024, 2, 29, 12, 0, 0, 0);
+}
+
+static void call_board_add(void) {
+    fuzzy_board_add(&board, FUZZY_FIRST, line.phrase, line.length);
+}
+
+static void call_board_remove(void) {
+    fuzzy_board_remove(&board, 0);
+}
+
+static void call_board_again(void) {
+    fuzzy_board_again(&board, 2026, 2, 11, 9, 30, 15, 250);
+}
+
+static void call_board_head(void) {
+    fuzzy_board_head(&board, moment);
+}
+
+static void call_board_order(void) {
+    fuzzy_board_order(&board, slots);
+}
+
 /* The bytes of stack that a call changes, counted from the top down to the lowest one. */
 static size_t used_by(void (*call)(void)) {
     uint8_t *p, *end = stack.first + stack.size;
@@ -71,10 +97,12 @@ static size_t used_by(void (*call)(void)) {
     return (size_t)(end - p);
 }
 
-/* The functions for phrases, of which the last two run what was made ready, and those for rules. */
+/* The functions for phrases, of which the last two run what was made ready, those for rules, and those for boards. */
 #define PHRASES 5
 #define RULES 2
-static size_t most[PHRASES + RULES];
+#define BOARDS 6
+#define CALLS (PHRASES + RULES + BOARDS)
+static size_t most[CALLS];
 
 /* The functions for phrases on the phrase of `line`. */
 static void measure(void) {
@@ -86,6 +114,16 @@ static void measure(void) {
     }
 }
 
+/* The functions for boards, with the phrase of `line` as the only reminder. */
+static void keep(void) {
+    static void (*const calls[BOARDS])(void) = {call_board_make, call_board_add, call_board_again, call_board_head, call_board_order, call_board_remove};
+    size_t i;
+    for (i = 0; i < BOARDS; i++) {
+        size_t used = used_by(calls[i]);
+        if (used > most[PHRASES + RULES + i]) most[PHRASES + RULES + i] = used;
+    }
+}
+
 /* A part over and over, as often as there is room for it, and an end. */
 static void nested(const char *part, const char *end) {
     size_t n = strlen(part), last = strlen(end);
@@ -93,6 +131,7 @@ static void nested(const char *part, const char *end) {
     memcpy(line.phrase + line.length, end, last);
     line.length += last;
     measure();
+    keep();
 }
 
 /* The two functions for rules on a rule. */
@@ -108,8 +147,9 @@ static void repeat(const char *rule) {
 }
 
 int main(int count, char **arguments) {
-    static const char *const names[PHRASES + RULES] = {
-        "fuzzy_read", "fuzzy_make_ready", "fuzzy_read_in_zone", "fuzzy_run", "fuzzy_run_in_zone", "fuzzy_list", "fuzzy_next",
+    static const char *const names[CALLS] = {
+        "fuzzy_read",       "fuzzy_make_ready", "fuzzy_read_in_zone", "fuzzy_run",        "fuzzy_run_in_zone", "fuzzy_list",         "fuzzy_next",
+        "fuzzy_board_make", "fuzzy_board_add",  "fuzzy_board_again",  "fuzzy_board_head", "fuzzy_board_order", "fuzzy_board_remove",
     };
     static const char *const parts[] = {"million ", "1 million ", "a day after ", "1 day before ", "1day from", "1day after ", "1 day, ", "1 day and "};
     static const char *const ends[] = {"days ago", "today", "noon", "1 day ago", "now", ""};
@@ -132,6 +172,6 @@ int main(int count, char **arguments) {
     repeat("FREQ=WEEKLY;UNTIL=99991231T235959;BYDAY=MO,TU,WE,TH,FR,SA,SU;INTERVAL=2;WKST=MO");
     repeat("FREQ=WEEKLY;BYDAY=MO,TU,WE,TH,FR,SA,SU;INTERVAL=2;COUNT=3652058");
     repeat("FREQ=MONTHLY;BYMONTHDAY=+29;INTERVAL=12;COUNT=3652058");
-    for (i = 0; i < PHRASES + RULES; i++) printf("%-18s %6zu bytes of stack\n", names[i], most[i] - nothing);
+    for (i = 0; i < CALLS; i++) printf("%-18s %6zu bytes of stack\n", names[i], most[i] - nothing);
     return 0;
 }

@@ -1,5 +1,6 @@
 /* The functions of fuzzydate.Calls over fuzzy.h. Arrays are copied in and out, and nothing is kept between calls, so that they may run in any thread.
- * An array that is null or too short, and a copy that there is no memory for, leave one exception, and then nothing is called. */
+ * An array that is null or too short, and a copy that there is no memory for, leave one exception, and then nothing is called. A board is the memory of
+ * a direct buffer, which is not copied: calls on one board may not run at the same time. */
 #include "fuzzy.h"
 
 #include <jni.h>
@@ -10,9 +11,10 @@
 #if fuzzydate_Calls_MOMENT_NUMBERS != FUZZY_MOMENT_NUMBERS || fuzzydate_Calls_STAMP_NUMBERS != FUZZY_STAMP_NUMBERS || \
     fuzzydate_Calls_FOUND_NUMBERS != FUZZY_FOUND_NUMBERS || fuzzydate_Calls_READY_SIZE != FUZZY_READY_SIZE || \
     fuzzydate_Calls_STAMP_SIZE != FUZZY_STAMP_SIZE || fuzzydate_Calls_PHRASE_SIZE != FUZZY_PHRASE_SIZE || \
-    fuzzydate_Calls_LOCAL_NUMBERS != FUZZY_LOCAL_NUMBERS
+    fuzzydate_Calls_LOCAL_NUMBERS != FUZZY_LOCAL_NUMBERS || fuzzydate_Calls_BOARD_SLOTS != FUZZY_BOARD_SLOTS
 #error "Calls.java and fuzzy.h have different sizes"
 #endif
+typedef char board_size[fuzzydate_Calls_BOARD_SIZE == sizeof(struct fuzzy_board) ? 1 : -1];
 #endif
 
 /* A moment's seven numbers as seven arguments. */
@@ -74,6 +76,21 @@ static int take_both(JNIEnv *env, jbyteArray one, struct bytes *first, jbyteArra
     if (take_bytes(env, other, second)) return 1;
     free(first->first);
     return 0;
+}
+
+/* The board that a direct buffer is, else NULL with an exception. */
+static struct fuzzy_board *take_board(JNIEnv *env, jobject buffer) {
+    void *board;
+    if (buffer == NULL) {
+        raise_exception(env, "java/lang/NullPointerException", "a board is null");
+        return NULL;
+    }
+    board = (*env)->GetDirectBufferAddress(env, buffer);
+    if (board != NULL && (*env)->GetDirectBufferCapacity(env, buffer) == (jlong)sizeof(struct fuzzy_board) && (uintptr_t)board % sizeof(uint64_t) == 0) {
+        return board;
+    }
+    raise_exception(env, "java/lang/IllegalArgumentException", "a board is no direct buffer of its size");
+    return NULL;
 }
 
 /* The answer of a call that gives numbers, which go to the array where there is no refusal. */
@@ -237,6 +254,57 @@ JNIEXPORT jlong JNICALL Java_fuzzydate_Calls_readInZone(JNIEnv *env, jclass call
     free(p.first);
     free(z.first);
     return give_local(env, answer, due, d, moment, m);
+}
+
+JNIEXPORT jlong JNICALL Java_fuzzydate_Calls_boardMake(JNIEnv *env, jclass calls, jobject board, jintArray now) {
+    uint32_t n[FUZZY_MOMENT_NUMBERS];
+    struct fuzzy_board *b = take_board(env, board);
+    (void)calls;
+    if (b == NULL || !take_numbers(env, now, FUZZY_MOMENT_NUMBERS, n)) return 0;
+    return (jlong)fuzzy_board_make(b, SEVEN(n));
+}
+
+JNIEXPORT jlong JNICALL Java_fuzzydate_Calls_boardAdd(JNIEnv *env, jclass calls, jobject board, jint reading, jbyteArray phrase) {
+    struct fuzzy_board *b = take_board(env, board);
+    struct bytes p;
+    uint64_t answer;
+    (void)calls;
+    if (b == NULL || !take_bytes(env, phrase, &p)) return 0;
+    answer = fuzzy_board_add(b, (uint32_t)reading, p.first, p.length);
+    free(p.first);
+    return (jlong)answer;
+}
+
+JNIEXPORT jlong JNICALL Java_fuzzydate_Calls_boardRemove(JNIEnv *env, jclass calls, jobject board, jint slot) {
+    struct fuzzy_board *b = take_board(env, board);
+    (void)calls;
+    return b == NULL ? 0 : (jlong)fuzzy_board_remove(b, (uint32_t)slot);
+}
+
+JNIEXPORT jlong JNICALL Java_fuzzydate_Calls_boardAgain(JNIEnv *env, jclass calls, jobject board, jintArray now) {
+    uint32_t n[FUZZY_MOMENT_NUMBERS];
+    struct fuzzy_board *b = take_board(env, board);
+    (void)calls;
+    if (b == NULL || !take_numbers(env, now, FUZZY_MOMENT_NUMBERS, n)) return 0;
+    return (jlong)fuzzy_board_again(b, SEVEN(n));
+}
+
+JNIEXPORT jlong JNICALL Java_fuzzydate_Calls_boardHead(JNIEnv *env, jclass calls, jobject board, jintArray moment) {
+    uint32_t m[FUZZY_MOMENT_NUMBERS];
+    struct fuzzy_board *b = take_board(env, board);
+    (void)calls;
+    if (b == NULL || !has_room(env, moment, FUZZY_MOMENT_NUMBERS)) return 0;
+    return give_numbers(env, fuzzy_board_head(b, m), moment, FUZZY_MOMENT_NUMBERS, m);
+}
+
+JNIEXPORT jlong JNICALL Java_fuzzydate_Calls_boardOrder(JNIEnv *env, jclass calls, jobject board, jintArray slots) {
+    uint32_t s[FUZZY_BOARD_SLOTS];
+    struct fuzzy_board *b = take_board(env, board);
+    uint64_t answer;
+    (void)calls;
+    if (b == NULL || !has_room(env, slots, FUZZY_BOARD_SLOTS)) return 0;
+    answer = fuzzy_board_order(b, s);
+    return give_numbers(env, answer, slots, (jsize)fuzzy_length(answer), s);
 }
 
 JNIEXPORT jint JNICALL Java_fuzzydate_Calls_number(JNIEnv *env, jclass calls, jlong answer) {

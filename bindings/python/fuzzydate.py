@@ -8,11 +8,13 @@ any thread. libfuzzydate.so stands beside this file.
 import ctypes
 import enum
 import pathlib
+import threading
 from datetime import datetime, timedelta, timezone
 from typing import NamedTuple, Optional
 
 _MOMENT_NUMBERS, _STAMP_NUMBERS, _FOUND_NUMBERS, _LOCAL_NUMBERS = 7, 9, 2, 9
 _READY_SIZE, _STAMP_SIZE, _PHRASE_SIZE = 384, 29, 26
+_BOARD_SLOTS = 256
 
 _library = ctypes.CDLL(str(pathlib.Path(__file__).resolve().with_name("libfuzzydate.so")))
 
@@ -30,6 +32,7 @@ def _declare(name, *parts):
         "text lent": [ctypes.c_char_p, ctypes.c_size_t],
         "rows lent": [numbers, ctypes.c_size_t],
         "local lent": [ctypes.POINTER(ctypes.c_int64), numbers],
+        "keys lent": [ctypes.POINTER(ctypes.c_uint64)],
     }
     function = getattr(_library, name)
     function.argtypes = [kind for part in parts for kind in kinds[part]]
@@ -48,6 +51,12 @@ _list = _declare("fuzzy_list", "bytes", "moment", "rows lent")
 _next = _declare("fuzzy_next", "bytes", "moment", "moment", "numbers lent")
 _run_in_zone = _declare("fuzzy_run_in_zone", "bytes", "bytes", "instant", "local lent")
 _read_in_zone = _declare("fuzzy_read_in_zone", "number", "bytes", "bytes", "instant", "local lent")
+_board_make = _declare("fuzzy_board_make_in", "numbers lent", "numbers lent", "moment")
+_board_add = _declare("fuzzy_board_add_in", "bytes lent", "numbers lent", "keys lent", "numbers lent", "number", "bytes")
+_board_remove = _declare("fuzzy_board_remove_in", "numbers lent", "keys lent", "numbers lent", "number")
+_board_again = _declare("fuzzy_board_again_in", "bytes lent", "numbers lent", "keys lent", "numbers lent", "moment")
+_board_head = _declare("fuzzy_board_head_in", "keys lent", "numbers lent", "numbers lent")
+_board_order = _declare("fuzzy_board_order_in", "keys lent", "numbers lent", "numbers lent")
 
 _EPOCH = datetime(1970, 1, 1, tzinfo=timezone.utc)
 
@@ -91,6 +100,9 @@ class Reason(enum.IntEnum):
     NO_ZONE = 21, "no zone file that is taken"
     PAST_LAST = 22, "later than the zone's file knows"
     NO_INSTANT = 23, "the zone's clocks skip that time"
+    FULL_BOARD = 24, "no slot is free"
+    EMPTY_SLOT = 25, "the slot holds nothing"
+    NO_MOMENT = 26, "nothing has a moment"
 
 
 class Refusal(Exception):
@@ -135,6 +147,13 @@ class Local(NamedTuple):
     def aware(self):
         """The moment with its offset as its zone, which is the instant; None where the offset has 24 hours or more, which datetime does not have."""
         return None if abs(self.offset) >= 86_400 else self.moment.replace(tzinfo=timezone(timedelta(seconds=self.offset)))
+
+
+class Due(NamedTuple):
+    """A slot of a board, and its reminder's moment."""
+
+    slot: int
+    moment: datetime
 
 
 def _bytes(phrase):
@@ -261,3 +280,58 @@ def read_in_zone(reading, phrase, zone, now):
     due, local = ctypes.c_int64(), (ctypes.c_uint32 * _LOCAL_NUMBERS)()
     _checked(_read_in_zone(Reading(reading), phrase, len(phrase), zone, len(zone), *_instant(now), due, local), phrase)
     return _local(due, local)
+
+
+class Board:
+    """Up to 256 ready reminders, each in a slot of 0 to 255, and beside them the order of their moments at the board's now.
+
+    A refused call leaves all of it as before.
+    """
+
+    def __init__(self, now):
+        """An empty board at a now."""
+        self._lock = threading.Lock()
+        self._ready = ctypes.create_string_buffer(_BOARD_SLOTS * _READY_SIZE)
+        self._lengths = (ctypes.c_uint32 * _BOARD_SLOTS)()
+        self._keys = (ctypes.c_uint64 * _BOARD_SLOTS)()
+        self._state = (ctypes.c_uint32 * (_MOMENT_NUMBERS + 1))()
+        _checked(_board_make(self._lengths, self._state, *_numbers(now)))
+
+    def add(self, reading, phrase):
+        """One reminder more: its slot, the lowest that was free. It is refused as make_ready is, and behind that where the board is full.
+
+        A phrase that refuses at the board's now is taken: it is held last, and may have a moment at another now.
+        """
+        reading, phrase = Reading(reading), _bytes(phrase)
+        with self._lock:
+            answer = _board_add(self._ready, self._lengths, self._keys, self._state, reading, phrase, len(phrase))
+        return _checked(answer, phrase)
+
+    def remove(self, slot):
+        """One reminder less: its slot is free again."""
+        # ctypes would cut a number above 32 bits; every number that is no slot's is refused
+        slot = slot if 0 <= slot < _BOARD_SLOTS else _BOARD_SLOTS
+        with self._lock:
+            answer = _board_remove(self._lengths, self._keys, self._state, slot)
+        _checked(answer)
+
+    def again(self, now):
+        """All reminders run again at another now, later or older, which is then the board's."""
+        now = _numbers(now)
+        with self._lock:
+            answer = _board_again(self._ready, self._lengths, self._keys, self._state, *now)
+        _checked(answer)
+
+    def head(self):
+        """What is due first: the slot and the moment of the earliest reminder at the board's now, of equal ones that of the lowest slot."""
+        moment = (ctypes.c_uint32 * _MOMENT_NUMBERS)()
+        with self._lock:
+            answer = _board_head(self._keys, self._state, moment)
+        return Due(_checked(answer), _moment(moment))
+
+    def order(self):
+        """Each filled slot once, by moment and, of equal ones, by slot; behind them those that refuse at the board's now, by slot."""
+        slots = (ctypes.c_uint32 * _BOARD_SLOTS)()
+        with self._lock:
+            answer = _board_order(self._keys, self._state, slots)
+        return slots[: _checked(answer)]

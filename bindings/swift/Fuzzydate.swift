@@ -25,7 +25,7 @@ public enum Reading: UInt32, Sendable {
 /// Why something is refused, under the names and in the order of fuzzy.h, which says more of each.
 public enum Reason: UInt32, Sendable {
     case tooLong = 1, unknown, largeDigits, tooMany, nothing, largeSum, leftOver, noNow, noSense, noDate, noTime, outside, noLeapDay
-    case noStamp, noReading, notWhole, noRoom, noRule, noStart, noNext, noZone, pastLast, noInstant
+    case noStamp, noReading, notWhole, noRoom, noRule, noStart, noNext, noZone, pastLast, noInstant, fullBoard, emptySlot, noMoment
 
     /// What is wrong, in plain words.
     public var words: String { String(cString: fuzzy_word(rawValue)) }
@@ -221,20 +221,80 @@ public enum Fuzzydate {
     /// The days of the calendar: no rule has more occurrences.
     private static let days: UInt = 3_652_059
 
-    private static func numbers(_ count: Int32) -> [UInt32] {
+    fileprivate static func numbers(_ count: Int32) -> [UInt32] {
         Array(repeating: 0, count: Int(count))
     }
 
-    private static func bytes(_ count: Int32) -> [UInt8] {
+    fileprivate static func bytes(_ count: Int32) -> [UInt8] {
         Array(repeating: 0, count: Int(count))
     }
 
     /// The length of an answer, unless it is a refusal: that is thrown, with its part of the phrase.
-    private static func checked(_ answer: UInt64, _ phrase: [UInt8] = []) throws -> Int {
+    fileprivate static func checked(_ answer: UInt64, _ phrase: [UInt8] = []) throws -> Int {
         let number = fuzzy_number(answer), place = fuzzy_place(answer), length = fuzzy_length(answer)
         if number == 0 {
             return length
         }
         throw Refusal(reason: Reason(rawValue: number)!, place: place, part: Array(phrase[place..<place + length]))
+    }
+}
+
+/// A slot of a board, and its reminder's moment.
+public struct Due: Hashable, Sendable {
+    public let slot: UInt32
+    public let moment: Moment
+}
+
+/// Up to 256 ready reminders, each in a slot of 0 to 255, and beside them the order of their moments at the board's now. A refused call leaves all of
+/// it as before.
+public struct Board: Sendable {
+    var ready = Fuzzydate.bytes(FUZZY_BOARD_SLOTS * FUZZY_READY_SIZE)
+    var lengths = Fuzzydate.numbers(FUZZY_BOARD_SLOTS)
+    var keys = [UInt64](repeating: 0, count: Int(FUZZY_BOARD_SLOTS))
+    var state = Fuzzydate.numbers(FUZZY_MOMENT_NUMBERS + 1)
+
+    /// An empty board at a now.
+    public init(now n: Moment) throws {
+        let answer = fuzzy_board_make_in(&lengths, &state, n.year, n.month, n.day, n.hour, n.minute, n.second, n.millisecond)
+        _ = try Fuzzydate.checked(answer)
+    }
+
+    /// One reminder more, made ready in a reading: its slot, the lowest that was free. It is refused as `makeReady` is, and behind that where the board is
+    /// full. A phrase that refuses at the board's now is taken: it is held last, and may have a moment at another now.
+    @discardableResult
+    public mutating func add(_ reading: Reading, _ phrase: [UInt8]) throws -> UInt32 {
+        let answer = fuzzy_board_add_in(&ready, &lengths, &keys, &state, reading.rawValue, phrase, phrase.count)
+        return UInt32(try Fuzzydate.checked(answer, phrase))
+    }
+
+    @discardableResult
+    public mutating func add(_ reading: Reading, _ phrase: String) throws -> UInt32 {
+        try add(reading, Array(phrase.utf8))
+    }
+
+    /// One reminder less: its slot is free again.
+    public mutating func remove(_ slot: UInt32) throws {
+        _ = try Fuzzydate.checked(fuzzy_board_remove_in(&lengths, &keys, &state, slot))
+    }
+
+    /// All reminders run again at another now, later or older, which is then the board's.
+    public mutating func again(now n: Moment) throws {
+        let answer = fuzzy_board_again_in(
+            ready, lengths, &keys, &state, n.year, n.month, n.day, n.hour, n.minute, n.second, n.millisecond)
+        _ = try Fuzzydate.checked(answer)
+    }
+
+    /// What is due first: the earliest reminder at the board's now, of equal ones that of the lowest slot. It is refused where none has a moment.
+    public func head() throws -> Due {
+        var moment = Fuzzydate.numbers(FUZZY_MOMENT_NUMBERS)
+        let slot = try Fuzzydate.checked(fuzzy_board_head_in(keys, state, &moment))
+        return Due(slot: UInt32(slot), moment: Moment(moment))
+    }
+
+    /// Each filled slot once, by moment and, of equal ones, by slot; behind them those that refuse at the board's now, by slot.
+    public func order() -> [UInt32] {
+        var slots = Fuzzydate.numbers(FUZZY_BOARD_SLOTS)
+        let count = fuzzy_length(fuzzy_board_order_in(keys, state, &slots))  // never refused
+        return Array(slots.prefix(count))
     }
 }

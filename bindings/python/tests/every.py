@@ -9,7 +9,7 @@ from concurrent.futures import ThreadPoolExecutor
 from datetime import datetime, timedelta, timezone
 
 import fuzzydate
-from fuzzydate import FoundWord, Local, Reading, Reason, Refusal, Stamp
+from fuzzydate import Board, Due, FoundWord, Local, Reading, Reason, Refusal, Stamp
 
 NOW = datetime(2026, 2, 11, 9, 30, 15, 250_000)
 LEAP_DAY = datetime(2024, 2, 29, 12)
@@ -307,6 +307,78 @@ def lent_in_zones():
             expect(second_lent.value == (second if answer == 0 else 0xA5) and list(lent) == [*written, 0xA5], second)
 
 
+def memory(board):
+    """All bytes of a board."""
+    return b"".join(map(bytes, (board._ready, board._lengths, board._keys, board._state)))
+
+
+def left(board, reason, call, *arguments):
+    """A call that is refused leaves every byte of its board."""
+    before = memory(board)
+    refusal = refused(reason, call, *arguments)
+    expect(memory(board) == before, f"a board behind {call.__name__}{arguments}")
+    return refusal
+
+
+def boards():
+    board = Board(NOW)
+    left(board, Reason.NO_MOMENT, board.head)
+    expect(board.order() == [], "an empty order")
+    reminders = ["next friday", b"tuesday in two weeks", "noon", "an hour ago", "60 minutes ago", "this month"]
+    expect([board.add(1, phrase) for phrase in reminders] == [0, 1, 2, 3, 4, 5], "slots")
+    expect(board.order() == [1, 3, 4, 2, 0, 5], "an order")
+    expect(board.head() == Due(1, datetime(2026, 1, 27, 9, 30, 15, 250_000)), "a head")
+    expect(board.remove(1) is None and board.head() == Due(3, NOW.replace(hour=8)), "the head of equal ones")
+    expect(board.add(Reading.SECOND, "tuesday in two weeks") == 1, "a slot used again")
+    expect(board.order() == [3, 4, 2, 0, 1, 5], "an order with the second reading")
+    expect(board.again(LEAP_DAY) is None and board.head() == Due(3, LEAP_DAY.replace(hour=11)), "the head at an older now")
+
+
+def refused_boards():
+    board = Board(LEAP_DAY)
+    expect(board.add(1, "a year from now") == 0, "a phrase that refuses at the board's now")
+    left(board, Reason.NO_MOMENT, board.head)
+    expect(board.again(NOW) is None and board.head() == Due(0, NOW.replace(year=2027)), "which has a moment at another")
+    for slot in (1, 255, 256, 2**32, 2**70, -1, -(2**32)):
+        left(board, Reason.EMPTY_SLOT, board.remove, slot)
+    expect(left(board, Reason.UNKNOWN, board.add, 1, "next forty").part == b"forty", "the part of a refused phrase")
+    expect([board.add(2, "tomorrow") for _ in range(255)] == list(range(1, 256)), "a board filled")
+    left(board, Reason.FULL_BOARD, board.add, 1, "now")
+    left(board, Reason.LEFT_OVER, board.add, 1, "5/2")
+    expect(board.order() == [*range(1, 256), 0], "the order of a full board")
+    expect(board.remove(77) is None and board.add(1, "now") == 77 and board.head() == Due(77, NOW), "a slot of a full board")
+    # what datetime and Reading keep from arising
+    before = memory(board)
+    answers = {
+        Reason.NO_NOW: fuzzydate._board_again(board._ready, board._lengths, board._keys, board._state, 2026, 2, 30, 0, 0, 0, 0),
+        Reason.NO_READING: fuzzydate._board_add(board._ready, board._lengths, board._keys, board._state, 3, b"now", 3),
+    }
+    for reason, answer in answers.items():
+        refused(reason, fuzzydate._checked, answer)
+    refused(Reason.NO_NOW, fuzzydate._checked, fuzzydate._board_make(board._lengths, board._state, 2026, 2, 30, 0, 0, 0, 0))
+    expect(memory(board) == before, "a board behind what is refused")
+
+
+def any_memory(seed):
+    """Whatever the memory holds, every call answers."""
+    chosen, board = random.Random(seed), Board(NOW)
+    for part in (board._ready, board._lengths, board._keys, board._state):
+        ctypes.memmove(part, chosen.randbytes(ctypes.sizeof(part)), ctypes.sizeof(part))
+    for call, arguments, reasons in [
+        (board.head, (), {Reason.NO_MOMENT}),
+        (board.order, (), set()),
+        (board.remove, (chosen.randrange(258),), {Reason.EMPTY_SLOT}),
+        (board.add, (1, "noon"), {Reason.FULL_BOARD}),
+        (board.again, (NOW,), set()),
+        (board.head, (), {Reason.NO_MOMENT}),
+    ]:
+        try:
+            call(*arguments)
+        except Refusal as refusal:
+            expect(refusal.reason in reasons, f"{call.__name__} of any memory: {refusal.reason!r}")
+    expect(all(slot < 256 for slot in board.order()), "an order of any memory")
+
+
 def longest():
     """The most that can be wanted."""
     months = fuzzydate.occurrences("FREQ=MONTHLY", datetime.min, 2**70)
@@ -323,12 +395,15 @@ def misused():
         raises(ValueError, fuzzydate.occurrences, TUESDAYS, now, 1)
         raises(ValueError, fuzzydate.next, TUESDAYS, now, TUESDAY)
         raises(ValueError, fuzzydate.next, TUESDAYS, TUESDAY, now)
+        raises(ValueError, Board, now)
+        raises(ValueError, Board(NOW).again, now)
     for now in (NOW, BEFORE_GAP.replace(microsecond=1), BEFORE_GAP.replace(tzinfo=timezone(timedelta(microseconds=1)))):
         raises(ValueError, fuzzydate.read_in_zone, 1, "today", NEW_YORK, now)
         raises(ValueError, fuzzydate.run_in_zone, ready, NEW_YORK, now)
     for reading in (0, 3, None, 2**32 + 1):
         raises(ValueError, fuzzydate.read, reading, "today", NOW)
         raises(ValueError, fuzzydate.read_in_zone, reading, "today", NEW_YORK, LAST)
+        raises(ValueError, Board(NOW).add, reading, "today")
     for phrase in (None, 5):
         raises(TypeError, fuzzydate.read, 1, phrase, NOW)
         raises(TypeError, fuzzydate.make_ready, 1, phrase)
@@ -341,10 +416,12 @@ def misused():
         raises(TypeError, fuzzydate.read_in_zone, 1, "today", phrase, LAST)
         raises(TypeError, fuzzydate.run_in_zone, phrase, NEW_YORK, LAST)
         raises(TypeError, fuzzydate.run_in_zone, ready, phrase, LAST)
+        raises(TypeError, Board(NOW).add, 1, phrase)
     raises(UnicodeEncodeError, fuzzydate.read, 1, "\ud800", NOW)
     raises(AttributeError, fuzzydate.read, 1, "today", None)
     raises(AttributeError, fuzzydate.read_in_zone, 1, "today", NEW_YORK, None)
     raises(ValueError, fuzzydate.occurrences, TUESDAYS, TUESDAY, -1)
+    raises(TypeError, Board(NOW).remove, None)
 
 
 def garbage(seed):
@@ -363,6 +440,20 @@ def garbage(seed):
             expect(some[refusal.place :].startswith(refusal.part), "a part")
 
 
+def one_board():
+    """One board that all threads add to and remove from."""
+    board = Board(NOW)
+
+    def turns(_):
+        for _ in range(200):
+            board.remove(board.add(1, "noon"))
+            board.again(NOW)
+
+    with ThreadPoolExecutor(THREADS) as pool:
+        list(pool.map(turns, range(THREADS)))
+    expect(board.order() == [], "a board of all threads")
+
+
 def as_the_header(header):
     """The names, numbers and words of the refusals, and the sizes, are those of fuzzy.h."""
     numbers = dict(re.findall(r"^ *FUZZY_(\w+) = (\d+),? +/\*", header, re.M))
@@ -373,11 +464,12 @@ def as_the_header(header):
 
 
 def every(seed):
-    for part in (moments, refusals, below, stamps, words, phrases, rules, refused_rules, rows, misused):
+    for part in (moments, refusals, below, stamps, words, phrases, rules, refused_rules, rows):
         part()
-    for part in (zones, refused_in_zones, zone_offsets, zone_files, lent_in_zones):
+    for part in (zones, refused_in_zones, zone_offsets, zone_files, lent_in_zones, boards, refused_boards, misused):
         part()
     garbage(seed)
+    any_memory(seed)
 
 
 with open(sys.argv[1]) as header:
@@ -386,6 +478,7 @@ with open(sys.argv[2], "rb") as file:
     NEW_YORK = file.read()
 every(0)
 longest()
+one_board()
 with ThreadPoolExecutor(THREADS) as pool:
     list(pool.map(every, range(1, 1 + 2 * THREADS)))
 print(f"bindings/python: every call answered as it should, and in {THREADS} threads at once")

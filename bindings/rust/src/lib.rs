@@ -73,6 +73,8 @@
 //! assert_eq!(due("tomorrow"), "2026-03-08 09:00:00 -04:00");
 //! assert_eq!(due("1 day from now"), "2026-03-08 10:00:00 -04:00");
 //! ```
+//!
+//! Up to 256 reminders are kept on a [`Board`], which says all day what is due first.
 use std::fmt;
 use std::str::FromStr;
 
@@ -182,6 +184,42 @@ extern "C" {
         due: *mut i64,
         moment: *mut u32,
     ) -> u64;
+    fn fuzzy_board_make_in(
+        lengths: *mut u32,
+        state: *mut u32,
+        year: u32,
+        month: u32,
+        day: u32,
+        hour: u32,
+        minute: u32,
+        second: u32,
+        millisecond: u32,
+    ) -> u64;
+    fn fuzzy_board_add_in(
+        ready: *mut u8,
+        lengths: *mut u32,
+        keys: *mut u64,
+        state: *mut u32,
+        reading: u32,
+        phrase: *const u8,
+        phrase_length: usize,
+    ) -> u64;
+    fn fuzzy_board_remove_in(lengths: *mut u32, keys: *mut u64, state: *mut u32, slot: u32) -> u64;
+    fn fuzzy_board_again_in(
+        ready: *const u8,
+        lengths: *const u32,
+        keys: *mut u64,
+        state: *mut u32,
+        year: u32,
+        month: u32,
+        day: u32,
+        hour: u32,
+        minute: u32,
+        second: u32,
+        millisecond: u32,
+    ) -> u64;
+    fn fuzzy_board_head_in(keys: *const u64, state: *const u32, moment: *mut u32) -> u64;
+    fn fuzzy_board_order_in(keys: *const u64, state: *const u32, slots: *mut u32) -> u64;
 }
 
 /// The most bytes that a ready phrase has.
@@ -290,8 +328,8 @@ pub enum Reading {
     Second = 2,
 }
 
-/// Why a phrase, a ready phrase, a stamp, a rule or a zone is refused. They are tested in this order, but for those of zones: `NoZone` is tested just before
-/// `NoNow`, `PastLast` of the now just behind it, and `PastLast` and `NoInstant` of any other moment where it arises.
+/// Why a phrase, a ready phrase, a stamp, a rule, a zone or a call of a board is refused. They are tested in this order, but for those of zones: `NoZone`
+/// is tested just before `NoNow`, `PastLast` of the now just behind it, and `PastLast` and `NoInstant` of any other moment where it arises.
 #[derive(Clone, Copy, Debug, PartialEq, Eq, PartialOrd, Ord, Hash)]
 #[repr(u8)]
 pub enum Reason {
@@ -341,11 +379,17 @@ pub enum Reason {
     PastLast = 22,
     /// A civil time that doesn't occur in the zone.
     NoInstant = 23,
+    /// No slot of the board is free.
+    FullBoard = 24,
+    /// The slot of the board holds nothing.
+    EmptySlot = 25,
+    /// No reminder of the board has a moment at its now.
+    NoMoment = 26,
 }
 
 impl Reason {
     /// In the order of their numbers.
-    const ALL: [Reason; 23] = [
+    const ALL: [Reason; 26] = [
         Reason::TooLong,
         Reason::Unknown,
         Reason::LargeDigits,
@@ -369,6 +413,9 @@ impl Reason {
         Reason::NoZone,
         Reason::PastLast,
         Reason::NoInstant,
+        Reason::FullBoard,
+        Reason::EmptySlot,
+        Reason::NoMoment,
     ];
 
     /// The reason of a number that the library answers.
@@ -407,6 +454,9 @@ impl Reason {
             Reason::NoZone => "this is no zone file that is taken",
             Reason::PastLast => "the moment is later than the zone's file knows",
             Reason::NoInstant => "the zone's clocks skip that time",
+            Reason::FullBoard => "no slot of the board is free",
+            Reason::EmptySlot => "the slot of the board holds nothing",
+            Reason::NoMoment => "no reminder of the board has a moment",
         }
     }
 }
@@ -997,4 +1047,165 @@ pub fn read_in_zone<'a, P: AsRef<[u8]> + ?Sized>(reading: Reading, phrase: &'a P
             )
         }
     })
+}
+
+/// The reminders that a board has room for.
+pub const BOARD_SLOTS: usize = 256;
+
+/// What a board is in C, `struct fuzzy_board`.
+#[derive(Clone)]
+struct Parts {
+    keys: [u64; BOARD_SLOTS],
+    lengths: [u32; BOARD_SLOTS],
+    state: [u32; 8],
+    ready: [u8; BOARD_SLOTS * READY_SIZE],
+}
+
+/// Up to 256 ready reminders, each in a slot of 0 to 255, and beside them the order of their moments at the board's now. A refused call leaves
+/// all of it as before.
+///
+/// ```
+/// # use fuzzydate::{Board, Moment, Reading, Reason};
+/// let now = Moment { year: 2026, month: 2, day: 11, hour: 9, minute: 30, second: 15, millisecond: 0 };
+/// let mut board = Board::new(now).unwrap();
+/// assert_eq!(board.head().unwrap_err().reason(), Reason::NoMoment);
+///
+/// assert_eq!(board.add(Reading::First, "friday at 3 pm"), Ok(0));
+/// assert_eq!(board.add(Reading::First, "noon"), Ok(1));
+/// assert_eq!(board.add(Reading::First, "an hour from now"), Ok(2));
+/// assert_eq!(board.order(), [2, 1, 0]);
+///
+/// board.remove(2).unwrap();
+/// assert_eq!(board.head().unwrap().1.to_string(), "2026-02-11 12:00:00");
+///
+/// board.again(Moment { day: 12, hour: 0, minute: 0, second: 0, ..now }).unwrap();
+/// let (slot, moment) = board.head().unwrap();
+/// assert_eq!((slot, moment.to_string()), (1, "2026-02-12 12:00:00".to_owned()));
+/// ```
+#[derive(Clone)]
+pub struct Board {
+    parts: Box<Parts>,
+}
+
+impl Board {
+    /// An empty board at a now, or why there is none: the now is no date and time of the years 1 to 9999.
+    pub fn new(now: Moment) -> Result<Board, Refusal<'static>> {
+        let mut parts = Box::new(Parts {
+            keys: [0; BOARD_SLOTS],
+            lengths: [0; BOARD_SLOTS],
+            state: [0; 8],
+            ready: [0; BOARD_SLOTS * READY_SIZE],
+        });
+        // SAFETY: the pointers are those of arrays of the sizes that the function may write.
+        let answer = unsafe {
+            fuzzy_board_make_in(
+                parts.lengths.as_mut_ptr(),
+                parts.state.as_mut_ptr(),
+                now.year,
+                now.month,
+                now.day,
+                now.hour,
+                now.minute,
+                now.second,
+                now.millisecond,
+            )
+        };
+        number_of(answer, &[]).map(|_| Board { parts })
+    }
+
+    /// One reminder more, made ready in one of the two readings: its slot, the lowest that was free. Or why there is none: what [`Ready::new`]
+    /// refuses, and behind that a full board. A phrase that refuses at the board's now is taken: it is held last, and may have a moment later.
+    ///
+    /// ```
+    /// # use fuzzydate::{Board, Moment, Reading, Reason};
+    /// let leap_day = Moment { year: 2024, month: 2, day: 29, hour: 12, minute: 0, second: 0, millisecond: 0 };
+    /// let mut board = Board::new(leap_day).unwrap();
+    /// assert_eq!(board.add(Reading::First, "a year from now"), Ok(0));
+    /// assert_eq!(board.head().unwrap_err().reason(), Reason::NoMoment);
+    /// assert_eq!(board.add(Reading::First, "forty days ago").unwrap_err().part(), b"forty");
+    ///
+    /// board.again(Moment { month: 3, day: 1, ..leap_day }).unwrap();
+    /// assert_eq!(board.head().unwrap().1.to_string(), "2025-03-01 12:00:00");
+    /// ```
+    pub fn add<'a, P: AsRef<[u8]> + ?Sized>(&mut self, reading: Reading, phrase: &'a P) -> Result<u32, Refusal<'a>> {
+        let bytes = phrase.as_ref();
+        let parts = &mut *self.parts;
+        // SAFETY: the pointers are those of a slice, whose size is said, and of arrays of the sizes that the function may write.
+        let answer = unsafe {
+            fuzzy_board_add_in(
+                parts.ready.as_mut_ptr(),
+                parts.lengths.as_mut_ptr(),
+                parts.keys.as_mut_ptr(),
+                parts.state.as_mut_ptr(),
+                reading as u32,
+                bytes.as_ptr(),
+                bytes.len(),
+            )
+        };
+        number_of(answer, bytes)
+    }
+
+    /// One reminder less: its slot is free again. Or the slot holds nothing, as every one of 256 and above.
+    pub fn remove(&mut self, slot: u32) -> Result<(), Refusal<'static>> {
+        let parts = &mut *self.parts;
+        // SAFETY: the pointers are those of arrays of the sizes that the function may write.
+        let answer =
+            unsafe { fuzzy_board_remove_in(parts.lengths.as_mut_ptr(), parts.keys.as_mut_ptr(), parts.state.as_mut_ptr(), slot) };
+        number_of(answer, &[]).map(|_| ())
+    }
+
+    /// All reminders run again at another now, later or older, which is then the board's; or it is no date and time of the years 1 to 9999.
+    pub fn again(&mut self, now: Moment) -> Result<(), Refusal<'static>> {
+        let parts = &mut *self.parts;
+        // SAFETY: the pointers are those of arrays of the sizes that the function reads and may write.
+        let answer = unsafe {
+            fuzzy_board_again_in(
+                parts.ready.as_ptr(),
+                parts.lengths.as_ptr(),
+                parts.keys.as_mut_ptr(),
+                parts.state.as_mut_ptr(),
+                now.year,
+                now.month,
+                now.day,
+                now.hour,
+                now.minute,
+                now.second,
+                now.millisecond,
+            )
+        };
+        number_of(answer, &[]).map(|_| ())
+    }
+
+    /// What is due first: the slot and the moment of the earliest reminder at the board's now, of equal ones that of the lowest slot. Or no
+    /// reminder has a moment. Nothing is searched.
+    pub fn head(&self) -> Result<(u32, Moment), Refusal<'static>> {
+        let mut moment = [0; 7];
+        // SAFETY: the pointers are those of arrays of the sizes that the function reads and writes.
+        let answer = unsafe { fuzzy_board_head_in(self.parts.keys.as_ptr(), self.parts.state.as_ptr(), moment.as_mut_ptr()) };
+        number_of(answer, &[]).map(|slot| (slot, Moment::of(moment)))
+    }
+
+    /// The whole order: each filled slot once, by moment and, of equal ones, by slot; behind them those that refuse at the board's now, by slot.
+    pub fn order(&self) -> Vec<u32> {
+        let mut slots = vec![0; BOARD_SLOTS];
+        // SAFETY: the pointers are those of arrays and of a vector of the sizes that the function reads and may write. It is never refused.
+        let answer = unsafe { fuzzy_board_order_in(self.parts.keys.as_ptr(), self.parts.state.as_ptr(), slots.as_mut_ptr()) };
+        slots.truncate((answer >> 32) as usize);
+        slots
+    }
+}
+
+/// The order, by its slots.
+impl fmt::Debug for Board {
+    fn fmt(&self, f: &mut fmt::Formatter<'_>) -> fmt::Result {
+        f.debug_tuple("Board").field(&self.order()).finish()
+    }
+}
+
+/// What stands in the length bits of an answer, or its refusal.
+fn number_of(answer: u64, phrase: &[u8]) -> Result<u32, Refusal<'_>> {
+    match answer & 0xffff {
+        0 => Ok((answer >> 32) as u32),
+        _ => Err(Refusal::of(answer, phrase)),
+    }
 }

@@ -1,6 +1,6 @@
 //! Every function with good, damaged and empty input.
 use fuzzydate::{find_word, read, read_in_zone};
-use fuzzydate::{FoundWord, Instant, Local, Moment, Offset, Reading, Ready, Reason, Rule, Stamp, Zone};
+use fuzzydate::{Board, FoundWord, Instant, Local, Moment, Offset, Reading, Ready, Reason, Rule, Stamp, Zone};
 
 const NOW: Moment = Moment { year: 2026, month: 2, day: 11, hour: 9, minute: 30, second: 15, millisecond: 0 };
 const LEAP_DAY: Moment = Moment { year: 2024, month: 2, day: 29, hour: 12, minute: 0, second: 0, millisecond: 0 };
@@ -427,4 +427,54 @@ fn answers_in_damaged_zones() {
         }
     }
     assert!(zones > 0 && zones < 8 * NEW_YORK.len());
+}
+
+#[test]
+fn keeps_a_board() {
+    let mut board = Board::new(NOW).unwrap();
+    assert_eq!((board.head().unwrap_err().reason(), board.order()), (Reason::NoMoment, vec![]));
+    assert_eq!(Board::new(NO_NOW).unwrap_err().reason(), Reason::NoNow);
+    let reminders = ["next friday", "tuesday in two weeks", "noon", "an hour ago", "60 minutes ago", "this month"];
+    for (slot, phrase) in (0..).zip(reminders) {
+        assert_eq!(board.add(Reading::First, phrase), Ok(slot), "{phrase}");
+    }
+    assert_eq!(board.order(), [1, 3, 4, 2, 0, 5]);
+    assert_eq!(board.head(), Ok((1, Moment { month: 1, day: 27, ..NOW })));
+
+    // a slot that was removed is used again, here for the other reading
+    assert_eq!(board.remove(1), Ok(()));
+    assert_eq!(board.head(), Ok((3, Moment { hour: 8, ..NOW })));
+    assert_eq!(board.add(Reading::Second, "tuesday in two weeks"), Ok(1));
+    assert_eq!(board.order(), [3, 4, 2, 0, 1, 5]);
+
+    // an older now is taken
+    board.again(LEAP_DAY).unwrap();
+    assert_eq!(board.order(), [3, 4, 2, 0, 1, 5]);
+    assert_eq!(board.head(), Ok((3, Moment { hour: 11, ..LEAP_DAY })));
+}
+
+#[test]
+fn leaves_a_board_as_before_on_a_refusal() {
+    let mut board = Board::new(NOW).unwrap();
+    board.add(Reading::First, "tomorrow").unwrap();
+    let seen = |board: &Board| (board.order(), board.head());
+    let before = seen(&board);
+    for slot in [1, 255, 256, 257, u32::MAX] {
+        assert_eq!(board.remove(slot).unwrap_err().reason(), Reason::EmptySlot);
+    }
+    assert_eq!(board.again(NO_NOW).unwrap_err().reason(), Reason::NoNow);
+    let refusal = board.add(Reading::First, "next forty").unwrap_err();
+    assert_eq!((refusal.reason(), refusal.place(), refusal.part()), (Reason::Unknown, 5, &b"forty"[..]));
+    assert_eq!(seen(&board), before);
+
+    for slot in 1..256 {
+        assert_eq!(board.add(Reading::Second, "tomorrow"), Ok(slot));
+    }
+    let full = seen(&board);
+    assert_eq!(full.0, (0..256).collect::<Vec<u32>>());
+    assert_eq!(board.add(Reading::First, "now").unwrap_err().reason(), Reason::FullBoard);
+    assert_eq!(board.add(Reading::First, "5/2").unwrap_err().reason(), Reason::LeftOver);
+    assert_eq!(seen(&board), full);
+    board.remove(77).unwrap();
+    assert_eq!((board.add(Reading::First, "now"), board.head()), (Ok(77), Ok((77, NOW))));
 }

@@ -69,7 +69,12 @@ func refusals() throws {
     _ = refusal(.noNow, "30 February shown") { try Fuzzydate.writePhrase(noNow) }
     _ = refusal(.notWhole, "seconds shown") { try Fuzzydate.writePhrase(now) }
     expect(Reason.unknown.words == "not understood" && Reason.noInstant.words == "the zone's clocks skip that time", "words")
-    expect(Reason(rawValue: 0) == nil && Reason(rawValue: Reason.noInstant.rawValue + 1) == nil, "no other reasons")
+    expect(Reason.noMoment.words == "nothing has a moment", "words of the last reason")
+    let unsaid = String(cString: fuzzy_word(0xffff))
+    for number: UInt32 in 1..<1000 {
+        expect((Reason(rawValue: number) == nil) == (String(cString: fuzzy_word(number)) == unsaid), "whether there is a reason \(number)")
+    }
+    expect(Reason(rawValue: 0) == nil, "no reason 0")
 }
 
 func stamps() throws {
@@ -284,6 +289,86 @@ func lentInZones() throws {
     }
 }
 
+func boards() throws {
+    var board = try Board(now: now)
+    expect(board.order() == [], "an empty order")
+    let reminders = ["next friday", "tuesday in two weeks", "noon", "an hour ago", "60 minutes ago", "this month"]
+    for (slot, phrase) in reminders.enumerated() {
+        expect(try board.add(.first, phrase) == UInt32(slot), phrase)
+    }
+    expect(board.order() == [1, 3, 4, 2, 0, 5], "an order")
+    expect(try board.head() == Due(slot: 1, moment: on(2026, 1, 27)), "a head")
+    try board.remove(1)
+    var hourAgo = now
+    hourAgo.hour = 8
+    expect(try board.head() == Due(slot: 3, moment: hourAgo), "the head of equal ones")
+    let copied = board
+    expect(try board.add(.second, Array("tuesday in two weeks".utf8)) == 1, "a slot used again")
+    expect(board.order() == [3, 4, 2, 0, 1, 5] && copied.order() == [3, 4, 2, 0, 5], "an order, and that of a copy")
+    try board.again(now: leapDay)
+    hourAgo = leapDay
+    hourAgo.hour = 11
+    expect(try board.head() == Due(slot: 3, moment: hourAgo), "the head at an older now")
+}
+
+/// A call that is refused leaves every byte of its board.
+func left(_ board: inout Board, _ reason: Reason, _ call: (inout Board) throws -> Any) -> Refusal {
+    let before = board
+    let refused = refusal(reason, "\(reason) of a board") { try call(&board) }
+    expect(before.ready == board.ready && before.lengths == board.lengths && before.keys == board.keys && before.state == board.state, "\(reason)")
+    return refused
+}
+
+func refusedBoards() throws {
+    var board = try Board(now: leapDay)
+    _ = left(&board, .noMoment) { try $0.head() }
+    expect(try board.add(.first, "a year from now") == 0, "a phrase that refuses at the board's now")
+    _ = left(&board, .noMoment) { try $0.head() }
+    try board.again(now: now)
+    expect(try board.head().moment.year == 2027, "which has a moment at another")
+    for slot: UInt32 in [1, 255, 256, UInt32.max] {
+        _ = left(&board, .emptySlot) { try $0.remove(slot) }
+    }
+    _ = refusal(.noNow, "a board on 30 February") { try Board(now: noNow) }
+    _ = left(&board, .noNow) { try $0.again(now: noNow) }
+    expect(left(&board, .unknown) { try $0.add(.first, "next forty") }.part == Array("forty".utf8), "the part of a refused phrase")
+    for slot: UInt32 in 1..<256 {
+        expect(try board.add(.second, "tomorrow") == slot, "a board filled")
+    }
+    _ = left(&board, .fullBoard) { try $0.add(.first, "now") }
+    _ = left(&board, .leftOver) { try $0.add(.first, "5/2") }
+    let answer = fuzzy_board_add_in(&board.ready, &board.lengths, &board.keys, &board.state, 3, [], 0)
+    expect(fuzzy_number(answer) == Reason.noReading.rawValue, "no reading on a full board")
+    try board.remove(77)
+    expect(try board.add(.first, "now") == 77 && board.head() == Due(slot: 77, moment: now), "a slot of a full board")
+}
+
+/// Whether a call on any memory answers; its refusal may only be this one.
+func answers(_ reason: Reason, _ call: () throws -> Void) {
+    do {
+        try call()
+    } catch let refusal as Refusal {
+        expect(refusal.reason == reason, "\(refusal) on any memory")
+    } catch {
+        fatalError("\(error)")
+    }
+}
+
+/// Whatever the memory holds, every call answers.
+func anyMemory() throws {
+    var board = try Board(now: now)
+    board.ready = board.ready.map { _ in UInt8.random(in: 0...255) }
+    board.lengths = board.lengths.map { _ in UInt32.random(in: 0...UInt32.max) }
+    board.keys = board.keys.map { _ in UInt64.random(in: 0...UInt64.max) }
+    board.state = board.state.map { _ in UInt32.random(in: 0...UInt32.max) }
+    answers(.noMoment) { _ = try board.head() }
+    answers(.emptySlot) { try board.remove(UInt32.random(in: 0...257)) }
+    answers(.fullBoard) { _ = try board.add(.first, "noon") }
+    expect(board.order().allSatisfy { $0 < 256 }, "an order of any memory")
+    try board.again(now: now)
+    answers(.noMoment) { _ = try board.head() }
+}
+
 func garbage() {
     for length in 0...400 {
         let bytes = (0..<length).map { _ in UInt8.random(in: 0...255) }
@@ -308,7 +393,10 @@ func every() throws {
     refusedInZones()
     try zoneFiles()
     try lentInZones()
+    try boards()
+    try refusedBoards()
     garbage()
+    try anyMemory()
 }
 
 try every()

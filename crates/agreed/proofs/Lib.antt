@@ -4,3 +4,5 @@ pub mod InZones
 pub mod ShownAgain
 pub mod Later
 pub mod NextListed
+pub mod BoardKept
+pub mod BoardCalls

@@ -1,6 +1,6 @@
+pub mod BoardNumbers
 pub mod NextNumbers
 pub mod Readings
-pub mod ReadyNumbers
 pub mod HandedOn
 pub mod WrittenBack
 pub mod WrittenNumbers

@@ -31,6 +31,7 @@ use Rattle.zones.specs.Instants.{instantBy}
 use Rattle.zones.specs.declared.instants.Instant.{Instant}
 use Rattle.zoned.specs.Local.{evaluateInZone}
 use Rattle.zoned.specs.declared.local.Local.{Local}
+use Rattle.board.specs.Boards.{Done, Due}
 use Rattle.fuzzydate.specs.declared.Chosen.{Chosen}
 use Rattle.fuzzydate.specs.declared.Chosen.the-variants.{As, Neither}
 
@@ -133,3 +134,18 @@ dueAfter (refused r) lent = lent
 abbrev pub localAfter : Answer Local → List ℕ → List ℕ
 localAfter (given x) lent = seven (x .civil) ++ (x .west ∷ x .offset ∷ [])
 localAfter (refused r) lent = lent
+
+-- of a reminder that is added: 0 for the number and the place, and its slot from bit 32 on
+abbrev pub addedCode : Answer Done → ℕ
+addedCode (given d) = 4294967296 * d .number
+addedCode (refused r) = code r
+
+-- of the one that is due first: its slot likewise
+abbrev pub headCode : Answer Due → ℕ
+headCode (given d) = 4294967296 * d .slot
+headCode (refused r) = code r
+
+-- its moment's seven numbers are written over what was lent; on a refusal it stays
+abbrev pub headAfter : Answer Due → List ℕ → List ℕ
+headAfter (given d) lent = seven (d .moment)
+headAfter (refused r) lent = lent

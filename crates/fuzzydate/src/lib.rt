@@ -1,6 +1,13 @@
 // What apps call: phrases, nows, ready phrases, stamps and moments as numbers and byte slices.
 use answer::Answered;
 use answer::answer;
+use board::Earliest;
+use board::calls::add;
+use board::calls::again;
+use board::calls::head;
+use board::calls::make;
+use board::calls::order;
+use board::calls::remove;
 use calendar::moments::Moment;
 use calendar::moments::Reached;
 use coming::next;
@@ -10,6 +17,7 @@ use lexer::reading::Reading;
 use ready::make_ready;
 use records::record::encode;
 use records::run::run_ready;
+use refusals::NO_MOMENT;
 use refusals::NO_NOW;
 use refusals::NO_READING;
 use refusals::NO_RULE;
@@ -29,8 +37,10 @@ use zoned::local::Located;
 use zoned::local::run_in_zone;
 use zones::instants::Instant;
 ghost use mathlib.Core.Path.{_≡_};
-ghost use Prim.Native.Nat.{_+_, _*_, _≤_};
+ghost use mathlib.Core.List.{List};
+ghost use Prim.Native.Nat.{ℕ, _+_, _*_, _≤_};
 ghost use lib.ListN.{length};
+ghost use lib.Seq.{sets};
 ghost use Rattle.calendar.specs.Gregorian.{days};
 ghost use Rattle.calendar.specs.Moments.{momentOf, reachedOf};
 ghost use Rattle.answer.specs.Answer.{placed};
@@ -44,7 +54,9 @@ ghost use Rattle.fuzzydate.specs.Called.{stampAfter, numbersStamp, writt
 ghost use Rattle.repeats.specs.Listing.{rowsAfter};
 ghost use Rattle.coming.specs.Next.{answered};
 ghost use Rattle.zoned.specs.Local.{locatedOf, runInZone};
+ghost use Rattle.board.specs.Boards.{memory, memoryAfter, makeOf, addOf, removeOf, againOf, headOf, orderOf};
 ghost use Rattle.fuzzydate.specs.Called.{foundIn, foundAfter, listIn, nextIn, instantFrom, readInZone, dueAfter, localAfter};
+ghost use Rattle.fuzzydate.specs.Called.{addedCode, headCode, headAfter};
 
 // Where the place of a refusal stands in an answer, and where the length of its part does.
 const PLACE: u64 = 65536;
@@ -481,4 +493,149 @@ pub extern "C" fn fuzzy_read_in_zone(
         return fuzzy_run_in_zone(&ready[..end], zone, second, millisecond, due, moment);
     }
     made
+}
+
+// A board made empty at a now: 0, or 8 and nothing written.
+#[no_mangle]
+pub extern "C" fn fuzzy_board_make_in(
+    lengths: &mut [u32; 256],
+    state: &mut [u32; 8],
+    year: u32,
+    month: u32,
+    day: u32,
+    hour: u32,
+    minute: u32,
+    second: u32,
+    millisecond: u32,
+) -> u64
+    ensures { λ r. ⌜ ((ready keys : List ℕ) → r ≡ codeOf (makeOf (memory ready (now (lengths .entry)) keys (now (state .entry))) (momentOf year month day hour minute second millisecond))) ⌝ }
+    ensures { λ _.
+        ⌜ ((ready keys : List ℕ) → let m = memory ready (now (lengths .entry)) keys (now (state .entry)) in
+        memory ready (now (lengths .exit)) keys (now (state .exit)) ≡ memoryAfter m (makeOf m (momentOf year month day hour minute second millisecond))) ⌝ }
+{
+    let at = Moment {
+        year,
+        month,
+        day,
+        hour,
+        minute,
+        second,
+        millisecond,
+    };
+    make(lengths, state, at) as u64
+}
+
+// One reminder more on a board, made ready in reading 1 or 2: its slot, or what reading refuses or 24, and nothing written.
+#[no_mangle]
+pub extern "C" fn fuzzy_board_add_in(
+    ready: &mut [u8; 98304],
+    lengths: &mut [u32; 256],
+    keys: &mut [u64; 256],
+    state: &mut [u32; 8],
+    reading: u32,
+    phrase: &[u8],
+) -> u64
+    ensures { λ r.
+        ⌜ r ≡ addedCode (addOf (memory (now (ready .entry)) (now (lengths .entry)) (now (keys .entry)) (now (state .entry))) (readyIn reading (now (phrase .entry)))) ⌝ }
+    ensures { λ _.
+        ⌜ (let m = memory (now (ready .entry)) (now (lengths .entry)) (now (keys .entry)) (now (state .entry)) in
+        memory (now (ready .exit)) (now (lengths .exit)) (now (keys .exit)) (now (state .exit)) ≡ memoryAfter m (addOf m (readyIn reading (now (phrase .entry))))) ⌝ }
+{
+    let Chosen::As(chosen) = choose(reading) else {
+        return NO_READING as u64;
+    };
+    let added = add(chosen, phrase, ready, lengths, keys, state);
+    let refusal = added.refusal;
+    if refusal.number == 0 {
+        return LENGTH * (added.slot as u64);
+    }
+    code(refusal)
+}
+
+// One reminder less on a board: 0, or 25 and nothing written.
+#[no_mangle]
+pub extern "C" fn fuzzy_board_remove_in(
+    lengths: &mut [u32; 256],
+    keys: &mut [u64; 256],
+    state: &mut [u32; 8],
+    slot: u32,
+) -> u64
+    ensures { λ r. ⌜ ((ready : List ℕ) → r ≡ codeOf (removeOf (memory ready (now (lengths .entry)) (now (keys .entry)) (now (state .entry))) slot)) ⌝ }
+    ensures { λ _.
+        ⌜ ((ready : List ℕ) → let m = memory ready (now (lengths .entry)) (now (keys .entry)) (now (state .entry)) in
+        memory ready (now (lengths .exit)) (now (keys .exit)) (now (state .exit)) ≡ memoryAfter m (removeOf m slot)) ⌝ }
+{
+    remove(lengths, keys, state, slot) as u64
+}
+
+// All reminders of a board run again at another now: 0, or 8 and nothing written.
+#[no_mangle]
+pub extern "C" fn fuzzy_board_again_in(
+    ready: &[u8; 98304],
+    lengths: &[u32; 256],
+    keys: &mut [u64; 256],
+    state: &mut [u32; 8],
+    year: u32,
+    month: u32,
+    day: u32,
+    hour: u32,
+    minute: u32,
+    second: u32,
+    millisecond: u32,
+) -> u64
+    ensures { λ r. ⌜ r ≡ codeOf (againOf (memory (now (ready .entry)) (now (lengths .entry)) (now (keys .entry)) (now (state .entry))) (momentOf year month day hour minute second millisecond)) ⌝ }
+    ensures { λ _.
+        ⌜ (let m = memory (now (ready .entry)) (now (lengths .entry)) (now (keys .entry)) (now (state .entry)) in
+        memory (now (ready .entry)) (now (lengths .entry)) (now (keys .exit)) (now (state .exit)) ≡ memoryAfter m (againOf m (momentOf year month day hour minute second millisecond))) ⌝ }
+{
+    let at = Moment {
+        year,
+        month,
+        day,
+        hour,
+        minute,
+        second,
+        millisecond,
+    };
+    again(ready, lengths, keys, state, at) as u64
+}
+
+// The reminder of a board that is due first: its slot and its moment's seven numbers, or 26 and nothing written.
+#[no_mangle]
+pub extern "C" fn fuzzy_board_head_in(
+    keys: &[u64; 256],
+    state: &[u32; 8],
+    moment: &mut [u32; 7],
+) -> u64
+    ensures { λ r. ⌜ ((ready lengths : List ℕ) → r ≡ headCode (headOf (memory ready lengths (now (keys .entry)) (now (state .entry))))) ⌝ }
+    ensures { λ _. ⌜ ((ready lengths : List ℕ) → now (moment .exit) ≡ headAfter (headOf (memory ready lengths (now (keys .entry)) (now (state .entry)))) (now (moment .entry))) ⌝ }
+{
+    match head(keys, state) {
+        Earliest::Next(slot, t) => {
+            *moment = [
+                t.year,
+                t.month,
+                t.day,
+                t.hour,
+                t.minute,
+                t.second,
+                t.millisecond,
+            ];
+            LENGTH * (slot as u64)
+        }
+        Earliest::Nothing => NO_MOMENT as u64,
+    }
+}
+
+// The slots of a board in the order of their moments, at the front of a lent array: how many there are.
+#[no_mangle]
+pub extern "C" fn fuzzy_board_order_in(
+    keys: &[u64; 256],
+    state: &[u32; 8],
+    slots: &mut [u32; 256],
+) -> u64
+    ensures { λ r. ⌜ ((ready lengths : List ℕ) → r ≡ 4294967296 * length (orderOf (memory ready lengths (now (keys .entry)) (now (state .entry))))) ⌝ }
+    ensures { λ _. ⌜ ((ready lengths : List ℕ) → now (slots .exit) ≡ sets (now (slots .entry)) 0 (orderOf (memory ready lengths (now (keys .entry)) (now (state .entry))))) ⌝ }
+{
+    LENGTH * (order(keys, state, slots) as u64)
 }

@@ -92,3 +92,15 @@ PastLast = 22
 -- "23 for a time that doesn't occur"
 abbrev pub NoInstant : ℕ
 NoInstant = 23
+
+-- "24 for a full board"
+abbrev pub FullBoard : ℕ
+FullBoard = 24
+
+-- "25 for a slot that holds nothing"
+abbrev pub EmptySlot : ℕ
+EmptySlot = 25
+
+-- "26 when no entry has a moment"
+abbrev pub NoMoment : ℕ
+NoMoment = 26

@@ -88,3 +88,12 @@ pub const PAST_LAST: u8 = 22;
 
 // The civil time doesn't occur in the zone.
 pub const NO_INSTANT: u8 = 23;
+
+// Every slot of the board holds a reminder.
+pub const FULL_BOARD: u8 = 24;
+
+// The board's slot holds nothing.
+pub const EMPTY_SLOT: u8 = 25;
+
+// No entry of the board has a moment.
+pub const NO_MOMENT: u8 = 26;

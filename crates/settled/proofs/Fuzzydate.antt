@@ -1,4 +1,7 @@
 -- The promises of `fuzzydate`. Assumes nothing.
+use mathlib.Core.Path.{ap}
+use mathlib.Core.List.{[]}
+use Rattle.board.specs.Boards.{Memory}
 use Rattle.settled.proofs.Settled.{Same, Settled, same}
 use Rattle.fuzzydate.proofs.fuzzy_read.Reads as fuzzy-read'
 use Rattle.fuzzydate.proofs.fuzzy_make_ready.Reads as fuzzy-make-ready'
@@ -11,6 +14,12 @@ use Rattle.fuzzydate.proofs.fuzzy_list.Reads as fuzzy-list'
 use Rattle.fuzzydate.proofs.fuzzy_next.Reads as fuzzy-next'
 use Rattle.fuzzydate.proofs.fuzzy_run_in_zone.Reads as fuzzy-run-in-zone'
 use Rattle.fuzzydate.proofs.fuzzy_read_in_zone.Reads as fuzzy-read-in-zone'
+use Rattle.fuzzydate.proofs.fuzzy_board_make_in.Reads as fuzzy-board-make-in'
+use Rattle.fuzzydate.proofs.fuzzy_board_add_in.Reads as fuzzy-board-add-in'
+use Rattle.fuzzydate.proofs.fuzzy_board_remove_in.Reads as fuzzy-board-remove-in'
+use Rattle.fuzzydate.proofs.fuzzy_board_again_in.Reads as fuzzy-board-again-in'
+use Rattle.fuzzydate.proofs.fuzzy_board_head_in.Reads as fuzzy-board-head-in'
+use Rattle.fuzzydate.proofs.fuzzy_board_order_in.Reads as fuzzy-board-order-in'
 
 pub fuzzy-read : Settled fuzzy-read'.Post × Same fuzzy-read'.Post (λ κs z e. e .1 .1 .1 .1 .1 .1 .1 .1 .1 .0 .now)
 fuzzy-read = (same fuzzy-read'.Post _ _ (λ κs a z e p. p .0), same fuzzy-read'.Post _ _ (λ κs a z e p. p .1))
@@ -57,4 +66,59 @@ fuzzy-read-in-zone = (
   same fuzzy-read-in-zone'.Post _ _ (λ κs a z e p. p .0),
   same fuzzy-read-in-zone'.Post _ _ (λ κs a z e p. p .1 .0),
   same fuzzy-read-in-zone'.Post _ _ (λ κs a z e p. p .1 .1),
+)
+
+pub fuzzy-board-make-in : Settled fuzzy-board-make-in'.Post × Same fuzzy-board-make-in'.Post (λ κs z e. e .0 .now) × Same fuzzy-board-make-in'.Post (λ κs z e. e .1 .0 .now)
+fuzzy-board-make-in = (
+  same fuzzy-board-make-in'.Post _ _ (λ κs a z e p. p .0 [] []),
+  same fuzzy-board-make-in'.Post _ _ (λ κs a z e p. ap (λ (m : Memory). m .lengths) (p .1 [] [])),
+  same fuzzy-board-make-in'.Post _ _ (λ κs a z e p. ap (λ (m : Memory). m .state) (p .1 [] [])),
+)
+
+pub fuzzy-board-add-in :
+    Settled fuzzy-board-add-in'.Post
+    × Same fuzzy-board-add-in'.Post (λ κs z e. e .0 .now)
+    × Same fuzzy-board-add-in'.Post (λ κs z e. e .1 .0 .now)
+    × Same fuzzy-board-add-in'.Post (λ κs z e. e .1 .1 .0 .now)
+    × Same fuzzy-board-add-in'.Post (λ κs z e. e .1 .1 .1 .0 .now)
+fuzzy-board-add-in = (
+  same fuzzy-board-add-in'.Post _ _ (λ κs a z e p. p .0),
+  same fuzzy-board-add-in'.Post _ _ (λ κs a z e p. ap (λ (m : Memory). m .ready) (p .1)),
+  same fuzzy-board-add-in'.Post _ _ (λ κs a z e p. ap (λ (m : Memory). m .lengths) (p .1)),
+  same fuzzy-board-add-in'.Post _ _ (λ κs a z e p. ap (λ (m : Memory). m .keys) (p .1)),
+  same fuzzy-board-add-in'.Post _ _ (λ κs a z e p. ap (λ (m : Memory). m .state) (p .1)),
+)
+
+pub fuzzy-board-remove-in :
+    Settled fuzzy-board-remove-in'.Post
+    × Same fuzzy-board-remove-in'.Post (λ κs z e. e .0 .now)
+    × Same fuzzy-board-remove-in'.Post (λ κs z e. e .1 .0 .now)
+    × Same fuzzy-board-remove-in'.Post (λ κs z e. e .1 .1 .0 .now)
+fuzzy-board-remove-in = (
+  same fuzzy-board-remove-in'.Post _ _ (λ κs a z e p. p .0 []),
+  same fuzzy-board-remove-in'.Post _ _ (λ κs a z e p. ap (λ (m : Memory). m .lengths) (p .1 [])),
+  same fuzzy-board-remove-in'.Post _ _ (λ κs a z e p. ap (λ (m : Memory). m .keys) (p .1 [])),
+  same fuzzy-board-remove-in'.Post _ _ (λ κs a z e p. ap (λ (m : Memory). m .state) (p .1 [])),
+)
+
+pub fuzzy-board-again-in :
+    Settled fuzzy-board-again-in'.Post
+    × Same fuzzy-board-again-in'.Post (λ κs z e. e .1 .1 .0 .now)
+    × Same fuzzy-board-again-in'.Post (λ κs z e. e .1 .1 .1 .0 .now)
+fuzzy-board-again-in = (
+  same fuzzy-board-again-in'.Post _ _ (λ κs a z e p. p .0),
+  same fuzzy-board-again-in'.Post _ _ (λ κs a z e p. ap (λ (m : Memory). m .keys) (p .1)),
+  same fuzzy-board-again-in'.Post _ _ (λ κs a z e p. ap (λ (m : Memory). m .state) (p .1)),
+)
+
+pub fuzzy-board-head-in : Settled fuzzy-board-head-in'.Post × Same fuzzy-board-head-in'.Post (λ κs z e. e .1 .1 .0 .now)
+fuzzy-board-head-in = (
+  same fuzzy-board-head-in'.Post _ _ (λ κs a z e p. p .0 [] []),
+  same fuzzy-board-head-in'.Post _ _ (λ κs a z e p. p .1 [] []),
+)
+
+pub fuzzy-board-order-in : Settled fuzzy-board-order-in'.Post × Same fuzzy-board-order-in'.Post (λ κs z e. e .1 .1 .0 .now)
+fuzzy-board-order-in = (
+  same fuzzy-board-order-in'.Post _ _ (λ κs a z e p. p .0 [] []),
+  same fuzzy-board-order-in'.Post _ _ (λ κs a z e p. p .1 [] []),
 )

@@ -39,6 +39,9 @@ use Rattle.zoned.specs.Local.{locatedOf}
 use Rattle.zoned.specs.declared.local.Local.{Local}
 use Rattle.zoned.specs.declared.local.Located.{Located}
 use Rattle.zoned.specs.declared.local.Located.the-variants.{At as LocatedAt, Refused as LocatedRefused}
+use Rattle.board.specs.Boards.{Due, headFrom}
+use Rattle.board.specs.declared.Earliest.{Earliest}
+use Rattle.board.specs.declared.Earliest.the-variants.{Next as NextDue, Nothing as NothingDue}
 use Rattle.answer.specs.Answer.{answerFrom}
 use Rattle.answer.specs.declared.Answered.{Answered}
 use Rattle.answer.specs.declared.Answered.the-variants.{At as AnsweredAt, Refused as AnsweredRefused}
@@ -188,3 +191,14 @@ located-back (LocatedRefused k) = refl
 
 pub located-one : (x y : Located) → locatedOf x ≡ locatedOf y → x ≡ y
 located-one = given-back locatedOf located located-back
+
+abbrev earliest : Answer Due → Earliest
+earliest (given d) = NextDue (d .slot) (d .moment)
+earliest (refusedAnswer r) = NothingDue
+
+earliest-back : (x : Earliest) → earliest (headFrom x) ≡ x
+earliest-back (NextDue s t) = refl
+earliest-back NothingDue = refl
+
+pub earliest-one : (x y : Earliest) → headFrom x ≡ headFrom y → x ≡ y
+earliest-one = given-back headFrom earliest earliest-back

@@ -1,8 +1,11 @@
 package fuzzydate;
 
+import java.nio.ByteBuffer;
+
 /**
  * The functions of fuzzy.h by their names there, over fuzzydate_jni.c. An answer is the header's one number; what a call writes goes to the front of
- * its last array, an instant's second to the one before it, and on a refusal nothing does.
+ * its last array, an instant's second to the one before it, and on a refusal nothing does. A board is a direct buffer of BOARD_SIZE bytes, used by one
+ * thread at a time.
  */
 final class Calls {
     static final int MOMENT_NUMBERS = 7;
@@ -12,6 +15,8 @@ final class Calls {
     static final int STAMP_SIZE = 29;
     static final int PHRASE_SIZE = 26;
     static final int LOCAL_NUMBERS = 9;
+    static final int BOARD_SLOTS = 256;
+    static final int BOARD_SIZE = 101408;
 
     static {
         System.loadLibrary("fuzzydate_jni");
@@ -40,6 +45,18 @@ final class Calls {
     static native long runInZone(byte[] ready, byte[] zone, long second, int millisecond, long[] due, int[] moment);
 
     static native long readInZone(int reading, byte[] phrase, byte[] zone, long second, int millisecond, long[] due, int[] moment);
+
+    static native long boardMake(ByteBuffer board, int[] now);
+
+    static native long boardAdd(ByteBuffer board, int reading, byte[] phrase);
+
+    static native long boardRemove(ByteBuffer board, int slot);
+
+    static native long boardAgain(ByteBuffer board, int[] now);
+
+    static native long boardHead(ByteBuffer board, int[] moment);
+
+    static native long boardOrder(ByteBuffer board, int[] slots);
 
     static native int number(long answer);
 

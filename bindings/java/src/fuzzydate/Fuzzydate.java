@@ -158,7 +158,7 @@ public final class Fuzzydate {
         return readInZone(reading, bytes(phrase), zone, now);
     }
 
-    private static byte[] bytes(String text) {
+    static byte[] bytes(String text) {
         return text.getBytes(StandardCharsets.UTF_8);
     }
 

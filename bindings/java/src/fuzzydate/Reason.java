@@ -47,7 +47,13 @@ public enum Reason {
     /** At or past the last transition of the zone's file. */
     PAST_LAST,
     /** A civil time that doesn't occur in the zone. */
-    NO_INSTANT;
+    NO_INSTANT,
+    /** No slot of the board is free. */
+    FULL_BOARD,
+    /** The slot of the board holds nothing. */
+    EMPTY_SLOT,
+    /** No reminder of the board has a moment at its now. */
+    NO_MOMENT;
 
     static Reason of(int number) {
         return values()[number - 1];

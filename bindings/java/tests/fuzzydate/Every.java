@@ -454,6 +454,110 @@ final class Every {
         undue(Reason.NO_ZONE, "now", Arrays.copyOf(zone, 65_537), BEFORE_GAP);
     }
 
+    private void heads(Board board, int slot, LocalDateTime moment, String what) throws Refusal {
+        same(board.head().slot(), slot, what);
+        same(board.head().moment(), moment, what);
+    }
+
+    private void ordered(Board board, int... slots) {
+        same(Arrays.toString(board.order()), Arrays.toString(slots), "an order");
+    }
+
+    private void boards() throws Refusal {
+        Board board = new Board(NOW);
+        ordered(board);
+        String[] reminders = {"next friday", "tuesday in two weeks", "noon", "an hour ago", "60 minutes ago", "this month"};
+        for (int slot = 0; slot < reminders.length; slot++) {
+            same(board.add(Reading.FIRST, reminders[slot]), slot, reminders[slot]);
+        }
+        ordered(board, 1, 3, 4, 2, 0, 5);
+        heads(board, 1, LocalDateTime.parse("2026-01-27T09:30:15.250"), "a head");
+        board.remove(1);
+        heads(board, 3, NOW.withHour(8), "the head of equal ones");
+        same(board.add(Reading.SECOND, "tuesday in two weeks".getBytes(StandardCharsets.UTF_8)), 1, "a slot used again");
+        ordered(board, 3, 4, 2, 0, 1, 5);
+        board.again(LEAP_DAY);
+        heads(board, 3, LEAP_DAY.withHour(11), "the head at an older now");
+    }
+
+    /** A call that is refused leaves every byte of its board. */
+    private Refusal left(Board board, Reason reason, Call call, String what) {
+        ByteBuffer before = ByteBuffer.allocate(Calls.BOARD_SIZE);
+        before.put(board.memory.duplicate()).flip();
+        Refusal refusal = refusal(reason, call, what);
+        same(board.memory, before, "the board behind " + what);
+        return refusal;
+    }
+
+    private void refusedBoards() throws Refusal {
+        Board board = new Board(LEAP_DAY);
+        left(board, Reason.NO_MOMENT, board::head, "the head of an empty board");
+        same(board.add(Reading.FIRST, "a year from now"), 0, "a phrase that refuses at the board's now");
+        same(left(board, Reason.NO_MOMENT, board::head, "the head of no moment").getMessage(), "nothing has a moment", "a message");
+        board.again(NOW);
+        heads(board, 0, NOW.withYear(2027), "a moment at another now");
+        for (int slot : new int[] {1, 255, 256, Integer.MAX_VALUE, -1, Integer.MIN_VALUE}) {
+            left(board, Reason.EMPTY_SLOT, () -> removed(board, slot), "slot " + slot);
+        }
+        for (int year : new int[] {0, 10000}) {
+            refusal(Reason.NO_NOW, () -> new Board(NOW.withYear(year)), "a board in the year " + year);
+            left(board, Reason.NO_NOW, () -> ranAgain(board, NOW.withYear(year)), "running again in the year " + year);
+        }
+        same(left(board, Reason.UNKNOWN, () -> board.add(Reading.FIRST, "next forty"), "forty").place(), 5, "the place of a refused phrase");
+        for (int slot = 1; slot < Calls.BOARD_SLOTS; slot++) {
+            same(board.add(Reading.SECOND, "tomorrow"), slot, "a board filled");
+        }
+        left(board, Reason.FULL_BOARD, () -> board.add(Reading.FIRST, "now"), "a full board");
+        left(board, Reason.LEFT_OVER, () -> board.add(Reading.FIRST, "5/2"), "a refused phrase on a full board");
+        left(board, Reason.NO_READING, () -> Refusal.check(Calls.boardAdd(board.memory, 3, new byte[0]), new byte[0]), "no reading on a full board");
+        board.remove(77);
+        same(board.add(Reading.FIRST, "now"), 77, "a slot of a full board");
+        heads(board, 77, NOW, "the head of a full board");
+    }
+
+    private static Board removed(Board board, int slot) throws Refusal {
+        board.remove(slot);
+        return board;
+    }
+
+    private static Board ranAgain(Board board, LocalDateTime now) throws Refusal {
+        board.again(now);
+        return board;
+    }
+
+    /** Whatever the memory holds, every call answers. */
+    private void anyMemory(Random random) throws Refusal {
+        Board board = new Board(NOW);
+        byte[] bytes = new byte[Calls.BOARD_SIZE];
+        random.nextBytes(bytes);
+        board.memory.duplicate().put(bytes);
+        int slot = random.nextInt(258);
+        refusedWithin(Reason.NO_MOMENT, Reason.NO_MOMENT, board::head);
+        refusedWithin(Reason.EMPTY_SLOT, Reason.EMPTY_SLOT, () -> removed(board, slot));
+        refusedWithin(Reason.FULL_BOARD, Reason.FULL_BOARD, () -> board.add(Reading.FIRST, "noon"));
+        for (int ordered : board.order()) {
+            expect(ordered >= 0 && ordered < Calls.BOARD_SLOTS, "an order of any memory");
+        }
+        board.again(NOW);
+        refusedWithin(Reason.NO_MOMENT, Reason.NO_MOMENT, board::head);
+    }
+
+    /** One board that all threads add to and remove from. */
+    private void oneBoard(ExecutorService pool) throws Exception {
+        Board board = new Board(NOW);
+        List<Callable<Void>> threads = Collections.nCopies(THREADS, () -> {
+            for (int i = 0; i < 200; i++) {
+                board.remove(board.add(Reading.FIRST, "noon"));
+                board.again(NOW);
+            }
+            return null;
+        });
+        for (Future<Void> end : pool.invokeAll(threads)) {
+            end.get();
+        }
+        ordered(board);
+    }
+
     /** A part of a millisecond is never lost: it is said. */
     private void nanoseconds() throws Refusal {
         byte[] ready = Fuzzydate.makeReady(Reading.FIRST, "today");
@@ -469,6 +573,8 @@ final class Every {
             throwsA(IllegalArgumentException.class, () -> Fuzzydate.occurrences("FREQ=DAILY", now, 1), "a start with nanoseconds");
             throwsA(IllegalArgumentException.class, () -> Fuzzydate.next("FREQ=DAILY", now, WHOLE), "a start with nanoseconds to be asked from");
             throwsA(IllegalArgumentException.class, () -> Fuzzydate.next("FREQ=DAILY", WHOLE, now), "asked at nanoseconds");
+            throwsA(IllegalArgumentException.class, () -> new Board(now), "a board at nanoseconds");
+            throwsA(IllegalArgumentException.class, () -> ranAgain(new Board(WHOLE), now), "running again at nanoseconds");
         }
         LocalDateTime last = WHOLE.withNano(999_000_000);
         same(Fuzzydate.run(ready, last), last, "999 milliseconds");
@@ -532,6 +638,23 @@ final class Every {
         throwsA(none, () -> Calls.readInZone(1, today, zone, 0, 0, null, numbers), "no instant to read to");
         throwsA(none, () -> Calls.readInZone(1, today, zone, 0, 0, due, null), "no moment to read to in a zone");
 
+        ByteBuffer board = ByteBuffer.allocateDirect(Calls.BOARD_SIZE);
+        throwsA(none, () -> Calls.boardMake(null, now), "no board");
+        throwsA(none, () -> Calls.boardMake(board, null), "no now of a board");
+        throwsA(none, () -> Calls.boardAdd(null, 1, today), "no board to add to");
+        throwsA(none, () -> Calls.boardAdd(board, 1, null), "no phrase to be added");
+        throwsA(none, () -> Calls.boardRemove(null, 0), "no board to remove from");
+        throwsA(none, () -> Calls.boardAgain(null, now), "no board to run again");
+        throwsA(none, () -> Calls.boardAgain(board, null), "no now to run again at");
+        throwsA(none, () -> Calls.boardHead(null, numbers), "no board that has a head");
+        throwsA(none, () -> Calls.boardHead(board, null), "no moment of a head");
+        throwsA(none, () -> Calls.boardOrder(null, numbers), "no board in order");
+        throwsA(none, () -> Calls.boardOrder(board, null), "no slots");
+        ByteBuffer direct = ByteBuffer.allocateDirect(Calls.BOARD_SIZE + 8);
+        for (ByteBuffer other : new ByteBuffer[] {ByteBuffer.allocate(Calls.BOARD_SIZE), ByteBuffer.allocateDirect(Calls.BOARD_SIZE - 1), direct}) {
+            throwsA(IllegalArgumentException.class, () -> Calls.boardRemove(other, 0), "a board that is none");
+        }
+
         Class<ArrayIndexOutOfBoundsException> few = ArrayIndexOutOfBoundsException.class;
         throwsA(few, () -> Calls.read(1, today, new int[6], numbers), "a now of six numbers");
         throwsA(few, () -> Calls.read(1, today, now, new int[6]), "a moment of six numbers");
@@ -550,7 +673,12 @@ final class Every {
         throwsA(few, () -> Calls.runInZone(bytes, zone, 0, 0, due, new int[8]), "eight numbers to run to in a zone");
         throwsA(few, () -> Calls.readInZone(1, today, zone, 0, 0, new long[0], numbers), "no number for an instant");
         throwsA(few, () -> Calls.readInZone(1, today, zone, 0, 0, due, new int[8]), "eight numbers in a zone");
+        throwsA(few, () -> Calls.boardMake(board, new int[6]), "six numbers of a board's now");
+        throwsA(few, () -> Calls.boardAgain(board, new int[6]), "six numbers to run again at");
+        throwsA(few, () -> Calls.boardHead(board, new int[6]), "six numbers of a head");
+        throwsA(few, () -> Calls.boardOrder(board, new int[255]), "255 slots");
         expect(due[0] == 0xa5, "an instant written by a refused call");
+        same(board, ByteBuffer.allocate(Calls.BOARD_SIZE), "a board that was not called");
         for (byte b : bytes) {
             expect(b == (byte) 0xa5, "bytes written by a refused call");
         }
@@ -592,6 +720,11 @@ final class Every {
         throwsA(none, () -> Fuzzydate.runInZone(null, zone, LAST), "no ready phrase in a zone");
         throwsA(none, () -> Fuzzydate.runInZone(ready, null, LAST), "no zone to run in");
         throwsA(none, () -> Fuzzydate.runInZone(ready, zone, null), "no instant to run at");
+        throwsA(none, () -> new Board(null), "no now of a board");
+        throwsA(none, () -> new Board(NOW).add(null, phrase), "no reading on a board");
+        throwsA(none, () -> new Board(NOW).add(Reading.FIRST, (byte[]) null), "no phrase on a board");
+        throwsA(none, () -> new Board(NOW).add(Reading.FIRST, (String) null), "no String on a board");
+        throwsA(none, () -> ranAgain(new Board(NOW), null), "no other now of a board");
     }
 
     /** A call that may be refused, with one of these reasons; and whether it was. */
@@ -641,6 +774,7 @@ final class Every {
             refusedWithin(Reason.OUTSIDE, Reason.NO_STAMP, () -> Fuzzydate.readStamp(damaged));
         }
         damagedRules();
+        anyMemory(random);
     }
 
     /** A rule with a bit changed, as of another number, is refused by both calls alike, or begins with the start in both. */
@@ -673,6 +807,8 @@ final class Every {
         refusedInZones();
         zoneOffsets();
         zoneFiles();
+        boards();
+        refusedBoards();
         nanoseconds();
         calls();
         nulls();
@@ -696,6 +832,7 @@ final class Every {
             });
         }
         ExecutorService pool = Executors.newFixedThreadPool(THREADS);
+        first.oneBoard(pool);
         List<Future<Void>> ended = pool.invokeAll(threads);
         pool.shutdown();
         for (Future<Void> end : ended) {

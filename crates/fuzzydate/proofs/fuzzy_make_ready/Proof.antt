@@ -10,7 +10,7 @@ use Rattle.steps.specs.declared.plan.Step.{Step}
 use Rattle.ready.specs.Ready.{ReadyPhrase, readyOf}
 use Rattle.records.specs.Records.{encodeOf}
 use Rattle.fuzzydate.specs.Called.{readyIn, readyCode, readyAfter}
-use Rattle.fuzzydate.proofs.ReadyNumbers.{ListMade, list-made, NoneMade, none-made}
+use Rattle.board.proofs.ReadyNumbers.{ListMade, list-made, NoneMade, none-made}
 use borrow.Author.Needs.{needs}
 use Rattle.fuzzydate.proofs.fuzzy_make_ready.Statement.{statement}
 use Rattle.fuzzydate.proofs.fuzzy_make_ready.Tie as tie

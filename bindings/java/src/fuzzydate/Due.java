@@ -1,0 +1,24 @@
+package fuzzydate;
+
+import java.time.LocalDateTime;
+
+/** A slot of a {@link Board}, and its reminder's moment. */
+public final class Due {
+    private final int slot;
+    private final LocalDateTime moment;
+
+    Due(int slot, LocalDateTime moment) {
+        this.slot = slot;
+        this.moment = moment;
+    }
+
+    /** The slot, 0 to 255. */
+    public int slot() {
+        return slot;
+    }
+
+    /** When its reminder is due, at the board's now. */
+    public LocalDateTime moment() {
+        return moment;
+    }
+}

@@ -1,0 +1,150 @@
+-- Of a board that was made by the calls of apps: the order is kept and by moment, the head is what a scan gives, and a refused call leaves it.
+-- Assumes nothing.
+use Prim.Native.Nat.{ℕ, suc, _*_, _<_}
+use native.Mathlib.Omega.{arith}
+use mathlib.Core.Path.{_≡_, refl, sym, subst, ap, _∙_}
+use mathlib.Core.Bool.{Bool, true, false, cond}
+use mathlib.Core.List.{List}
+use lib.ListN.{length, getD, take, replicate}
+use lib.Seq.{sets}
+use Rattle.digits.proofs.Stores.{sets-taken}
+use Rattle.refusals.specs.Table.{NoNow}
+use Rattle.refusals.specs.Answers.{Answer, given, refused, refuse, andThen}
+use Rattle.calendar.specs.Moments.{isMoment}
+use Rattle.calendar.specs.declared.moments.Moment.{Moment}
+use Rattle.lexer.specs.Keywords.{wordsIn}
+use Rattle.lexer.specs.declared.reading.Reading.{Reading}
+use Rattle.numbers.specs.Slices.{oneIf}
+use Rattle.answer.specs.Answer.{placed, answerOf}
+use Rattle.ready.specs.Ready.{ReadyPhrase, readyOf}
+use Rattle.board.specs.Boards.{Memory, memory, Done, done, memoryAfter, nowIn, stateOf, isFilled, outcomeAt, makeOf, addOf, removeOf, againOf, headOf, orderOf}
+use Rattle.board.specs.Scans.{Sized, IsBoard, scanOf, timesIn, Before}
+use Rattle.board.proofs.Heads.{head-scan}
+use Rattle.board.proofs.Kept.{held-answers, make-keeps, again-keeps, remove-keeps, add-keeps, order-once}
+use Rattle.board.proofs.InOrder.{order-before}
+use Rattle.fuzzydate.specs.Called.{readingOf, readyIn, codeOf, addedCode, headCode, headAfter}
+use Rattle.fuzzydate.proofs.BoardNumbers.{order-few}
+use Rattle.agreed.specs.Calls.{number, size}
+use Rattle.agreed.specs.Boards.{Make, Add, Remove, Again, Changed, by-make, by-add, by-remove, by-again, Made, new, then, Head, Order}
+
+-- a call answers and leaves what a definition says of the memory before it
+abbrev pub Says : (Answer Done → ℕ) → (Memory → Answer Done) → Memory → ℕ → Memory → Type 0
+Says code f m k m′ = (k ≡ code (f m)) × (m′ ≡ memoryAfter m (f m))
+
+pub make-says : {n : Moment} {m m′ : Memory} {k : ℕ} → Make n m k m′ → Says codeOf (λ x. makeOf x n) m k m′
+make-says {n} {m} {m′} {k} c =
+    let p = c .call .promised in
+    subst (λ (x : Memory). Says codeOf (λ y. makeOf y n) x k m′) (c .before)
+    (rw (← (c .now-is), ← (c .answer-is), ← (c .behind)) (p .0 (m .ready) (m .keys), p .1 (m .ready) (m .keys)))
+
+pub add-says : {reading : ℕ} {phrase : List ℕ} {m m′ : Memory} {k : ℕ} → Add reading phrase m k m′ → Says addedCode (λ x. addOf x (readyIn reading phrase)) m k m′
+add-says {reading} {phrase} {m} {m′} {k} c =
+    let p = c .call .promised in
+    subst (λ (x : Memory). Says addedCode (λ y. addOf y (readyIn reading phrase)) x k m′) (c .before)
+    (rw (← (c .reading-is), ← (c .phrase-is), ← (c .answer-is), ← (c .behind)) (p .0, p .1))
+
+pub remove-says : {s : ℕ} {m m′ : Memory} {k : ℕ} → Remove s m k m′ → Says codeOf (λ x. removeOf x s) m k m′
+remove-says {s} {m} {m′} {k} c =
+    let p = c .call .promised in
+    subst (λ (x : Memory). Says codeOf (λ y. removeOf y s) x k m′) (c .before)
+    (rw (← (c .slot-is), ← (c .answer-is), ← (c .behind)) (p .0 (m .ready), p .1 (m .ready)))
+
+pub again-says : {n : Moment} {m m′ : Memory} {k : ℕ} → Again n m k m′ → Says codeOf (λ x. againOf x n) m k m′
+again-says {n} {m} {m′} {k} c =
+    let p = c .call .promised in
+    subst (λ (x : Memory). Says codeOf (λ y. againOf y n) x k m′) (c .before)
+    (rw (← (c .now-is), ← (c .answer-is), ← (c .behind)) (p .0, p .1))
+
+-- what is answered of a refusal is not 0, and the memory stays
+leaves :
+    (code : Answer Done → ℕ) → ((d : Done) → number (code (given d)) ≡ 0) → (w : Answer Done) {m m′ : Memory} {k : ℕ} →
+    (k ≡ code w) × (m′ ≡ memoryAfter m w) → (number k ≡ 0 → ⊥) → m′ ≡ m
+leaves code none (given d) says other = absurd (other (ap number (says .0) ∙ none d))
+leaves code none (refused r) says other = says .1
+
+-- "A refused call leaves board and order as before, and a refused new now (8) too", every byte of any memory
+pub refused-leaves : {m m′ : Memory} {k : ℕ} → Changed m k m′ → (number k ≡ 0 → ⊥) → m′ ≡ m
+refused-leaves {m} (by-make {n} c) other = leaves codeOf (λ d. refl) (makeOf m n) (make-says c) other
+refused-leaves {m} (by-add {reading} {phrase} c) other =
+    leaves addedCode (λ d. omega arith) (addOf m (readyIn reading phrase)) (add-says c) other
+refused-leaves {m} (by-remove {s} c) other = leaves codeOf (λ d. refl) (removeOf m s) (remove-says c) other
+refused-leaves {m} (by-again {n} c) other = leaves codeOf (λ d. refl) (againOf m n) (again-says c) other
+
+-- a board is one behind a call too
+kept : {m m′ : Memory} (w : Answer Done) → m′ ≡ memoryAfter m w → IsBoard m → ((d : Done) → w ≡ given d → IsBoard (d .after)) → IsBoard m′
+kept (given d) e board keeps = subst IsBoard (sym e) (keeps d refl)
+kept (refused r) e board keeps = subst IsBoard (sym e) board
+
+ready-keeps :
+    (m : Memory) (reading : Reading) (s : List ℕ) (w : ReadyPhrase) {d : Done} → readyOf reading (wordsIn reading) s ≡ w → IsBoard m →
+    addOf m w ≡ given d → IsBoard (d .after)
+unfolding addOf
+ready-keeps m reading s (given ss) made board e = add-keeps m reading s ss made board e
+ready-keeps m reading s (refused r) made board e = let z : _≡_ {A = ℕ} 0 1 = cc in absurd (omega arith)
+
+reading-keeps :
+    (m : Memory) (w : Answer Reading) (s : List ℕ) {d : Done} → IsBoard m →
+    addOf m (andThen w (λ reading. readyOf reading (wordsIn reading) s)) ≡ given d → IsBoard (d .after)
+unfolding addOf
+reading-keeps m (given reading) s board e = ready-keeps m reading s (readyOf reading (wordsIn reading) s) refl board e
+reading-keeps m (refused r) s board e = let z : _≡_ {A = ℕ} 0 1 = cc in absurd (omega arith)
+
+changed-board : {m m′ : Memory} {k : ℕ} → IsBoard m → Changed m k m′ → IsBoard m′
+changed-board {m} board (by-make {n} c) = kept _ (make-says c .1) board (λ d e. make-keeps m n (board .sized) e)
+changed-board {m} board (by-add {reading} {phrase} c) =
+    kept _ (add-says c .1) board (λ d e. reading-keeps m (readingOf reading) phrase board e)
+changed-board {m} board (by-remove {s} c) = kept _ (remove-says c .1) board (λ d e. remove-keeps m s board e)
+changed-board {m} board (by-again {n} c) = kept _ (again-says c .1) board (λ d e. again-keeps m n board e)
+
+new-board : {n : Moment} {m m′ : Memory} → Sized m → Make n m 0 m′ → IsBoard m′
+unfolding makeOf
+new-board {n} {m} {m′} sized c = go (isMoment n) refl (make-says c)
+  where
+    empty : Memory
+    empty = memory (m .ready) (replicate 256 0) (m .keys) (stateOf n 0)
+
+    go : (b : Bool) → isMoment n ≡ b → let w = cond b (done 0 empty) (refuse NoNow 0 0) in (0 ≡ codeOf w) × (m′ ≡ memoryAfter m w) → IsBoard m′
+    go true e says = subst IsBoard (sym (says .1)) (make-keeps m n {d = record { number = 0; after = empty }} sized (rw e))
+    go false e says = absurd (omega (arith, says .0))
+
+-- a board made by the calls is one: "Adding, removing and running all again at a new now keep it right"
+pub made-board : {m : Memory} → Made m → IsBoard m
+made-board (new sized c) = new-board sized c
+made-board (then made c) = changed-board (made-board made) c
+
+-- "The head of the order equals what a scan of all reminders would give, ties by lower slot"
+pub head-scanned :
+    {m : Memory} {array array′ : List ℕ} {k : ℕ} → Made m → Head m array k array′ → (k ≡ headCode (scanOf m)) × (array′ ≡ headAfter (scanOf m) array)
+head-scanned {m} {array} {array′} {k} made c =
+    let p = c .call .promised in
+    rw (← (head-scan m (made-board made)))
+    (subst (λ (x : Memory). (k ≡ headCode (headOf x)) × (array′ ≡ headAfter (headOf x) array)) (c .before)
+    (rw (← (c .array-is), ← (c .answer-is), ← (c .array′-is)) (p .0 (m .ready) (m .lengths), p .1 (m .ready) (m .lengths))))
+
+-- the slots that asking for the order wrote
+order-read : {m : Memory} {slots slots′ : List ℕ} {k : ℕ} → Order m slots k slots′ → take (size k) slots′ ≡ orderOf m
+order-read {m} {slots} {slots′} {k} c =
+    let p = c .call .promised in
+    let says : (k ≡ 4294967296 * length (orderOf m)) × (slots′ ≡ sets slots 0 (orderOf m)) =
+    subst (λ (x : Memory). (k ≡ 4294967296 * length (orderOf x)) × (slots′ ≡ sets slots 0 (orderOf x))) (c .before)
+    (rw (← (c .slots-are), ← (c .answer-is), ← (c .slots′-are)) (p .0 (m .ready) (m .lengths), p .1 (m .ready) (m .lengths))) in
+    let count : length (orderOf m) ≡ size k = omega (arith, says .0) in
+    rw (says .1) (sets-taken (orderOf m) slots (omega (arith, order-few m, c .numbers)) (size k) count)
+
+-- "the whole order holds each filled slot once"
+pub ordered-once :
+    {m : Memory} {slots slots′ : List ℕ} {k : ℕ} → Made m → Order m slots k slots′ → (s : ℕ) → s < 256 →
+    timesIn s (take (size k) slots′) ≡ oneIf (isFilled m s)
+ordered-once {m} made c s h = rw (order-read c) (order-once m (made-board made) s h)
+
+-- "an order by moment", "ties by lower slot", and those that refuse "last, by slot": each slot stands before the next one
+pub ordered-before :
+    {m : Memory} {slots slots′ : List ℕ} {k : ℕ} → Made m → Order m slots k slots′ → let l = take (size k) slots′ in
+    (i : ℕ) → suc i < length l → Before m (getD l i 0) (getD l (suc i) 0)
+ordered-before {m} made c i h = rw (order-read c) (order-before m (made-board made) i (rw (order-read c) at h))
+
+-- "Moments are those of demand 2 at the board's now."
+pub made-answers :
+    {m : Memory} (made : Made m) (s : ℕ) (filled : isFilled m s ≡ true) → let held = made-board made .held s filled in let n = nowIn (m .state) in
+    placed (outcomeAt m n s) ≡ answerOf (held .reading) (wordsIn (held .reading)) (held .phrase) n
+made-answers {m} made s filled = held-answers (made-board made .held s filled) (nowIn (m .state))

@@ -1,0 +1,10 @@
+pub mod Keys
+pub mod Carried
+pub mod Orders
+pub mod Free
+pub mod Anew
+pub mod ReadyNumbers
+pub mod Heads
+pub mod Bytes
+pub mod Kept
+pub mod InOrder

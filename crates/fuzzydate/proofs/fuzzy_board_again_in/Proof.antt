@@ -1,0 +1,17 @@
+use mathlib.Core.Path.{_∙_}
+use Rattle.fuzzydate.proofs.BoardNumbers.{again-code}
+use borrow.Author.Needs.{needs}
+use Rattle.fuzzydate.proofs.fuzzy_board_again_in.Statement.{statement}
+use Rattle.fuzzydate.proofs.fuzzy_board_again_in.Tie as tie
+
+again-requires : tie.Need-again-requires
+again-requires c κs = search needs
+
+cast-result : tie.Need-cast-result
+cast-result c = search needs
+
+returns : tie.Need-returns
+returns c = (c .again .ensures .0 ∙ again-code _ _, c .again .ensures .1)
+
+pub fuzzy-board-again-in-spec : {M : Type 1} → statement M
+fuzzy-board-again-in-spec = tie.close (tie.spec again-requires cast-result returns)
