@@ -3,7 +3,7 @@ use Prim.Native.Nat.{ℕ, _+_, _-_, _*_}
 use mathlib.Core.Bool.{cond, _&&_}
 use mathlib.Core.List.{List, [], _∷_, _++_}
 use lib.Dec.{eqb}
-use lib.ListN.{length}
+use lib.ListN.{length, getD}
 use lib.Seq.{sets}
 use Rattle.refusals.specs.Table.{NoReading, NoNow}
 use Rattle.refusals.specs.Answers.{Answer, given, refused, refuse, andThen}
@@ -44,6 +44,10 @@ abbrev pub chosenFrom : Chosen → Answer Reading
 chosenFrom (As reading) = given reading
 chosenFrom Neither = refuse NoReading 0 0
 
+-- the moment of the first seven numbers of an array that is lent
+abbrev pub momentIn : List ℕ → Moment
+momentIn l = momentOf (getD l 0 0) (getD l 1 0) (getD l 2 0) (getD l 3 0) (getD l 4 0) (getD l 5 0) (getD l 6 0)
+
 -- a phrase at a now in the reading of a number
 abbrev pub answerIn : ℕ → List ℕ → Moment → Answer Moment
 answerIn k s n = andThen (readingOf k) (λ reading. answerOf reading (wordsIn reading) s n)
@@ -76,18 +80,18 @@ abbrev pub readyAfter : ReadyPhrase → List ℕ → List ℕ
 readyAfter (given ss) lent = sets lent 0 (encodeOf ss)
 readyAfter (refused r) lent = lent
 
--- the nine numbers of a stamp
-abbrev pub nine : Stamp → List ℕ
-nine st = seven (st .moment) ++ (st .offset .west ∷ st .offset .minutes ∷ [])
+-- these seven and an offset's two
+abbrev pub nine : Moment → ℕ → ℕ → List ℕ
+nine t west offset = seven t ++ (west ∷ offset ∷ [])
 
 -- what they are written over; on a refusal it stays
 abbrev pub stampAfter : Answer Stamp → List ℕ → List ℕ
-stampAfter (given st) lent = nine st
+stampAfter (given st) lent = nine (st .moment) (st .offset .west) (st .offset .minutes)
 stampAfter (refused r) lent = lent
 
 -- the stamp of nine numbers
-abbrev pub numbersStamp : ℕ → ℕ → ℕ → ℕ → ℕ → ℕ → ℕ → ℕ → ℕ → Stamp
-numbersStamp y mo d h mi s ms west offset = record { moment = momentOf y mo d h mi s ms; offset = record { west = west; minutes = offset } }
+abbrev pub stampIn : List ℕ → Stamp
+stampIn l = record { moment = momentIn l; offset = record { west = getD l 7 0; minutes = getD l 8 0 } }
 
 -- of what is written: 0 for the number and the place, and the count of a text's bytes or of listed rows from bit 32 on
 abbrev pub writtenCode : Answer (List ℕ) → ℕ
@@ -132,7 +136,7 @@ dueAfter (refused r) lent = lent
 
 -- and the civil moment's seven numbers, west, and the offset in seconds
 abbrev pub localAfter : Answer Local → List ℕ → List ℕ
-localAfter (given x) lent = seven (x .civil) ++ (x .west ∷ x .offset ∷ [])
+localAfter (given x) lent = nine (x .civil) (x .west) (x .offset)
 localAfter (refused r) lent = lent
 
 -- of a reminder that is added: 0 for the number and the place, and its slot from bit 32 on

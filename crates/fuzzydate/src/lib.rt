@@ -42,7 +42,7 @@ ghost use Prim.Native.Nat.{ℕ, _+_, _*_, _≤_};
 ghost use lib.ListN.{length};
 ghost use lib.Seq.{sets};
 ghost use Rattle.calendar.specs.Gregorian.{days};
-ghost use Rattle.calendar.specs.Moments.{momentOf, reachedOf};
+ghost use Rattle.calendar.specs.Moments.{seven, reachedOf};
 ghost use Rattle.answer.specs.Answer.{placed};
 ghost use Rattle.steps.specs.Running.{runOf};
 ghost use Rattle.records.specs.Records.{decodeOf};
@@ -50,7 +50,7 @@ ghost use Rattle.refusals.specs.Writings.{bufferOf};
 ghost use Rattle.stamp.specs.Stamps.{stampOf, writtenOf};
 ghost use Rattle.shown.specs.Phrases.{shownOf};
 ghost use Rattle.fuzzydate.specs.Called.{readingOf, chosenFrom, answerIn, readyIn, code, codeOf, momentAfter, readyCode, readyAfter};
-ghost use Rattle.fuzzydate.specs.Called.{stampAfter, numbersStamp, writtenCode};
+ghost use Rattle.fuzzydate.specs.Called.{momentIn, stampIn, nine, stampAfter, writtenCode};
 ghost use Rattle.repeats.specs.Listing.{rowsAfter};
 ghost use Rattle.coming.specs.Next.{answered};
 ghost use Rattle.zoned.specs.Local.{locatedOf, runInZone};
@@ -99,6 +99,73 @@ fn written(wrote: Wrote) -> u64
     (wrote.number as u64) + LENGTH * (wrote.count as u64)
 }
 
+// The moment of seven numbers.
+fn moment_in(at: &[u32; 7]) -> Moment
+    ensures { λ r. ⌜ r ≡ momentIn (now (at .entry)) ⌝ }
+{
+    Moment {
+        year: at[0],
+        month: at[1],
+        day: at[2],
+        hour: at[3],
+        minute: at[4],
+        second: at[5],
+        millisecond: at[6],
+    }
+}
+
+// The stamp of nine numbers.
+fn stamp_in(stamp: &[u32; 9]) -> Stamp
+    ensures { λ r. ⌜ r ≡ stampIn (now (stamp .entry)) ⌝ }
+{
+    let moment = Moment {
+        year: stamp[0],
+        month: stamp[1],
+        day: stamp[2],
+        hour: stamp[3],
+        minute: stamp[4],
+        second: stamp[5],
+        millisecond: stamp[6],
+    };
+    let offset = Offset {
+        west: stamp[7],
+        minutes: stamp[8],
+    };
+    Stamp { moment, offset }
+}
+
+// A moment's seven numbers.
+fn put_moment(t: Moment, moment: &mut [u32; 7])
+    ensures { λ _. ⌜ now (moment .exit) ≡ seven t ⌝ }
+{
+    *moment = [
+        t.year,
+        t.month,
+        t.day,
+        t.hour,
+        t.minute,
+        t.second,
+        t.millisecond,
+    ];
+}
+
+// These seven and an offset's two.
+fn put_nine(t: Moment, west: u32, offset: u32, numbers: &mut [u32; 9])
+    ensures { λ _. ⌜ now (numbers .exit) ≡ nine t west offset ⌝ }
+{
+    *numbers = [
+        t.year,
+        t.month,
+        t.day,
+        t.hour,
+        t.minute,
+        t.second,
+        t.millisecond,
+        west,
+        offset,
+    ];
+}
+
 // What was reached as one number: 0 and the moment's seven numbers, or a refusal's number and nothing written.
 fn reached(at: Reached, moment: &mut [u32; 7]) -> u64
     ensures { λ r. ⌜ r ≡ codeOf (placed (reachedOf at)) ⌝ }
@@ -106,15 +173,7 @@ fn reached(at: Reached, moment: &mut [u32; 7]) -> u64
 {
     match at {
         Reached::At(t) => {
-            *moment = [
-                t.year,
-                t.month,
-                t.day,
-                t.hour,
-                t.minute,
-                t.second,
-                t.millisecond,
-            ];
+            put_moment(t, moment);
             0
         }
         Reached::Refused(number) => number as u64,
@@ -126,41 +185,18 @@ fn reached(at: Reached, moment: &mut [u32; 7]) -> u64
 pub extern "C" fn fuzzy_read(
     reading: u32,
     phrase: &[u8],
-    year: u32,
-    month: u32,
-    day: u32,
-    hour: u32,
-    minute: u32,
-    second: u32,
-    millisecond: u32,
+    at: &[u32; 7],
     moment: &mut [u32; 7],
 ) -> u64
-    ensures { λ r. ⌜ r ≡ codeOf (answerIn reading (now (phrase .entry)) (momentOf year month day hour minute second millisecond)) ⌝ }
-    ensures { λ r. ⌜ now (moment .exit) ≡ momentAfter (answerIn reading (now (phrase .entry)) (momentOf year month day hour minute second millisecond)) (now (moment .entry)) ⌝ }
+    ensures { λ r. ⌜ r ≡ codeOf (answerIn reading (now (phrase .entry)) (momentIn (now (at .entry)))) ⌝ }
+    ensures { λ r. ⌜ now (moment .exit) ≡ momentAfter (answerIn reading (now (phrase .entry)) (momentIn (now (at .entry)))) (now (moment .entry)) ⌝ }
 {
     let Chosen::As(chosen) = choose(reading) else {
         return NO_READING as u64;
     };
-    let now = Moment {
-        year,
-        month,
-        day,
-        hour,
-        minute,
-        second,
-        millisecond,
-    };
-    match answer(chosen, phrase, now) {
+    match answer(chosen, phrase, moment_in(at)) {
         Answered::At(t) => {
-            *moment = [
-                t.year,
-                t.month,
-                t.day,
-                t.hour,
-                t.minute,
-                t.second,
-                t.millisecond,
-            ];
+            put_moment(t, moment);
             0
         }
         Answered::Refused(refusal) => code(refusal),
@@ -189,30 +225,11 @@ pub extern "C" fn fuzzy_make_ready(reading: u32, phrase: &[u8], ready: &mut [u8;
 
 // A ready phrase at a now: 0 and the moment's seven numbers, or a refusal of 8 to 13 and nothing written.
 #[no_mangle]
-pub extern "C" fn fuzzy_run(
-    ready: &[u8],
-    year: u32,
-    month: u32,
-    day: u32,
-    hour: u32,
-    minute: u32,
-    second: u32,
-    millisecond: u32,
-    moment: &mut [u32; 7],
-) -> u64
-    ensures { λ r. ⌜ r ≡ codeOf (placed (runOf (decodeOf (now (ready .entry))) (momentOf year month day hour minute second millisecond))) ⌝ }
-    ensures { λ r. ⌜ now (moment .exit) ≡ momentAfter (placed (runOf (decodeOf (now (ready .entry))) (momentOf year month day hour minute second millisecond))) (now (moment .entry)) ⌝ }
+pub extern "C" fn fuzzy_run(ready: &[u8], at: &[u32; 7], moment: &mut [u32; 7]) -> u64
+    ensures { λ r. ⌜ r ≡ codeOf (placed (runOf (decodeOf (now (ready .entry))) (momentIn (now (at .entry))))) ⌝ }
+    ensures { λ r. ⌜ now (moment .exit) ≡ momentAfter (placed (runOf (decodeOf (now (ready .entry))) (momentIn (now (at .entry))))) (now (moment .entry)) ⌝ }
 {
-    let now = Moment {
-        year,
-        month,
-        day,
-        hour,
-        minute,
-        second,
-        millisecond,
-    };
-    reached(run_ready(ready, now), moment)
+    reached(run_ready(ready, moment_in(at)), moment)
 }
 
 // A text as an RFC 3339 stamp: 0 and the stamp's nine numbers, or 14 or 12 and nothing written.
@@ -223,19 +240,8 @@ pub extern "C" fn fuzzy_read_stamp(text: &[u8], stamp: &mut [u32; 9]) -> u64
 {
     match read_stamp(text) {
         StampRead::Is(s) => {
-            let t = s.moment;
             let o = s.offset;
-            *stamp = [
-                t.year,
-                t.month,
-                t.day,
-                t.hour,
-                t.minute,
-                t.second,
-                t.millisecond,
-                o.west,
-                o.minutes,
-            ];
+            put_nine(s.moment, o.west, o.minutes, stamp);
             0
         }
         StampRead::Refused(number) => number as u64,
@@ -244,62 +250,20 @@ pub extern "C" fn fuzzy_read_stamp(text: &[u8], stamp: &mut [u32; 9]) -> u64
 
 // A stamp's nine numbers as text at the front of a lent one: its length in bytes, or 8, 14 or 17 and nothing written.
 #[no_mangle]
-pub extern "C" fn fuzzy_write_stamp(
-    year: u32,
-    month: u32,
-    day: u32,
-    hour: u32,
-    minute: u32,
-    second: u32,
-    millisecond: u32,
-    west: u32,
-    offset: u32,
-    text: &mut [u8],
-) -> u64
-    ensures { λ r. ⌜ r ≡ writtenCode (writtenOf (numbersStamp year month day hour minute second millisecond west offset) (length (now (text .entry)))) ⌝ }
-    ensures { λ _. ⌜ now (text .exit) ≡ bufferOf (now (text .entry)) (writtenOf (numbersStamp year month day hour minute second millisecond west offset) (length (now (text .entry)))) ⌝ }
+pub extern "C" fn fuzzy_write_stamp(stamp: &[u32; 9], text: &mut [u8]) -> u64
+    ensures { λ r. ⌜ r ≡ writtenCode (writtenOf (stampIn (now (stamp .entry))) (length (now (text .entry)))) ⌝ }
+    ensures { λ _. ⌜ now (text .exit) ≡ bufferOf (now (text .entry)) (writtenOf (stampIn (now (stamp .entry))) (length (now (text .entry)))) ⌝ }
 {
-    let moment = Moment {
-        year,
-        month,
-        day,
-        hour,
-        minute,
-        second,
-        millisecond,
-    };
-    let offset = Offset {
-        west,
-        minutes: offset,
-    };
-    written(write_stamp(Stamp { moment, offset }, text))
+    written(write_stamp(stamp_in(stamp), text))
 }
 
 // A moment's seven numbers as a phrase at the front of a lent text: its length in bytes, or 8, 16 or 17 and nothing written.
 #[no_mangle]
-pub extern "C" fn fuzzy_write_phrase(
-    year: u32,
-    month: u32,
-    day: u32,
-    hour: u32,
-    minute: u32,
-    second: u32,
-    millisecond: u32,
-    text: &mut [u8],
-) -> u64
-    ensures { λ r. ⌜ r ≡ writtenCode (shownOf (momentOf year month day hour minute second millisecond) (length (now (text .entry)))) ⌝ }
-    ensures { λ _. ⌜ now (text .exit) ≡ bufferOf (now (text .entry)) (shownOf (momentOf year month day hour minute second millisecond) (length (now (text .entry)))) ⌝ }
+pub extern "C" fn fuzzy_write_phrase(moment: &[u32; 7], text: &mut [u8]) -> u64
+    ensures { λ r. ⌜ r ≡ writtenCode (shownOf (momentIn (now (moment .entry))) (length (now (text .entry)))) ⌝ }
+    ensures { λ _. ⌜ now (text .exit) ≡ bufferOf (now (text .entry)) (shownOf (momentIn (now (moment .entry))) (length (now (text .entry)))) ⌝ }
 {
-    let moment = Moment {
-        year,
-        month,
-        day,
-        hour,
-        minute,
-        second,
-        millisecond,
-    };
-    written(write_phrase(moment, text))
+    written(write_phrase(moment_in(moment), text))
 }
 
 // A word in reading 1 or 2: 0, and its lexeme's code or 0, and how many rows of the table it was compared with; or 15 and nothing written.
@@ -328,35 +292,19 @@ pub extern "C" fn fuzzy_find_word(reading: u32, word: &[u8], found: &mut [u32; 2
 // The occurrences of an RFC 5545 rule from a start on, rows of seven numbers from the front of a lent buffer on, as many as it has room for: their
 // count, or 8, 18 or 19 and nothing written.
 #[no_mangle]
-pub extern "C" fn fuzzy_list(
-    rule: &[u8],
-    year: u32,
-    month: u32,
-    day: u32,
-    hour: u32,
-    minute: u32,
-    second: u32,
-    millisecond: u32,
-    moments: &mut [u32],
-) -> u64
-    ensures { λ r. ⌜ r ≡ writtenCode (listIn (now (rule .entry)) (momentOf year month day hour minute second millisecond) (length (now (moments .entry)))) ⌝ }
-    ensures { λ _. ⌜ now (moments .exit) ≡ rowsAfter (momentOf year month day hour minute second millisecond) (now (moments .entry)) (listIn (now (rule .entry)) (momentOf year month day hour minute second millisecond) (length (now (moments .entry)))) ⌝ }
+pub extern "C" fn fuzzy_list(rule: &[u8], start: &[u32; 7], moments: &mut [u32]) -> u64
+    ensures { λ r. ⌜ r ≡ writtenCode (listIn (now (rule .entry)) (momentIn (now (start .entry))) (length (now (moments .entry)))) ⌝ }
+    ensures { λ _.
+        ⌜ (let t = momentIn (now (start .entry)) in
+        now (moments .exit) ≡ rowsAfter t (now (moments .entry)) (listIn (now (rule .entry)) t (length (now (moments .entry))))) ⌝ }
 {
-    let start = Moment {
-        year,
-        month,
-        day,
-        hour,
-        minute,
-        second,
-        millisecond,
-    };
-    if start.valid() {
+    let first = moment_in(start);
+    if first.valid() {
         let read = read_rule(rule);
         let RuleRead::Is(said) = read else {
             return NO_RULE as u64;
         };
-        return written(list(said, start, moments));
+        return written(list(said, first, moments));
     }
     NO_NOW as u64
 }
@@ -383,44 +331,14 @@ fn next_of(rule: &[u8], start: Moment, asked: Moment) -> Reached
 #[no_mangle]
 pub extern "C" fn fuzzy_next(
     rule: &[u8],
-    year: u32,
-    month: u32,
-    day: u32,
-    hour: u32,
-    minute: u32,
-    second: u32,
-    millisecond: u32,
-    asked_year: u32,
-    asked_month: u32,
-    asked_day: u32,
-    asked_hour: u32,
-    asked_minute: u32,
-    asked_second: u32,
-    asked_millisecond: u32,
+    start: &[u32; 7],
+    asked: &[u32; 7],
     moment: &mut [u32; 7],
 ) -> u64
-    ensures { λ r. ⌜ r ≡ codeOf (nextIn (now (rule .entry)) (momentOf year month day hour minute second millisecond) (momentOf «asked_year» «asked_month» «asked_day» «asked_hour» «asked_minute» «asked_second» «asked_millisecond»)) ⌝ }
-    ensures { λ r. ⌜ now (moment .exit) ≡ momentAfter (nextIn (now (rule .entry)) (momentOf year month day hour minute second millisecond) (momentOf «asked_year» «asked_month» «asked_day» «asked_hour» «asked_minute» «asked_second» «asked_millisecond»)) (now (moment .entry)) ⌝ }
+    ensures { λ r. ⌜ r ≡ codeOf (nextIn (now (rule .entry)) (momentIn (now (start .entry))) (momentIn (now (asked .entry)))) ⌝ }
+    ensures { λ r. ⌜ now (moment .exit) ≡ momentAfter (nextIn (now (rule .entry)) (momentIn (now (start .entry))) (momentIn (now (asked .entry)))) (now (moment .entry)) ⌝ }
 {
-    let start = Moment {
-        year,
-        month,
-        day,
-        hour,
-        minute,
-        second,
-        millisecond,
-    };
-    let asked = Moment {
-        year: asked_year,
-        month: asked_month,
-        day: asked_day,
-        hour: asked_hour,
-        minute: asked_minute,
-        second: asked_second,
-        millisecond: asked_millisecond,
-    };
-    reached(next_of(rule, start, asked), moment)
+    reached(next_of(rule, moment_in(start), moment_in(asked)), moment)
 }
 
 // Where a run in a zone ended as one number: 0, the instant's second and what the clocks show, or a refusal's number and nothing written.
@@ -431,19 +349,8 @@ fn located(at: Located, due: &mut [u64; 1], moment: &mut [u32; 9]) -> u64
 {
     match at {
         Located::At(x) => {
-            let t = x.civil;
             *due = [turned(x.second)];
-            *moment = [
-                t.year,
-                t.month,
-                t.day,
-                t.hour,
-                t.minute,
-                t.second,
-                t.millisecond,
-                x.west,
-                x.offset,
-            ];
+            put_nine(x.civil, x.west, x.offset, moment);
             0
         }
         Located::Refused(number) => number as u64,
@@ -500,29 +407,14 @@ pub extern "C" fn fuzzy_read_in_zone(
 pub extern "C" fn fuzzy_board_make_in(
     lengths: &mut [u32; 256],
     state: &mut [u32; 8],
-    year: u32,
-    month: u32,
-    day: u32,
-    hour: u32,
-    minute: u32,
-    second: u32,
-    millisecond: u32,
+    at: &[u32; 7],
 ) -> u64
-    ensures { λ r. ⌜ ((ready keys : List ℕ) → r ≡ codeOf (makeOf (memory ready (now (lengths .entry)) keys (now (state .entry))) (momentOf year month day hour minute second millisecond))) ⌝ }
+    ensures { λ r. ⌜ ((ready keys : List ℕ) → r ≡ codeOf (makeOf (memory ready (now (lengths .entry)) keys (now (state .entry))) (momentIn (now (at .entry))))) ⌝ }
     ensures { λ _.
         ⌜ ((ready keys : List ℕ) → let m = memory ready (now (lengths .entry)) keys (now (state .entry)) in
-        memory ready (now (lengths .exit)) keys (now (state .exit)) ≡ memoryAfter m (makeOf m (momentOf year month day hour minute second millisecond))) ⌝ }
+        memory ready (now (lengths .exit)) keys (now (state .exit)) ≡ memoryAfter m (makeOf m (momentIn (now (at .entry))))) ⌝ }
 {
-    let at = Moment {
-        year,
-        month,
-        day,
-        hour,
-        minute,
-        second,
-        millisecond,
-    };
-    make(lengths, state, at) as u64
+    make(lengths, state, moment_in(at)) as u64
 }
 
 // One reminder more on a board, made ready in reading 1 or 2: its slot, or what reading refuses or 24, and nothing written.
@@ -575,29 +467,14 @@ pub extern "C" fn fuzzy_board_again_in(
     lengths: &[u32; 256],
     keys: &mut [u64; 256],
     state: &mut [u32; 8],
-    year: u32,
-    month: u32,
-    day: u32,
-    hour: u32,
-    minute: u32,
-    second: u32,
-    millisecond: u32,
+    at: &[u32; 7],
 ) -> u64
-    ensures { λ r. ⌜ r ≡ codeOf (againOf (memory (now (ready .entry)) (now (lengths .entry)) (now (keys .entry)) (now (state .entry))) (momentOf year month day hour minute second millisecond)) ⌝ }
+    ensures { λ r. ⌜ r ≡ codeOf (againOf (memory (now (ready .entry)) (now (lengths .entry)) (now (keys .entry)) (now (state .entry))) (momentIn (now (at .entry)))) ⌝ }
     ensures { λ _.
         ⌜ (let m = memory (now (ready .entry)) (now (lengths .entry)) (now (keys .entry)) (now (state .entry)) in
-        memory (now (ready .entry)) (now (lengths .entry)) (now (keys .exit)) (now (state .exit)) ≡ memoryAfter m (againOf m (momentOf year month day hour minute second millisecond))) ⌝ }
+        memory (now (ready .entry)) (now (lengths .entry)) (now (keys .exit)) (now (state .exit)) ≡ memoryAfter m (againOf m (momentIn (now (at .entry))))) ⌝ }
 {
-    let at = Moment {
-        year,
-        month,
-        day,
-        hour,
-        minute,
-        second,
-        millisecond,
-    };
-    again(ready, lengths, keys, state, at) as u64
+    again(ready, lengths, keys, state, moment_in(at)) as u64
 }
 
 // The reminder of a board that is due first: its slot and its moment's seven numbers, or 26 and nothing written.
@@ -612,15 +489,7 @@ pub extern "C" fn fuzzy_board_head_in(
 {
     match head(keys, state) {
         Earliest::Next(slot, t) => {
-            *moment = [
-                t.year,
-                t.month,
-                t.day,
-                t.hour,
-                t.minute,
-                t.second,
-                t.millisecond,
-            ];
+            put_moment(t, moment);
             LENGTH * (slot as u64)
         }
         Earliest::Nothing => NO_MOMENT as u64,

@@ -9,7 +9,7 @@ slice-relend-prefix-fuzzy-list : tie.Need-slice-relend-prefix-fuzzy-list
 slice-relend-prefix-fuzzy-list c = search needs
 
 slice-aggregate-fuzzy-list : tie.Need-slice-aggregate-fuzzy-list
-slice-aggregate-fuzzy-list c = sym (length-take-le _ _ (c .before .before .before .pre))
+slice-aggregate-fuzzy-list c = sym (length-take-le _ _ (c .before .before .before .before .pre))
 
 fuzzy-list-requires : tie.Need-fuzzy-list-requires
 fuzzy-list-requires c κs = search needs
