@@ -8,16 +8,16 @@ use mathlib.Core.List.{List}
 use lib.ListN.{length, getD, take, replicate}
 use lib.Seq.{sets}
 use Rattle.digits.proofs.Stores.{sets-taken}
-use Rattle.refusals.specs.Table.{NoNow}
+use Rattle.refusals.specs.Table.{InvalidMoment}
 use Rattle.refusals.specs.Answers.{Answer, given, refused, refuse, andThen}
-use Rattle.calendar.specs.Moments.{isMoment}
+use Rattle.calendar.specs.Moments.{isMoment, momentIn}
 use Rattle.calendar.specs.declared.moments.Moment.{Moment}
 use Rattle.lexer.specs.Keywords.{wordsIn}
 use Rattle.lexer.specs.declared.reading.Reading.{Reading}
 use Rattle.numbers.specs.Slices.{oneIf}
 use Rattle.answer.specs.Answer.{placed, answerOf}
 use Rattle.ready.specs.Ready.{ReadyPhrase, readyOf}
-use Rattle.board.specs.Boards.{Memory, memory, Done, done, memoryAfter, nowIn, stateOf, isFilled, outcomeAt, makeOf, addOf, removeOf, againOf, headOf, orderOf}
+use Rattle.board.specs.Boards.{Memory, memory, Done, done, memoryAfter, stateOf, isFilled, outcomeAt, makeOf, addOf, removeOf, againOf, headOf, orderOf}
 use Rattle.board.specs.Scans.{Sized, IsBoard, scanOf, timesIn, Before}
 use Rattle.board.proofs.Heads.{head-scan}
 use Rattle.board.proofs.Kept.{held-answers, make-keeps, again-keeps, remove-keeps, add-keeps, order-once}
@@ -112,7 +112,7 @@ new-board {n} {m} {m′} sized c = go (isMoment n) refl (make-says c)
     empty : Memory
     empty = memory (m .ready) (replicate 256 0) (m .keys) (stateOf n 0)
 
-    go : (b : Bool) → isMoment n ≡ b → let w = cond b (done 0 empty) (refuse NoNow 0 0) in (0 ≡ codeOf w) × (m′ ≡ memoryAfter m w) → IsBoard m′
+    go : (b : Bool) → isMoment n ≡ b → let w = cond b (done 0 empty) (refuse InvalidMoment 0 0) in (0 ≡ codeOf w) × (m′ ≡ memoryAfter m w) → IsBoard m′
     go true e says = subst IsBoard (sym (says .1)) (make-keeps m n {d = record { number = 0; after = empty }} sized (rw e))
     go false e says = absurd (omega (arith, says .0))
 
@@ -153,6 +153,6 @@ ordered-before {m} made c i h = rw (order-read c) (order-before m (made-board ma
 
 -- "Moments are those of demand 2 at the board's now."
 pub made-answers :
-    {m : Memory} (made : Made m) (s : ℕ) (filled : isFilled m s ≡ true) → let held = made-board made .held s filled in let n = nowIn (m .state) in
+    {m : Memory} (made : Made m) (s : ℕ) (filled : isFilled m s ≡ true) → let held = made-board made .held s filled in let n = momentIn (m .state) in
     placed (outcomeAt m n s) ≡ answerOf (held .reading) (wordsIn (held .reading)) (held .phrase) n
-made-answers {m} made s filled = held-answers (made-board made .held s filled) (nowIn (m .state))
+made-answers {m} made s filled = held-answers (made-board made .held s filled) (momentIn (m .state))

@@ -6,7 +6,7 @@ use mathlib.Core.Path.{_≡_}
 use mathlib.Core.List.{List}
 use Rattle.refusals.specs.Answers.{Answer, given}
 use Rattle.refusals.proofs.Holds.{Holds, of-given, of-refusal, Bounded}
-use Rattle.calendar.specs.Moments.{IsMoment, NotAfter}
+use Rattle.calendar.specs.Moments.{IsMoment, NotAfter, momentIn}
 use Rattle.calendar.specs.declared.moments.Moment.{Moment}
 use Rattle.lexer.specs.Keywords.{wordsIn}
 use Rattle.answer.specs.Answer.{placed, answerOf}
@@ -16,7 +16,7 @@ use Rattle.records.specs.Records.{decodeOf}
 use Rattle.later.specs.Nows.{SameTime, NeverBack}
 use Rattle.later.proofs.Lists.{steps-never-back}
 use Rattle.later.proofs.Phrases.{then-never-back, later-now-never-back}
-use Rattle.fuzzydate.specs.Called.{readingOf, momentIn, answerIn, momentAfter}
+use Rattle.fuzzydate.specs.Called.{readingOf, answerIn, momentAfter}
 use Rattle.fuzzydate.proofs.Readings.{settled-in}
 use Rattle.agreed.specs.Calls.{Read, Run}
 use Rattle.agreed.proofs.AnyNow.{Says}

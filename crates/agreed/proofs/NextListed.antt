@@ -8,7 +8,7 @@ use lib.Dec.{leb}
 use lib.ListN.{length, drop, take, length-take}
 use lib.Seq.{take-all}
 use borrow.Author.Tests.{leb-true, leb-false}
-use Rattle.refusals.specs.Table.{NoNow}
+use Rattle.refusals.specs.Table.{InvalidMoment}
 use Rattle.refusals.specs.Answers.{Answer, given, refused, refusalAt, refuse, andThen}
 use Rattle.refusals.specs.declared.Refusal.{Refusal}
 use Rattle.refusals.proofs.Holds.{Holds, Bounded, refusal-holds, given-holds}
@@ -132,10 +132,10 @@ next-listed s t asked lent left array array′ k r v list next =
         (record { least = omega (arith, b); most = omega (arith, b); start = b .start; within = b .within }) m n
 
     by-start : (valid : Bool) (w : Answer Rule) → Holds IsRule (Bounded 18 18 0) w →
-        Lists (cond valid (andThen w (λ rule. listOf rule t (length lent))) (refuse NoNow 0 0)) t lent k left →
-        Nexts (cond (valid && true) (andThen w (λ rule. nextOf rule t asked)) (refuse NoNow 0 0)) array r array′ →
+        Lists (cond valid (andThen w (λ rule. listOf rule t (length lent))) (refuse InvalidMoment 0 0)) t lent k left →
+        Nexts (cond (valid && true) (andThen w (λ rule. nextOf rule t asked)) (refuse InvalidMoment 0 0)) array r array′ →
         Agrees lent left k asked array r array′
     by-start true w h m n = by-rule w h m n
     by-start false w h m n =
-        none-agrees t asked (refusalAt NoNow 0 0) lent left array array′ k r
+        none-agrees t asked (refusalAt InvalidMoment 0 0) lent left array array′ k r
         (record { least = omega arith; most = omega arith; start = omega arith; within = omega arith }) m n

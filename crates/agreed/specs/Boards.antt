@@ -4,15 +4,15 @@ use mathlib.Core.Path.{_≡_}
 use mathlib.Core.Bool.{true, false}
 use mathlib.Core.List.{List}
 use lib.ListN.{length}
-use Rattle.refusals.specs.Table.{NoNow, FullBoard, EmptySlot}
+use Rattle.refusals.specs.Table.{InvalidMoment, FullBoard, EmptySlot}
 use Rattle.refusals.specs.Answers.{given, refused}
 use Rattle.refusals.specs.declared.Refusal.{Refusal}
-use Rattle.calendar.specs.Moments.{isMoment}
+use Rattle.calendar.specs.Moments.{isMoment, momentIn}
 use Rattle.calendar.specs.declared.moments.Moment.{Moment}
 use Rattle.steps.specs.declared.plan.Step.{Step}
-use Rattle.board.specs.Boards.{Memory, memory, isFilled}
+use Rattle.board.specs.Boards.{boardSlots, Memory, memory, isFilled}
 use Rattle.board.specs.Scans.{Sized, Empty, MovedTo, Put, TakenOut}
-use Rattle.fuzzydate.specs.Called.{momentIn, readyIn, answerIn, code}
+use Rattle.fuzzydate.specs.Called.{readyIn, answerIn, code}
 use Rattle.fuzzydate.proofs.fuzzy_board_make_in.Reads as make'
 use Rattle.fuzzydate.proofs.fuzzy_board_add_in.Reads as add'
 use Rattle.fuzzydate.proofs.fuzzy_board_remove_in.Reads as remove'
@@ -74,9 +74,9 @@ Head m array k array′ =
     (λ κs a g. memory (g .ready) (g .lengths) (a .0 .now) (a .1 .0 .now)) (λ κs a l. a .1 .1 .0 .now) (λ κs e l. e .1 .1 .0 .now)
     m array k array′
 
--- `fuzzy_board_order_in`, which leaves `slots′` in an array of 256 numbers that held `slots`
+-- `fuzzy_board_order_in`, which leaves `slots′` in an array of `boardSlots` numbers that held `slots`
 pub record Order (m : Memory) (slots : List ℕ) (k : ℕ) (slots′ : List ℕ) : Type 0 where
-  pub numbers : length slots ≡ 256
+  pub numbers : length slots ≡ boardSlots
   pub call :
       Called order'.Post Memory (List ℕ)
       (λ κs a g. memory (g .ready) (g .lengths) (a .0 .now) (a .1 .0 .now)) (λ κs a l. a .1 .1 .0 .now) (λ κs e l. e .1 .1 .0 .now)
@@ -85,20 +85,20 @@ pub record Order (m : Memory) (slots : List ℕ) (k : ℕ) (slots′ : List ℕ)
 -- what making a board may answer and leave: 0 and an empty one, or 8
 pub data Makes (n : Moment) (m : Memory) : ℕ → Memory → Type 0 where
   empty : {m′ : Memory} → isMoment n ≡ true → Empty n m′ → Makes n m 0 m′
-  unmade : isMoment n ≡ false → Makes n m NoNow m
+  unmade : isMoment n ≡ false → Makes n m InvalidMoment m
 
 -- what adding may: the phrase in the lowest free slot, 24 where every slot is filled, or what making ready refuses, before 24
 pub data Adds (reading : ℕ) (phrase : List ℕ) (m : Memory) : ℕ → Memory → Type 0 where
   put : {k : ℕ} {m′ : Memory} → number k ≡ 0 → Put (answerIn reading phrase) (size k) m m′ → Adds reading phrase m k m′
-  full : {ss : List Step} → readyIn reading phrase ≡ given ss → ((s : ℕ) → s < 256 → isFilled m s ≡ true) → Adds reading phrase m FullBoard m
+  full : {ss : List Step} → readyIn reading phrase ≡ given ss → ((s : ℕ) → s < boardSlots → isFilled m s ≡ true) → Adds reading phrase m FullBoard m
   unready : {r : Refusal} → readyIn reading phrase ≡ refused r → Adds reading phrase m (code r) m
 
 -- what removing may: the slot is free, or 25 where it held nothing
 pub data Removes (s : ℕ) (m : Memory) : ℕ → Memory → Type 0 where
   out : {m′ : Memory} → TakenOut s m m′ → Removes s m 0 m′
-  nothing : (s < 256 → isFilled m s ≡ false) → Removes s m EmptySlot m
+  nothing : (s < boardSlots → isFilled m s ≡ false) → Removes s m EmptySlot m
 
 -- what running again may: the same reminders at the now, or 8
 pub data Moves (n : Moment) (m : Memory) : ℕ → Memory → Type 0 where
   moved : {m′ : Memory} → isMoment n ≡ true → MovedTo n m m′ → Moves n m 0 m′
-  unmoved : isMoment n ≡ false → Moves n m NoNow m
+  unmoved : isMoment n ≡ false → Moves n m InvalidMoment m

@@ -4,13 +4,14 @@ use mathlib.Core.Path.{_≡_}
 use mathlib.Core.List.{List, [], _∷_}
 use mathlib.Core.Logic.{_⊎_}
 use lib.ListN.{length, take, drop}
-use Rattle.calendar.specs.Moments.{IsMoment, seven, instantOf, NotAfter}
+use Rattle.calendar.specs.Moments.{IsMoment, seven, instantOf, NotAfter, momentNumbers, momentIn}
 use Rattle.calendar.specs.declared.moments.Moment.{Moment}
 use Rattle.refusals.specs.Answers.{Answer, given}
+use Rattle.records.specs.Records.{readySize}
 use Rattle.zones.specs.declared.instants.Instant.{Instant}
 use Rattle.zoned.specs.Local.{IsLocal}
 use Rattle.zoned.specs.declared.local.Local.{Local}
-use Rattle.fuzzydate.specs.Called.{momentIn, momentAfter, instantFrom, dueAfter, localAfter}
+use Rattle.fuzzydate.specs.Called.{momentAfter, instantFrom, dueAfter, localAfter}
 use Rattle.fuzzydate.proofs.fuzzy_read.Reads as read'
 use Rattle.fuzzydate.proofs.fuzzy_run.Reads as run'
 use Rattle.fuzzydate.proofs.fuzzy_read_in_zone.Reads as zone-read'
@@ -18,7 +19,7 @@ use Rattle.fuzzydate.proofs.fuzzy_run_in_zone.Reads as zone-run'
 use Rattle.fuzzydate.proofs.fuzzy_make_ready.Reads as make'
 use Rattle.fuzzydate.proofs.fuzzy_find_word.Reads as find'
 use Rattle.fuzzydate.proofs.fuzzy_write_phrase.Reads as show'
-use Rattle.fuzzydate.proofs.fuzzy_list.Reads as list'
+use Rattle.fuzzydate.proofs.fuzzy_list_in.Reads as list'
 use Rattle.fuzzydate.proofs.fuzzy_next.Reads as next'
 
 -- a function of a contract may answer k to what is given, and leave `left` in lent memory that held `lent`: there are lifetimes, arguments and
@@ -40,9 +41,9 @@ pub data IsReading : ℕ → Type 0 where
   first : IsReading 1
   second : IsReading 2
 
--- `fuzzy_make_ready`, of a phrase in a reading, with an array of 384 bytes
+-- `fuzzy_make_ready`, of a phrase in a reading, with an array of `readySize` bytes
 pub record MakeReady (reading : ℕ) (phrase array : List ℕ) (k : ℕ) (array′ : List ℕ) : Type 0 where
-  pub bytes : length array ≡ 384
+  pub bytes : length array ≡ readySize
   pub call : Called make'.Post (ℕ × List ℕ) (List ℕ) (λ κs a g. (a .0, a .1 .0 .now)) (λ κs a l. a .1 .1 .0 .now) (λ κs e l. e .1 .1 .0 .now) (reading, phrase) array k array′
 
 -- `fuzzy_write_phrase`, of a moment
@@ -159,7 +160,7 @@ FindWord reading word array k array′ =
 pub data Counted : ℕ → List ℕ → Type 0 where
   counted : {code count : ℕ} → count ≤ 8 → Counted 0 (code ∷ count ∷ [])
 
--- `fuzzy_list`, of a rule's text and a start
+-- `fuzzy_list_in`, of a rule's text and a start
 abbrev pub ListRule : List ℕ → Moment → List ℕ → ℕ → List ℕ → Type 0
 ListRule rule t rows k rows′ =
     Called list'.Post (List ℕ × Moment) (List ℕ)
@@ -174,7 +175,7 @@ NextRule rule t asked array k array′ =
 
 -- row i of those that a listing left
 abbrev pub rowAt : List ℕ → ℕ → Moment
-rowAt rows i = momentIn (drop (7 * i) rows)
+rowAt rows i = momentIn (drop (momentNumbers * i) rows)
 
 -- the first i rows are before the asked moment
 abbrev pub Earlier : List ℕ → Moment → ℕ → Type 0

@@ -5,10 +5,10 @@ use mathlib.Core.List.{List, [], _∷_, _++_}
 use lib.Dec.{eqb}
 use lib.ListN.{length, getD}
 use lib.Seq.{sets}
-use Rattle.refusals.specs.Table.{NoReading, NoNow}
+use Rattle.refusals.specs.Table.{NoReading, InvalidMoment}
 use Rattle.refusals.specs.Answers.{Answer, given, refused, refuse, andThen}
 use Rattle.refusals.specs.declared.Refusal.{Refusal}
-use Rattle.calendar.specs.Moments.{momentOf, seven, isMoment}
+use Rattle.calendar.specs.Moments.{seven, momentIn, isMoment}
 use Rattle.calendar.specs.declared.moments.Moment.{Moment}
 use Rattle.lexer.specs.Keywords.{wordsIn}
 use Rattle.lexer.specs.Words.{folded}
@@ -35,6 +35,20 @@ use Rattle.board.specs.Boards.{Done, Due}
 use Rattle.fuzzydate.specs.declared.Chosen.{Chosen}
 use Rattle.fuzzydate.specs.declared.Chosen.the-variants.{As, Neither}
 
+-- the version of what apps call, which the file VERSION says
+abbrev pub major : ℕ
+major = 1
+
+abbrev pub minor : ℕ
+minor = 0
+
+abbrev pub patch : ℕ
+patch = 0
+
+-- as one number
+abbrev pub version : ℕ
+version = 1000000 * major + 1000 * minor + patch
+
 -- "chosen by the caller as 1 or 2": "15 for any other reading number, before 1"
 abbrev pub readingOf : ℕ → Answer Reading
 readingOf k = cond (eqb k 1) (given First) (cond (eqb k 2) (given Second) (refuse NoReading 0 0))
@@ -43,10 +57,6 @@ readingOf k = cond (eqb k 1) (given First) (cond (eqb k 2) (given Second) (refus
 abbrev pub chosenFrom : Chosen → Answer Reading
 chosenFrom (As reading) = given reading
 chosenFrom Neither = refuse NoReading 0 0
-
--- the moment of the first seven numbers of an array that is lent
-abbrev pub momentIn : List ℕ → Moment
-momentIn l = momentOf (getD l 0 0) (getD l 1 0) (getD l 2 0) (getD l 3 0) (getD l 4 0) (getD l 5 0) (getD l 6 0)
 
 -- a phrase at a now in the reading of a number
 abbrev pub answerIn : ℕ → List ℕ → Moment → Answer Moment
@@ -115,11 +125,11 @@ foundAfter (refused r) lent = lent
 -- a rule's occurrences from a start on, as many as so many numbers have room for: "8 for a start that is no moment, 18 for a rule outside this,
 -- 19 for a start that doesn't match or lies past UNTIL"
 abbrev pub listIn : List ℕ → Moment → ℕ → Answer (List ℕ)
-listIn s t size = cond (isMoment t) (andThen (readRule s) (λ r. listOf r t size)) (refuse NoNow 0 0)
+listIn s t size = cond (isMoment t) (andThen (readRule s) (λ r. listOf r t size)) (refuse InvalidMoment 0 0)
 
 -- the first occurrence at or after an asked moment: "8 covers the asked moment too; after 18 and 19, 20"
 abbrev pub nextIn : List ℕ → Moment → Moment → Answer Moment
-nextIn s t asked = cond (isMoment t && isMoment asked) (andThen (readRule s) (λ r. nextOf r t asked)) (refuse NoNow 0 0)
+nextIn s t asked = cond (isMoment t && isMoment asked) (andThen (readRule s) (λ r. nextOf r t asked)) (refuse InvalidMoment 0 0)
 
 -- an instant by a caller's numbers: seconds since 1970 with a sign, in 64 bits, and a millisecond
 abbrev pub instantFrom : ℕ → ℕ → Instant

@@ -3,6 +3,7 @@ use mathlib.Core.Path.{ap}
 use mathlib.Core.List.{[]}
 use Rattle.board.specs.Boards.{Memory}
 use Rattle.settled.proofs.Settled.{Same, Settled, same, Open}
+use Rattle.fuzzydate.proofs.fuzzy_version.Reads as fuzzy-version'
 use Rattle.fuzzydate.proofs.fuzzy_read.Reads as fuzzy-read'
 use Rattle.fuzzydate.proofs.fuzzy_make_ready.Reads as fuzzy-make-ready'
 use Rattle.fuzzydate.proofs.fuzzy_run.Reads as fuzzy-run'
@@ -10,7 +11,7 @@ use Rattle.fuzzydate.proofs.fuzzy_read_stamp.Reads as fuzzy-read-stamp'
 use Rattle.fuzzydate.proofs.fuzzy_write_stamp.Reads as fuzzy-write-stamp'
 use Rattle.fuzzydate.proofs.fuzzy_find_word.Reads as fuzzy-find-word'
 use Rattle.fuzzydate.proofs.fuzzy_write_phrase.Reads as fuzzy-write-phrase'
-use Rattle.fuzzydate.proofs.fuzzy_list.Reads as fuzzy-list'
+use Rattle.fuzzydate.proofs.fuzzy_list_in.Reads as fuzzy-list-in'
 use Rattle.fuzzydate.proofs.fuzzy_next.Reads as fuzzy-next'
 use Rattle.fuzzydate.proofs.fuzzy_run_in_zone.Reads as fuzzy-run-in-zone'
 use Rattle.fuzzydate.proofs.fuzzy_read_in_zone.Reads as fuzzy-read-in-zone'
@@ -20,6 +21,9 @@ use Rattle.fuzzydate.proofs.fuzzy_board_remove_in.Reads as fuzzy-board-remove-i
 use Rattle.fuzzydate.proofs.fuzzy_board_again_in.Reads as fuzzy-board-again-in'
 use Rattle.fuzzydate.proofs.fuzzy_board_head_in.Reads as fuzzy-board-head-in'
 use Rattle.fuzzydate.proofs.fuzzy_board_order_in.Reads as fuzzy-board-order-in'
+
+pub fuzzy-version : Settled fuzzy-version'.Post
+fuzzy-version = same fuzzy-version'.Post _ _ (λ κs a z e p. p)
 
 pub fuzzy-read : Settled fuzzy-read'.Post × Same fuzzy-read'.Post (λ κs z e. e .1 .1 .1 .0 .now)
 fuzzy-read = (same fuzzy-read'.Post _ _ (λ κs a z e p. p .0), same fuzzy-read'.Post _ _ (λ κs a z e p. p .1))
@@ -42,8 +46,8 @@ fuzzy-find-word = (same fuzzy-find-word'.Post _ _ (λ κs a z e p. p .0), same f
 pub fuzzy-write-phrase : Settled fuzzy-write-phrase'.Post × Same fuzzy-write-phrase'.Post (λ κs z e. e .1 .0 .now)
 fuzzy-write-phrase = (same fuzzy-write-phrase'.Post _ _ (λ κs a z e p. p .0), same fuzzy-write-phrase'.Post _ _ (λ κs a z e p. p .1))
 
-pub fuzzy-list : Settled fuzzy-list'.Post × Same fuzzy-list'.Post (λ κs z e. e .1 .1 .0 .now)
-fuzzy-list = (same fuzzy-list'.Post _ _ (λ κs a z e p. p .0), same fuzzy-list'.Post _ _ (λ κs a z e p. p .1))
+pub fuzzy-list-in : Settled fuzzy-list-in'.Post × Same fuzzy-list-in'.Post (λ κs z e. e .1 .1 .0 .now)
+fuzzy-list-in = (same fuzzy-list-in'.Post _ _ (λ κs a z e p. p .0), same fuzzy-list-in'.Post _ _ (λ κs a z e p. p .1))
 
 pub fuzzy-next : Settled fuzzy-next'.Post × Same fuzzy-next'.Post (λ κs z e. e .1 .1 .1 .0 .now)
 fuzzy-next = (same fuzzy-next'.Post _ _ (λ κs a z e p. p .0), same fuzzy-next'.Post _ _ (λ κs a z e p. p .1))
@@ -123,6 +127,9 @@ fuzzy-board-order-in = (
   same fuzzy-board-order-in'.Post _ _ (λ κs a z e p. p .1 [] []),
 )
 
+pub fuzzy-version-open : Open fuzzy-version'.Asked
+fuzzy-version-open κs a = tt
+
 pub fuzzy-read-open : Open fuzzy-read'.Asked
 fuzzy-read-open κs a = tt
 
@@ -144,8 +151,8 @@ fuzzy-find-word-open κs a = tt
 pub fuzzy-write-phrase-open : Open fuzzy-write-phrase'.Asked
 fuzzy-write-phrase-open κs a = tt
 
-pub fuzzy-list-open : Open fuzzy-list'.Asked
-fuzzy-list-open κs a = tt
+pub fuzzy-list-in-open : Open fuzzy-list-in'.Asked
+fuzzy-list-in-open κs a = tt
 
 pub fuzzy-next-open : Open fuzzy-next'.Asked
 fuzzy-next-open κs a = tt

@@ -4,7 +4,7 @@ use bytes::scan;
 use calendar::fixed::moment_in;
 use calendar::moments::Moment;
 use digits::digit::two;
-use fuzzydate::fuzzy_list;
+use fuzzydate::fuzzy_list_in;
 use libc::STDOUT_FILENO;
 ghost use Prim.Native.Nat.{_+_, _<_, _≤_};
 ghost use lib.ListN.{length};
@@ -76,7 +76,7 @@ fn write_list(rule: &[u8], t: Moment, moments: &mut [u32], room: usize)
         t.second,
         t.millisecond,
     ];
-    let answer = fuzzy_list(rule, &start, &mut moments[..room]);
+    let answer = fuzzy_list_in(rule, &start, &mut moments[..room]);
     write_answer(answer, moments);
 }
 

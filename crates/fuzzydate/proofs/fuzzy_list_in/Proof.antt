@@ -13,10 +13,11 @@ use Rattle.rules.specs.Rule.{IsRule}
 use Rattle.rules.specs.Rules.{ruleAnswer}
 use Rattle.repeats.specs.Listing.{listOf}
 use Rattle.repeats.proofs.Laws.{list-bounded}
-use Rattle.fuzzydate.specs.Called.{momentIn, writtenCode, listIn}
+use Rattle.calendar.specs.Moments.{momentIn}
+use Rattle.fuzzydate.specs.Called.{writtenCode, listIn}
 use Rattle.fuzzydate.proofs.WrittenNumbers.{Coded, coded}
-use Rattle.fuzzydate.proofs.fuzzy_list.Statement.{statement}
-use Rattle.fuzzydate.proofs.fuzzy_list.Tie as tie
+use Rattle.fuzzydate.proofs.fuzzy_list_in.Statement.{statement}
+use Rattle.fuzzydate.proofs.fuzzy_list_in.Tie as tie
 
 -- the start at the entry, and what is listed from it on
 abbrev startAt : tie.Start → Moment
@@ -107,8 +108,8 @@ cast-result-2 c = search needs
 returns-3 : tie.Need-returns-3
 returns-3 c = rw (← (c .before .before .moment-in .ensures), ← (c .before .valid .ensures), c .if1 .left) (refl, search needs)
 
-pub fuzzy-list-spec : {M : Type 1} → statement M
-fuzzy-list-spec =
+pub fuzzy-list-in-spec : {M : Type 1} → statement M
+fuzzy-list-in-spec =
     tie.close
     (tie.spec
     moment-in-requires

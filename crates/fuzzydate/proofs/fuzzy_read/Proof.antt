@@ -6,7 +6,8 @@ use Rattle.refusals.proofs.Holds.{refusal-holds}
 use Rattle.calendar.specs.declared.moments.Moment.{Moment}
 use Rattle.answer.specs.Answer.{answerFrom}
 use Rattle.answer.specs.declared.Answered.{Answered}
-use Rattle.fuzzydate.specs.Called.{answerIn, momentIn}
+use Rattle.calendar.specs.Moments.{momentIn}
+use Rattle.fuzzydate.specs.Called.{answerIn}
 use Rattle.fuzzydate.proofs.Readings.{settled-in}
 use borrow.Author.Needs.{needs}
 use Rattle.fuzzydate.proofs.fuzzy_read.Statement.{statement}

@@ -5,7 +5,7 @@ use denote.Ref.{now}
 use borrow.Author.Needs.{needs}
 use Rattle.shown.specs.Phrases.{shownOf}
 use Rattle.shown.proofs.Writings.{writing}
-use Rattle.fuzzydate.specs.Called.{momentIn}
+use Rattle.calendar.specs.Moments.{momentIn}
 use Rattle.fuzzydate.proofs.WrittenNumbers.{Coded, coded}
 use Rattle.fuzzydate.proofs.fuzzy_write_phrase.Statement.{statement}
 use Rattle.fuzzydate.proofs.fuzzy_write_phrase.Tie as tie
