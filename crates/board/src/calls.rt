@@ -97,10 +97,10 @@ pub fn remove(
         ⌜ ((ready : List ℕ) → let m = memory ready (now (lengths .entry)) (now (keys .entry)) (now (state .entry)) in
         memory ready (now (lengths .exit)) (now (keys .exit)) (now (state .exit)) ≡ memoryAfter m (removeOf m slot)) ⌝ }
 {
-    if slot >= BOARD_SLOTS as u32 {
+    let s = slot as usize;
+    if s >= BOARD_SLOTS {
         return EMPTY_SLOT;
     }
-    let s = slot as usize;
     if lengths[s] == 0 {
         return EMPTY_SLOT;
     }

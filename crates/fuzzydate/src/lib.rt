@@ -318,7 +318,11 @@ pub extern "C" fn fuzzy_find_word(reading: u32, word: &[u8], found: &mut [u32; 2
 // The occurrences of an RFC 5545 rule from a start on, rows of seven numbers from the front of a lent buffer on, as many as it has room for: their
 // count, or 8, 18 or 19 and nothing written.
 #[no_mangle]
-pub extern "C" fn fuzzy_list_in(rule: &[u8], start: &[u32; MOMENT_NUMBERS], moments: &mut [u32]) -> u64
+pub extern "C" fn fuzzy_list_in(
+    rule: &[u8],
+    start: &[u32; MOMENT_NUMBERS],
+    moments: &mut [u32],
+) -> u64
     ensures { λ r. ⌜ r ≡ writtenCode (listIn (now (rule .entry)) (momentIn (now (start .entry))) (length (now (moments .entry)))) ⌝ }
     ensures { λ _.
         ⌜ (let t = momentIn (now (start .entry)) in
