@@ -164,17 +164,17 @@ fn put_moment(t: Moment, moment: &mut [u32; MOMENT_NUMBERS])
 }
 
 // These seven and an offset's two.
-fn put_nine(t: Moment, west: u32, offset: u32, numbers: &mut [u32; STAMP_NUMBERS])
-    ensures { λ _. ⌜ now (numbers .exit) ≡ nine t west offset ⌝ }
+fn put_nine(civil: Moment, west: u32, offset: u32, numbers: &mut [u32; STAMP_NUMBERS])
+    ensures { λ _. ⌜ now (numbers .exit) ≡ nine civil west offset ⌝ }
 {
     *numbers = [
-        t.year,
-        t.month,
-        t.day,
-        t.hour,
-        t.minute,
-        t.second,
-        t.millisecond,
+        civil.year,
+        civil.month,
+        civil.day,
+        civil.hour,
+        civil.minute,
+        civil.second,
+        civil.millisecond,
         west,
         offset,
     ];
