@@ -1,245 +1,299 @@
-/* fuzzy.h: reminder phrases such as "next friday at 3 pm", read at a now that the caller gives.
+/* fuzzy.h: reads reminder phrases such as "next friday at 3 pm" at a now that the caller gives. Version 1.0.0.
  *
- * Link with libfuzzydate.a of your target (bindings/archive). No function allocates, keeps state, reads a clock or a locale, or calls anything
- * but C's memcpy, memmove and memset; all of them may run in any thread. Every byte string, every number and every ready phrase gets an
- * answer, so there is nothing to check before a call. Pointers must point to what the parameter says; what has length 0 still needs a
- * pointer that is not null.
+ * Link with libfuzzydate.a of your target. No function allocates memory, keeps state, or reads a clock, a locale or a
+ * file, so every function may run in any thread. The library calls only C's memcpy, memmove and memset (on iOS also
+ * bzero).
  *
- * An answer is one number. 0 says that a moment was written. Else its parts are, by the helpers below:
- *   fuzzy_number   which refusal it is, by its number below
- *   fuzzy_place    where in the phrase, counted in bytes
- *   fuzzy_length   how long the offending part of the phrase is; 0 where the refusal has none
- * On a refusal nothing that was lent has been written.
+ * What is true of every call
+ *   - Every byte string, every number and every ready phrase gets an answer: there is nothing to check before a call.
+ *   - An answer is one number, taken apart by the helpers at the end of this file:
+ *       fuzzy_ok(answer)      whether the call succeeded
+ *       fuzzy_number(answer)  0 for success, else the refusal, by its number in enum fuzzy_refusal
+ *       fuzzy_place(answer)   where in the text the refused part begins, in bytes
+ *       fuzzy_length(answer)  of a refusal: how long the refused part is, 0 where there is none;
+ *                             of a success: what the call counts (bytes, moments, a slot), where it counts something
+ *     So a successful answer itself is 0 only where nothing is counted: test it with fuzzy_ok.
+ *   - When a call is refused, your buffers are unchanged.
+ *   - Lengths are 64 bits on every target. A text need not end with a zero byte.
+ *   - Pointers must point to what the parameter says. A null pointer with length 0 is allowed.
+ *   - The buffers of one call must not overlap: to read a phrase at a moment and store the answer there, copy the moment.
  */
 #ifndef FUZZY_H
 #define FUZZY_H
 
-#include <stddef.h>
 #include <stdint.h>
+
+/* The version of this header; fuzzy_version() gives that of the library. */
+#define FUZZY_VERSION "1.0.0"
+#define FUZZY_VERSION_MAJOR 1
+#define FUZZY_VERSION_MINOR 0
+#define FUZZY_VERSION_PATCH 0
+
+/* The numbers of a moment, of a stamp, and of what a zone's clocks show. */
+#define FUZZY_MOMENT_NUMBERS 7
+#define FUZZY_STAMP_NUMBERS 9
+#define FUZZY_LOCAL_NUMBERS 9
+
+/* What fuzzy_find_word writes. */
+#define FUZZY_FOUND_NUMBERS 2
+
+/* The buffers that are always large enough, in bytes: for a ready phrase, for a stamp's text, and for a moment's phrase. */
+#define FUZZY_READY_SIZE 384
+#define FUZZY_STAMP_SIZE 29
+#define FUZZY_PHRASE_SIZE 26
+
+/* The reminders of a board, and the bytes of their ready phrases. */
+#define FUZZY_BOARD_SLOTS 256
+#define FUZZY_BOARD_READY_SIZE 98304
+
+/* The days of the years 1 to 9999: no rule has more occurrences. */
+#define FUZZY_MOST_OCCURRENCES 3652059
 
 #ifdef __cplusplus
 extern "C" {
 #endif
 
-/* A date and time of the years 1 to 9999: year, month 1 to 12, day, hour, minute, second, millisecond 0 to 999. */
-#define FUZZY_MOMENT_NUMBERS 7
+/* A date and time of the years 1 to 9999: month 1 to 12, day 1 to 31, hour 0 to 23, minute and second 0 to 59, millisecond 0 to 999. */
+struct fuzzy_moment {
+    uint32_t year, month, day, hour, minute, second, millisecond;
+};
 
-/* The room that any ready phrase needs, in bytes. */
-#define FUZZY_READY_SIZE 384
+/* A moment and its offset from UTC, 0 to 1439 minutes: east of UTC where west is 0, west of it where west is 1. West 1 with
+ * offset 0 is "-00:00", an unknown offset. */
+struct fuzzy_stamp {
+    struct fuzzy_moment moment;
+    uint32_t west, offset;
+};
 
-/* A stamp: a moment's seven numbers, then west and offset. The offset is 0 to 1439 minutes, east of UTC where west is 0 and west of it where
- * west is 1. West 1 with offset 0 is "-00:00", the offset that is not known. */
-#define FUZZY_STAMP_NUMBERS 9
+/* What the clocks of a zone show at an instant. The offset is in seconds: below 26 hours east of UTC where west is 0, and
+ * 1 second to below 25 hours west of it where west is 1. */
+struct fuzzy_local {
+    struct fuzzy_moment moment;
+    uint32_t west, offset;
+};
 
-/* The room that any stamp's text needs, in bytes; one with offset zero needs 24, and one with millisecond 0 needs four less. */
-#define FUZZY_STAMP_SIZE 29
-
-/* What is found of a word: its lexeme's code or 0, and the comparisons made. */
-#define FUZZY_FOUND_NUMBERS 2
-
-/* The room that any moment's phrase needs, in bytes. */
-#define FUZZY_PHRASE_SIZE 26
-
-/* What the clocks of a zone show at an instant: a moment's seven numbers, then west and offset. The offset is in seconds, below 26 hours east of
- * UTC where west is 0, and below 25 hours west of it where west is 1, then never 0. */
-#define FUZZY_LOCAL_NUMBERS 9
-
-/* The reminders that a board has room for. */
-#define FUZZY_BOARD_SLOTS 256
-
-/* A board: up to 256 ready reminders, each in a slot of 0 to 255, and beside them the order of their moments at the board's now. It is the
- * caller's own memory, 101,408 bytes: no call allocates or keeps anything elsewhere. It has no pointers, so it may be copied; what may be stored
- * and sent are phrases and ready phrases. Its contents are made by fuzzy_board_make and changed by the calls below; with any other contents every
- * call still answers, and touches nothing outside the board. */
+/* A board: up to 256 reminders, each in a slot of 0 to 255, and the order of their moments at the board's now. It is the
+ * caller's own memory, 101,408 bytes without pointers, so it may be copied; store and send phrases or ready phrases, not
+ * boards. fuzzy_board_make fills it in and the calls below change it. With any other contents every call still answers and
+ * touches nothing outside the board. */
 struct fuzzy_board {
     uint64_t keys[FUZZY_BOARD_SLOTS];
     uint32_t lengths[FUZZY_BOARD_SLOTS];
     uint32_t state[FUZZY_MOMENT_NUMBERS + 1];
-    uint8_t ready[FUZZY_BOARD_SLOTS * FUZZY_READY_SIZE];
+    uint8_t ready[FUZZY_BOARD_READY_SIZE];
 };
 
-/* The two readings of a phrase; the first is the Rust library's. They differ in what "in" behind a weekday means: at Wednesday, 11 February 2026,
- * "tuesday in two weeks" is 27 January in the first and 3 March in the second; and in what the year behind month and day is: any number in the first,
- * so that "march 3 5 pm" is refused, and four digits in the second, in which it is 17:00 on 3 March. The second also takes "24th" with any ending,
- * "january 1, 2010" with a comma, and "forty", "fortieth" and "eighth". Any other number of a reading is refused with 15, before everything else. */
+/* The library takes a moment as an array of its numbers; a struct lays them out in the same way. */
+#if defined __cplusplus
+#define FUZZY_ASSERT(holds) static_assert(holds, #holds)
+#elif __STDC_VERSION__ >= 201112L
+#define FUZZY_ASSERT(holds) _Static_assert(holds, #holds)
+#else
+#define FUZZY_ASSERT(holds) extern int fuzzy_asserted[(holds) ? 1 : -1]
+#endif
+FUZZY_ASSERT(sizeof(struct fuzzy_moment) == FUZZY_MOMENT_NUMBERS * sizeof(uint32_t));
+FUZZY_ASSERT(sizeof(struct fuzzy_stamp) == FUZZY_STAMP_NUMBERS * sizeof(uint32_t));
+FUZZY_ASSERT(sizeof(struct fuzzy_local) == FUZZY_LOCAL_NUMBERS * sizeof(uint32_t));
+FUZZY_ASSERT(FUZZY_BOARD_READY_SIZE == FUZZY_BOARD_SLOTS * FUZZY_READY_SIZE);
+#undef FUZZY_ASSERT
+
+/* The two readings of a phrase; the first is the original Rust library's. They differ in two places. "in" after a weekday:
+ * on Wednesday, 11 February 2026, "tuesday in two weeks" is 27 January in the first and 3 March in the second. The year
+ * after month and day: any number in the first, so that "march 3 5 pm" is refused, and exactly four digits in the second,
+ * where it is 17:00 on 3 March. The second also accepts "24th" with any ending, "january 1, 2010" with a comma, and "forty",
+ * "fortieth" and "eighth". Any other number is refused with 15, before everything else. */
 enum fuzzy_reading {
     FUZZY_FIRST = 1,
     FUZZY_SECOND = 2
 };
 
-/* Why a phrase or a ready phrase is refused. They are tested in this order, but for 15, which is tested first, and those of zones: 21 is tested just
- * before 8, 22 of the now just behind it, and 22 and 23 of any other moment where it arises. */
+/* Why a call is refused. Of several reasons the first in this order is given, except that 15 comes first of all, 21 comes just
+ * before 8, 22 for the now just after 8, and 22 and 23 for any other moment where it arises. */
 enum fuzzy_refusal {
-    FUZZY_TOO_LONG = 1,        /* the phrase has more than 256 bytes */
-    FUZZY_UNKNOWN = 2,         /* a word that is no keyword, or a byte with no meaning */
-    FUZZY_LARGE_DIGITS = 3,    /* digits above 4,294,967,295 */
-    FUZZY_TOO_MANY = 4,        /* a 65th word, number or mark */
-    FUZZY_NOTHING = 5,         /* nothing that can be read */
-    FUZZY_LARGE_SUM = 6,       /* a number in words passes 4,294,967,295 */
-    FUZZY_LEFT_OVER = 7,       /* something is left behind what was read */
-    FUZZY_NO_NOW = 8,          /* the now, the start, the asked moment or the one to be written is no date and time of the years 1 to 9999 */
-    FUZZY_NO_SENSE = 9,        /* the phrase, or the ready phrase, has no sense */
-    FUZZY_NO_DATE = 10,        /* no such month or day */
-    FUZZY_NO_TIME = 11,        /* no such time of day */
-    FUZZY_OUTSIDE = 12,        /* outside the years 1 to 9999 */
-    FUZZY_NO_LEAP_DAY = 13,    /* a year step from 29 February into a common year */
-    FUZZY_NO_STAMP = 14,       /* no RFC 3339 stamp: another form, or no such date, time or offset */
-    FUZZY_NO_READING = 15,     /* a reading other than 1 and 2 */
-    FUZZY_NOT_WHOLE = 16,      /* second or millisecond of the moment isn't 0, which its phrase would not show */
-    FUZZY_NO_ROOM = 17,        /* the lent text is too short */
-    FUZZY_NO_RULE = 18,        /* no RFC 5545 rule, or one outside those that are taken */
-    FUZZY_NO_START = 19,       /* the start does not match the rule, or lies past its UNTIL */
-    FUZZY_NO_NEXT = 20,        /* no occurrence of the rule is at or after the asked moment */
-    FUZZY_NO_ZONE = 21,        /* no zone: no TZif file of version 2 or later, or one that passes a bound */
-    FUZZY_PAST_LAST = 22,      /* at or past the last transition of the zone's file */
-    FUZZY_NO_INSTANT = 23,     /* a civil time that does not occur in the zone */
-    FUZZY_FULL_BOARD = 24,     /* no slot of the board is free */
-    FUZZY_EMPTY_SLOT = 25,     /* the slot holds nothing */
-    FUZZY_NO_MOMENT = 26       /* no entry of the board has a moment */
+    FUZZY_TOO_LONG = 1,       /* the phrase has more than 256 bytes */
+    FUZZY_UNKNOWN = 2,        /* a word that is not known, or a byte without a meaning */
+    FUZZY_LARGE_DIGITS = 3,   /* digits above 4,294,967,295 */
+    FUZZY_TOO_MANY = 4,       /* more than 64 words, numbers and marks */
+    FUZZY_NOTHING = 5,        /* no date or time in the phrase */
+    FUZZY_LARGE_SUM = 6,      /* a number in words above 4,294,967,295 */
+    FUZZY_LEFT_OVER = 7,      /* something follows the date or time */
+    FUZZY_INVALID_MOMENT = 8, /* a given moment (now, start, asked or written) is not a date and time of the years 1 to 9999 */
+    FUZZY_NO_SENSE = 9,       /* the phrase has no sense, or the bytes are not a ready phrase */
+    FUZZY_NO_DATE = 10,       /* no such month or day */
+    FUZZY_NO_TIME = 11,       /* no such time of day */
+    FUZZY_OUTSIDE = 12,       /* outside the years 1 to 9999 */
+    FUZZY_NO_LEAP_DAY = 13,   /* a step of years from 29 February into a year without one */
+    FUZZY_NO_STAMP = 14,      /* not an RFC 3339 stamp: another form, or no such date, time or offset */
+    FUZZY_NO_READING = 15,    /* a reading other than 1 and 2 */
+    FUZZY_NOT_WHOLE = 16,     /* a phrase cannot show the moment's second or millisecond */
+    FUZZY_NO_ROOM = 17,       /* the buffer for the text is too short */
+    FUZZY_NO_RULE = 18,       /* not an RFC 5545 rule, or one that is not accepted */
+    FUZZY_NO_START = 19,      /* the start does not match the rule, or is after its UNTIL */
+    FUZZY_NO_NEXT = 20,       /* no occurrence of the rule is at or after the asked moment */
+    FUZZY_NO_ZONE = 21,       /* not a TZif file of version 2 or later, or one beyond the limits */
+    FUZZY_PAST_LAST = 22,     /* at or after the last transition of the zone's file */
+    FUZZY_NO_INSTANT = 23,    /* a time that the zone's clocks skip */
+    FUZZY_FULL_BOARD = 24,    /* no slot of the board is free */
+    FUZZY_EMPTY_SLOT = 25,    /* the slot is empty */
+    FUZZY_NOTHING_DUE = 26    /* no reminder of the board has a moment */
 };
 
-/* A phrase at a now, in one of the two readings. 0: the moment's seven numbers are in `moment`. Else a refusal. Where the phrase states a
- * time, noon and midnight too, second and millisecond are 0; else they are now's. */
-uint64_t fuzzy_read(uint32_t reading, const uint8_t *phrase, size_t phrase_length, uint32_t year, uint32_t month, uint32_t day, uint32_t hour,
-                    uint32_t minute, uint32_t second, uint32_t millisecond, uint32_t moment[FUZZY_MOMENT_NUMBERS]);
+/* The library's version: 1000000 for 1.0.0, by 1000000 * major + 1000 * minor + patch. */
+uint32_t fuzzy_version(void);
 
-/* A phrase made ready without a now, to be stored, sent and run later. fuzzy_number 0: the first fuzzy_length bytes of `ready` are the
- * ready phrase. Else a refusal of 1 to 7 or 15, the same that fuzzy_read gives. The ready phrase's steps are those of the reading that it was
- * made in; fuzzy_run does not ask for it again. */
-uint64_t fuzzy_make_ready(uint32_t reading, const uint8_t *phrase, size_t phrase_length, uint8_t ready[FUZZY_READY_SIZE]);
+/* Reads a phrase at a now, in one of the two readings. Success: `moment` is the moment. Where the phrase states a time, noon
+ * and midnight included, its second and millisecond are 0; else they are now's. */
+uint64_t fuzzy_read(uint32_t reading, const char *phrase, uint64_t phrase_length, const struct fuzzy_moment *now,
+                    struct fuzzy_moment *moment);
 
-/* A ready phrase at a now: what fuzzy_read gives for its phrase at that now. Bytes that are no ready phrase are refused with 9. */
-uint64_t fuzzy_run(const uint8_t *ready, size_t ready_length, uint32_t year, uint32_t month, uint32_t day, uint32_t hour, uint32_t minute,
-                   uint32_t second, uint32_t millisecond, uint32_t moment[FUZZY_MOMENT_NUMBERS]);
+/* Makes a phrase ready without a now, to be stored, sent and run later. Success: the first fuzzy_length bytes of `ready` are
+ * the ready phrase, which belongs to the reading that it was made in. Refused with 1 to 7 or 15, as fuzzy_read. */
+uint64_t fuzzy_make_ready(uint32_t reading, const char *phrase, uint64_t phrase_length, uint8_t ready[FUZZY_READY_SIZE]);
 
-/* A text as an RFC 3339 stamp, all of it: "2026-02-11T09:30:15Z", or with an offset as in "2026-02-11T09:30:15+05:30"; letters in either
- * case. Behind the second there may be a "." and one to three digits: ".5" is 500 milliseconds, ".05" is 50. 0: its nine numbers are in
- * `stamp`, the civil moment as it is written and the offset. Else 14; or 12 for a stamp of year 0. */
-uint64_t fuzzy_read_stamp(const uint8_t *text, size_t text_length, uint32_t stamp[FUZZY_STAMP_NUMBERS]);
+/* Runs a ready phrase at a now: gives what fuzzy_read gives for its phrase at that now. Bytes that are not a ready phrase are
+ * refused with 9. */
+uint64_t fuzzy_run(const uint8_t *ready, uint64_t ready_length, const struct fuzzy_moment *now, struct fuzzy_moment *moment);
 
-/* A stamp as text, in capitals, with a fraction of three digits, or none for millisecond 0, and with "Z" for offset zero, at the front of
- * `text`; what stands behind it stays. fuzzy_number 0: the text has fuzzy_length bytes, and reads back as the same stamp. Else 8 for no moment,
- * 14 for a west above 1 or an offset above 1439, 17 for a text too short, in this order. */
-uint64_t fuzzy_write_stamp(uint32_t year, uint32_t month, uint32_t day, uint32_t hour, uint32_t minute, uint32_t second,
-                           uint32_t millisecond, uint32_t west, uint32_t offset, uint8_t *text, size_t text_length);
+/* Reads a whole text as an RFC 3339 stamp: "2026-02-11T09:30:15Z", or with an offset as in "2026-02-11T09:30:15+05:30", with
+ * letters in either case. After the second there may be a "." and one to three digits: ".5" is 500 milliseconds, ".05" is 50.
+ * Success: `stamp` has the moment as it is written and the offset. Refused with 14, or with 12 for a stamp of year 0. */
+uint64_t fuzzy_read_stamp(const char *text, uint64_t text_length, struct fuzzy_stamp *stamp);
 
-/* A word of a phrase while it is typed: whether it is one of the words of a reading. 0: found[0] is its lexeme's code, the same for words that mean
- * the same, or 0 where the reading has no such word; found[1] is how many words of the reading's table it was compared with, never more than 8.
- * Letters in either case; an empty word, and one with bytes that are no letters, is absent, and counted like any other. Else 15. */
-uint64_t fuzzy_find_word(uint32_t reading, const uint8_t *word, size_t word_length, uint32_t found[FUZZY_FOUND_NUMBERS]);
+/* Writes a stamp as text: in capitals, with three digits of a fraction or none for millisecond 0, and "Z" for offset 0.
+ * Success: the first fuzzy_length bytes of `text` are the stamp, which reads back as the same; the rest is unchanged. Refused,
+ * in this order, with 8 for an invalid moment, 14 for a west above 1 or an offset above 1439, 17 for a text too short: 29 bytes
+ * are always enough, "Z" needs five less than an offset, and millisecond 0 four less than a fraction. */
+uint64_t fuzzy_write_stamp(const struct fuzzy_stamp *stamp, char *text, uint64_t text_length);
 
-/* A moment as a phrase for people to edit, "march 4 2026 at 9:05", at the front of `text`; what stands behind it stays. fuzzy_number 0: the
- * phrase has fuzzy_length bytes, 15 to 26, and fuzzy_read gives that moment back at every now, in both readings for the years 1000 to 9999,
- * in the first for the years 1 to 999. Else 8 for no moment, 16 for a second or millisecond other than 0, 17 for a text too short for exactly
- * that phrase, in this order. */
-uint64_t fuzzy_write_phrase(uint32_t year, uint32_t month, uint32_t day, uint32_t hour, uint32_t minute, uint32_t second, uint32_t millisecond,
-                            uint8_t *text, size_t text_length);
+/* Says of a word, while it is typed, whether it is one of a reading's words. Success: found[0] is its lexeme's code, the same
+ * for words of one meaning, or 0 where the reading has no such word; found[1] is the number of comparisons made, at most 8.
+ * Letters in either case. Refused with 15. */
+uint64_t fuzzy_find_word(uint32_t reading, const char *word, uint64_t word_length, uint32_t found[FUZZY_FOUND_NUMBERS]);
 
-/* The occurrences of a repeating rule of RFC 5545 from a start on, in order, into `moments`: rows of seven numbers, as many as there are
- * occurrences or as moments_length / 7 has room for; what stands behind the last row stays. fuzzy_number 0: fuzzy_length rows were written.
- * The start is the first occurrence, and every one has its time of day; the last are in year 9999. Else, in this order, 8 for a start that is
- * no moment, 18 for a rule outside what is taken, and 19 for a start that does not match the rule or lies past its UNTIL.
- *   A rule is "FREQ=WEEKLY;INTERVAL=2;BYDAY=TU", without "RRULE:" and blanks, with letters in either case and zeros in front of numbers: first
- * FREQ, which is DAILY, WEEKLY or MONTHLY, then in any order, each at most once:
+/* Writes a moment as a phrase that people can edit: "march 4 2026 at 9:05". Success: the first fuzzy_length bytes of `text`, 15
+ * to 26, are the phrase; the rest is unchanged. fuzzy_read gives the moment back at every now, in both readings for the years
+ * 1000 to 9999 and in the first for the years 1 to 999. Refused, in this order, with 8 for an invalid moment, 16 for a second or
+ * millisecond other than 0, 17 for a text too short for that phrase. */
+uint64_t fuzzy_write_phrase(const struct fuzzy_moment *moment, char *text, uint64_t text_length);
+
+/* What fuzzy_list below is made of: its moments are rows of seven numbers, and moments_length counts the numbers. */
+uint64_t fuzzy_list_in(const char *rule, uint64_t rule_length, const struct fuzzy_moment *start, uint32_t *moments,
+                       uint64_t moments_length);
+
+/* Lists the occurrences of a repeating rule of RFC 5545, in order, from its start on: as many as there are in the years 1 to 9999
+ * or as `moments` has room for. moments_length counts moments; no rule has more than FUZZY_MOST_OCCURRENCES, and a larger length
+ * is taken as that. Success: the first fuzzy_length moments are written, the rest is unchanged. The start is the first occurrence,
+ * and every occurrence has its time of day. Refused, in this order, with 8 for an invalid start, 18 for a rule that is not accepted,
+ * 19 for a start that does not match the rule or is after its UNTIL.
+ *   A rule is "FREQ=WEEKLY;INTERVAL=2;BYDAY=TU", without "RRULE:" and without spaces; letters in either case, zeros before a
+ * number are allowed. First comes FREQ, which is DAILY, WEEKLY or MONTHLY, then in any order, each at most once:
  *   INTERVAL     1 to 999; 1 where there is none
  *   COUNT        1 to 4,294,967,295
- *   UNTIL        a date such as 20260301, that day included, or a date-time such as 20260301T093000, without "Z"; not beside COUNT
+ *   UNTIL        a date such as 20260301, that day included, or a date-time such as 20260301T093000, without "Z"; not with COUNT
  *   BYDAY        only with WEEKLY: days such as TU,FR, each counted once; the start's own weekday where there is none
- *   BYMONTHDAY   only with MONTHLY: a day of 1 to 31, the start's own where there is none; a month without that day is passed over
+ *   BYMONTHDAY   only with MONTHLY: a day of 1 to 31, "+" allowed before it, the start's own where there is none; a month without
+ *                that day has no occurrence
  *   WKST         MO: weeks begin on Monday */
-uint64_t fuzzy_list(const uint8_t *rule, size_t rule_length, uint32_t year, uint32_t month, uint32_t day, uint32_t hour, uint32_t minute,
-                    uint32_t second, uint32_t millisecond, uint32_t *moments, size_t moments_length);
+static inline uint64_t fuzzy_list(const char *rule, uint64_t rule_length, const struct fuzzy_moment *start, struct fuzzy_moment *moments,
+                                  uint64_t moments_length) {
+    uint64_t most = moments_length < FUZZY_MOST_OCCURRENCES ? moments_length : FUZZY_MOST_OCCURRENCES;
+    return fuzzy_list_in(rule, rule_length, start, (uint32_t *)moments, FUZZY_MOMENT_NUMBERS * most);
+}
 
-/* Which occurrence comes next: the first one at or after the asked moment, the start itself where that is not before it. 0: its seven numbers
- * are in `moment`; they are those of the first row at or after the asked moment that fuzzy_list, with room for all, would write. Else, in this
- * order, 8 for a start or an asked moment that is no moment, 18 and 19 as there, and 20 where no occurrence in the years 1 to 9999 is at or
- * after the asked moment, COUNT and UNTIL counted in. The occurrences before it are not gone through: what a call takes has a bound, however
- * many they are. */
-uint64_t fuzzy_next(const uint8_t *rule, size_t rule_length, uint32_t year, uint32_t month, uint32_t day, uint32_t hour, uint32_t minute,
-                    uint32_t second, uint32_t millisecond, uint32_t asked_year, uint32_t asked_month, uint32_t asked_day, uint32_t asked_hour,
-                    uint32_t asked_minute, uint32_t asked_second, uint32_t asked_millisecond, uint32_t moment[FUZZY_MOMENT_NUMBERS]);
+/* Finds which occurrence comes next: the first at or after the asked moment, the start included. Success: `moment` is the first
+ * moment at or after the asked one that fuzzy_list, with room for all, would write. Refused, in this order, with 8 for an invalid
+ * start or asked moment, 18 and 19 as fuzzy_list, and 20 where no occurrence in the years 1 to 9999 is at or after the asked
+ * moment. The occurrences before it are not gone through: the cost has a bound, however many they are. */
+uint64_t fuzzy_next(const char *rule, uint64_t rule_length, const struct fuzzy_moment *start, const struct fuzzy_moment *asked,
+                    struct fuzzy_moment *moment);
 
-/* A ready phrase at an instant in a zone. The instant is a second, counted from 1970-01-01T00:00:00Z and below 0 before it, and a millisecond of it; the
- * zone is the bytes of its TZif file. 0: the second of the instant that is meant is in `due`, and what the clocks show there, its millisecond too, is in
- * `moment`. Minutes, hours, days and weeks from now or from a stated time are lengths of time; dates, weekdays, months and years go by the clocks: at
- * 09:00 on the day before clocks go forward by an hour, "1 day from now" is 10:00 and "tomorrow" is 09:00. Of a civil time that occurs twice the earlier
- * is meant. Else, in this order, 21; 8 for a millisecond above 999 or, before the last transition, a civil now outside the years 1 to 9999; 22 for a now
- * at or past the last transition (any now, where the file has none); 9 for bytes that are no ready phrase; and what the steps refuse, 10 to 13, 22 and 23.
- *   A zone's file is one of RFC 9636, version 2 or later, of at most 65,536 bytes, with times that ascend, indexes in range, no leap seconds, offsets above
- * -25 and below 26 hours, and no transition in the UTC years 0 and 1 or after 9998. Of its footer only the newlines are looked at: what is known ends with
- * the last transition. */
-uint64_t fuzzy_run_in_zone(const uint8_t *ready, size_t ready_length, const uint8_t *zone, size_t zone_length, int64_t second, uint32_t millisecond,
-                           int64_t *due, uint32_t moment[FUZZY_LOCAL_NUMBERS]);
+/* Reads a phrase at an instant in a zone, in one of the two readings: gives what fuzzy_run_in_zone gives for the phrase made
+ * ready. Refused as fuzzy_make_ready, then as fuzzy_run_in_zone. */
+uint64_t fuzzy_read_in_zone(uint32_t reading, const char *phrase, uint64_t phrase_length, const uint8_t *zone, uint64_t zone_length,
+                            int64_t second, uint32_t millisecond, int64_t *due, struct fuzzy_local *local);
 
-/* A phrase at an instant in a zone, in one of the two readings: what fuzzy_run_in_zone gives for the phrase made ready. Else what fuzzy_make_ready
- * refuses, before the refusals there. */
-uint64_t fuzzy_read_in_zone(uint32_t reading, const uint8_t *phrase, size_t phrase_length, const uint8_t *zone, size_t zone_length, int64_t second,
-                            uint32_t millisecond, int64_t *due, uint32_t moment[FUZZY_LOCAL_NUMBERS]);
+/* Runs a ready phrase at an instant in a zone. The instant is a second, counted from 1970-01-01T00:00:00Z and negative before it,
+ * and a millisecond of it; the zone is the bytes of its TZif file. Success: `due` is the second of the instant that is meant, and
+ * `local` is what the zone's clocks show then, its millisecond included.
+ *   Dates, weekdays, months and years go by the clocks. Minutes and hours are lengths of time. Days and weeks go by the clocks in
+ * "1 day ago" and after or from today, tomorrow or a date, and are lengths in "1 day from now", "1 day before now", before anything
+ * else, and after a weekday: at 09:00 on the day before the clocks go forward by an hour, "tomorrow" is 09:00 and "1 day from now"
+ * is 10:00. Of a time that the clocks show twice the earlier is meant.
+ *   Refused, in this order, with 21; 8 for a millisecond above 999 or, before the last transition, a now outside the years 1 to 9999
+ * by the zone's clocks; 22 for a now at or after the last transition (any now, where the file has none); 9 for bytes that are not a
+ * ready phrase; and what the steps refuse: 10 to 13, 22 and 23.
+ *   A zone's file is one of RFC 9636, version 2 or later, of at most 65,536 bytes, with ascending times, indexes in range, no leap
+ * seconds, offsets above -25 and below 26 hours, and no transition in the UTC years 0 and 1 or after 9998. Of its footer only the
+ * newlines are looked at: what is known ends with the last transition. */
+uint64_t fuzzy_run_in_zone(const uint8_t *ready, uint64_t ready_length, const uint8_t *zone, uint64_t zone_length, int64_t second,
+                           uint32_t millisecond, int64_t *due, struct fuzzy_local *local);
 
 /* What the calls for boards below are made of: the same calls on a board's parts. */
-uint64_t fuzzy_board_make_in(uint32_t lengths[FUZZY_BOARD_SLOTS], uint32_t state[FUZZY_MOMENT_NUMBERS + 1], uint32_t year, uint32_t month,
-                             uint32_t day, uint32_t hour, uint32_t minute, uint32_t second, uint32_t millisecond);
-uint64_t fuzzy_board_add_in(uint8_t ready[FUZZY_BOARD_SLOTS * FUZZY_READY_SIZE], uint32_t lengths[FUZZY_BOARD_SLOTS],
-                            uint64_t keys[FUZZY_BOARD_SLOTS], uint32_t state[FUZZY_MOMENT_NUMBERS + 1], uint32_t reading, const uint8_t *phrase,
-                            size_t phrase_length);
-uint64_t fuzzy_board_remove_in(uint32_t lengths[FUZZY_BOARD_SLOTS], uint64_t keys[FUZZY_BOARD_SLOTS], uint32_t state[FUZZY_MOMENT_NUMBERS + 1],
-                               uint32_t slot);
-uint64_t fuzzy_board_again_in(const uint8_t ready[FUZZY_BOARD_SLOTS * FUZZY_READY_SIZE], const uint32_t lengths[FUZZY_BOARD_SLOTS],
-                              uint64_t keys[FUZZY_BOARD_SLOTS], uint32_t state[FUZZY_MOMENT_NUMBERS + 1], uint32_t year, uint32_t month,
-                              uint32_t day, uint32_t hour, uint32_t minute, uint32_t second, uint32_t millisecond);
+uint64_t fuzzy_board_make_in(uint32_t lengths[FUZZY_BOARD_SLOTS], uint32_t state[FUZZY_MOMENT_NUMBERS + 1],
+                             const struct fuzzy_moment *now);
+uint64_t fuzzy_board_add_in(uint8_t ready[FUZZY_BOARD_READY_SIZE], uint32_t lengths[FUZZY_BOARD_SLOTS],
+                            uint64_t keys[FUZZY_BOARD_SLOTS], uint32_t state[FUZZY_MOMENT_NUMBERS + 1], uint32_t reading,
+                            const char *phrase, uint64_t phrase_length);
+uint64_t fuzzy_board_remove_in(uint32_t lengths[FUZZY_BOARD_SLOTS], uint64_t keys[FUZZY_BOARD_SLOTS],
+                               uint32_t state[FUZZY_MOMENT_NUMBERS + 1], uint32_t slot);
+uint64_t fuzzy_board_again_in(const uint8_t ready[FUZZY_BOARD_READY_SIZE], const uint32_t lengths[FUZZY_BOARD_SLOTS],
+                              uint64_t keys[FUZZY_BOARD_SLOTS], uint32_t state[FUZZY_MOMENT_NUMBERS + 1],
+                              const struct fuzzy_moment *now);
 uint64_t fuzzy_board_head_in(const uint64_t keys[FUZZY_BOARD_SLOTS], const uint32_t state[FUZZY_MOMENT_NUMBERS + 1],
-                             uint32_t moment[FUZZY_MOMENT_NUMBERS]);
+                             struct fuzzy_moment *moment);
 uint64_t fuzzy_board_order_in(const uint64_t keys[FUZZY_BOARD_SLOTS], const uint32_t state[FUZZY_MOMENT_NUMBERS + 1],
                               uint32_t slots[FUZZY_BOARD_SLOTS]);
 
-/* A board made empty at a now, whatever it held. 0, or 8 for a now that is no moment: then all of it is as before. */
-static inline uint64_t fuzzy_board_make(struct fuzzy_board *board, uint32_t year, uint32_t month, uint32_t day, uint32_t hour, uint32_t minute,
-                                        uint32_t second, uint32_t millisecond) {
-    return fuzzy_board_make_in(board->lengths, board->state, year, month, day, hour, minute, second, millisecond);
+/* Makes a board empty at a now, whatever it held. Refused with 8 for an invalid now: then all of it is unchanged. */
+static inline uint64_t fuzzy_board_make(struct fuzzy_board *board, const struct fuzzy_moment *now) {
+    return fuzzy_board_make_in(board->lengths, board->state, now);
 }
 
-/* One reminder more, made ready in a reading. fuzzy_number 0: it stands in slot fuzzy_length, the lowest that was free. Else, and then all is as
- * before, what fuzzy_make_ready refuses, 15 and 1 to 7, and behind that 24 for a full board. A phrase that refuses at the board's now is taken:
- * it is held last, and may have a moment at another now. */
-static inline uint64_t fuzzy_board_add(struct fuzzy_board *board, uint32_t reading, const uint8_t *phrase, size_t phrase_length) {
+/* Adds a reminder, made ready in a reading. Success: it is in slot fuzzy_length, the lowest that was free. Refused as
+ * fuzzy_make_ready, then with 24 for a full board: then all is unchanged. A phrase without a moment at the board's now is accepted:
+ * it comes last, and may have a moment at another now. */
+static inline uint64_t fuzzy_board_add(struct fuzzy_board *board, uint32_t reading, const char *phrase, uint64_t phrase_length) {
     return fuzzy_board_add_in(board->ready, board->lengths, board->keys, board->state, reading, phrase, phrase_length);
 }
 
-/* One reminder less: the slot is free again. 0, or 25 for a slot that holds nothing, 256 and above too: then all is as before. */
+/* Removes a reminder: its slot is free again. Refused with 25 for an empty slot, and for 256 and above: then all is unchanged. */
 static inline uint64_t fuzzy_board_remove(struct fuzzy_board *board, uint32_t slot) {
     return fuzzy_board_remove_in(board->lengths, board->keys, board->state, slot);
 }
 
-/* All reminders run again at another now, later or older, which is then the board's. 0, or 8 for one that is no moment: then all is as before. */
-static inline uint64_t fuzzy_board_again(struct fuzzy_board *board, uint32_t year, uint32_t month, uint32_t day, uint32_t hour, uint32_t minute,
-                                         uint32_t second, uint32_t millisecond) {
-    return fuzzy_board_again_in(board->ready, board->lengths, board->keys, board->state, year, month, day, hour, minute, second, millisecond);
+/* Runs all reminders again at another now, later or earlier, which is then the board's. Refused with 8 for an invalid now: then all
+ * is unchanged. */
+static inline uint64_t fuzzy_board_again(struct fuzzy_board *board, const struct fuzzy_moment *now) {
+    return fuzzy_board_again_in(board->ready, board->lengths, board->keys, board->state, now);
 }
 
-/* What is due first: the earliest moment of all reminders at the board's now, and of equal ones that of the lowest slot. fuzzy_number 0: its
- * slot is fuzzy_length, and its seven numbers are in `moment`. Else 26, where no reminder has a moment. Nothing is searched. */
-static inline uint64_t fuzzy_board_head(const struct fuzzy_board *board, uint32_t moment[FUZZY_MOMENT_NUMBERS]) {
+/* Finds what is due first: the earliest moment of all reminders at the board's now, and of equal ones the lowest slot. Success: its
+ * slot is fuzzy_length, and `moment` is its moment. Refused with 26 where no reminder has a moment. Nothing is searched. */
+static inline uint64_t fuzzy_board_head(const struct fuzzy_board *board, struct fuzzy_moment *moment) {
     return fuzzy_board_head_in(board->keys, board->state, moment);
 }
 
-/* The whole order: each filled slot once, by moment and, of equal ones, by slot; behind them those that refuse at the board's now, by slot. It
- * is never refused: fuzzy_length slots were written, and what stands behind them in `slots` stays. */
+/* Lists the filled slots in order, each once: by moment and, for equal moments, by slot; after them those without a moment at the
+ * board's now, by slot. It is never refused: the first fuzzy_length numbers of `slots` are written, the rest is unchanged. */
 static inline uint64_t fuzzy_board_order(const struct fuzzy_board *board, uint32_t slots[FUZZY_BOARD_SLOTS]) {
     return fuzzy_board_order_in(board->keys, board->state, slots);
 }
 
-/* Which refusal an answer is; 0 where it is none. */
-static inline unsigned fuzzy_number(uint64_t answer) { return (unsigned)(answer & 0xffffu); }
+/* Which refusal an answer is; 0 for success. */
+static inline uint32_t fuzzy_number(uint64_t answer) { return (uint32_t)(answer & 0xffffu); }
 
-/* The place of a refusal in its phrase. */
-static inline size_t fuzzy_place(uint64_t answer) { return (size_t)((answer >> 16) & 0xffffu); }
+/* Whether a call succeeded. */
+static inline int fuzzy_ok(uint64_t answer) { return fuzzy_number(answer) == 0; }
 
-/* The length of a refusal's part; without a refusal, how many bytes fuzzy_make_ready, fuzzy_write_stamp or fuzzy_write_phrase
- * wrote, how many rows fuzzy_list or slots fuzzy_board_order did, or the slot of fuzzy_board_add and fuzzy_board_head. */
-static inline size_t fuzzy_length(uint64_t answer) { return (size_t)(answer >> 32); }
+/* Where the refused part of a text begins, in bytes. */
+static inline uint32_t fuzzy_place(uint64_t answer) { return (uint32_t)((answer >> 16) & 0xffffu); }
 
-/* A word for each refusal, to be shown to people; "done" for 0. */
-static inline const char *fuzzy_word(unsigned number) {
+/* How long the refused part is, in bytes; of a success, how many bytes fuzzy_make_ready, fuzzy_write_stamp or fuzzy_write_phrase
+ * wrote, how many moments fuzzy_list or slots fuzzy_board_order did, or the slot of fuzzy_board_add and fuzzy_board_head. */
+static inline uint32_t fuzzy_length(uint64_t answer) { return (uint32_t)(answer >> 32); }
+
+/* The words of a refusal, to be shown to people; "done" for 0. */
+static inline const char *fuzzy_words(uint32_t number) {
     switch (number) {
     case 0: return "done";
     case FUZZY_TOO_LONG: return "longer than 256 bytes";
@@ -249,26 +303,26 @@ static inline const char *fuzzy_word(unsigned number) {
     case FUZZY_NOTHING: return "no date or time in it";
     case FUZZY_LARGE_SUM: return "number in words too large";
     case FUZZY_LEFT_OVER: return "not part of the date or time";
-    case FUZZY_NO_NOW: return "the moment given is no date and time";
-    case FUZZY_NO_SENSE: return "has no sense";
+    case FUZZY_INVALID_MOMENT: return "the given moment is not a valid date and time";
+    case FUZZY_NO_SENSE: return "makes no sense";
     case FUZZY_NO_DATE: return "no such month or day";
     case FUZZY_NO_TIME: return "no such time of day";
     case FUZZY_OUTSIDE: return "outside the years 1 to 9999";
     case FUZZY_NO_LEAP_DAY: return "29 February is not in that year";
-    case FUZZY_NO_STAMP: return "no RFC 3339 date and time";
+    case FUZZY_NO_STAMP: return "not an RFC 3339 date and time";
     case FUZZY_NO_READING: return "no such reading";
     case FUZZY_NOT_WHOLE: return "a phrase shows no seconds";
     case FUZZY_NO_ROOM: return "no room for the text";
-    case FUZZY_NO_RULE: return "no repeating rule that is taken";
-    case FUZZY_NO_START: return "the start is no occurrence of the rule";
+    case FUZZY_NO_RULE: return "not a repeating rule that is accepted";
+    case FUZZY_NO_START: return "the start is not an occurrence of the rule";
     case FUZZY_NO_NEXT: return "no occurrence is left";
-    case FUZZY_NO_ZONE: return "no zone file that is taken";
+    case FUZZY_NO_ZONE: return "not a zone file that is accepted";
     case FUZZY_PAST_LAST: return "later than the zone's file knows";
     case FUZZY_NO_INSTANT: return "the zone's clocks skip that time";
     case FUZZY_FULL_BOARD: return "no slot is free";
-    case FUZZY_EMPTY_SLOT: return "the slot holds nothing";
-    case FUZZY_NO_MOMENT: return "nothing has a moment";
-    default: return "no answer of this library";
+    case FUZZY_EMPTY_SLOT: return "the slot is empty";
+    case FUZZY_NOTHING_DUE: return "no reminder has a moment";
+    default: return "a refusal of a newer library";
     }
 }
 

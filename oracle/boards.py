@@ -16,7 +16,7 @@ import model
 import phrases
 
 SLOTS = 256
-NO_NOW, FULL_BOARD, EMPTY_SLOT, NO_MOMENT = 8, 24, 25, 26
+INVALID_MOMENT, FULL_BOARD, EMPTY_SLOT, NOTHING_DUE = 8, 24, 25, 26
 
 
 def made(reading, phrase):
@@ -63,7 +63,7 @@ class Board:
 
     def make(self, now):
         if now is None:
-            return NO_NOW, 0, 0
+            return INVALID_MOMENT, 0, 0
         self.now, self.held = now, {}
         return 0, 0, 0
 
@@ -86,7 +86,7 @@ class Board:
 
     def again(self, now):
         if now is None:
-            return NO_NOW, 0, 0
+            return INVALID_MOMENT, 0, 0
         self.now = now
         return 0, 0, 0
 
@@ -98,7 +98,7 @@ class Board:
             if moment is not None and (found is None or moment < found[1]):
                 found = slot, moment
         if found is None:
-            return NO_MOMENT, 0, 0, *[7] * 7
+            return NOTHING_DUE, 0, 0, *[7] * 7
         slot, (day, second, millisecond) = found
         date = datetime.date.fromordinal(day)
         return 0, 0, slot, date.year, date.month, date.day, second // 3600, second // 60 % 60, second % 60, millisecond

@@ -1,5 +1,6 @@
-/* Makes the calls of oracle/zones.py's lines, which says what a line is, and writes their answers: zones < LINES. The file, what is read or run and both
- * lent arrays stand at a fence, by turns at the upper and the lower one; nothing beside the arrays may be written, and nothing of them by a refusal. */
+/* Makes the calls of oracle/zones.py's lines, which says what a line is, and writes their answers: zones < LINES. The file, what is read
+ * or run and both buffers stand at a fence, by turns at the upper and the lower one; nothing beside the buffers may be written, and
+ * nothing of them by a refusal. */
 #define _DEFAULT_SOURCE
 #include "fuzzy.h"
 #include "lent.h"
@@ -9,18 +10,17 @@
 #define MOST_LINE ((size_t)1 << 17)
 #define MOST_FILE 65600
 #define MOST_READ 4096
-#define MOMENT (FUZZY_LOCAL_NUMBERS * sizeof(uint32_t))
 
-static struct field files, texts, dues, moments;
+static struct field files, texts, dues, locals;
 static uint8_t file[MOST_FILE];
 static size_t size;
 static uint64_t now;
 static uint32_t millisecond;
 
-/* What a call lends. */
+/* What a call is given: the zone's file, a phrase or a ready phrase, and the buffers for the second and for what the clocks show. */
 struct lent_to {
     const uint8_t *zone, *text;
-    uint8_t *due, *moment;
+    uint8_t *due, *local;
 };
 
 static struct lent_to lend(const uint8_t *text, size_t length) {
@@ -31,7 +31,7 @@ static struct lent_to lend(const uint8_t *text, size_t length) {
     l.zone = zone;
     l.text = copy;
     l.due = lent(dues, sizeof(int64_t), (int)random_below(2));
-    l.moment = lent(moments, MOMENT, (int)random_below(2));
+    l.local = lent(locals, sizeof(struct fuzzy_local), (int)random_below(2));
     return l;
 }
 
@@ -43,34 +43,35 @@ static void write_answer(uint64_t answer) {
 /* The answer, and what was written: sevens for what was not. */
 static void write_lent(uint64_t answer, struct lent_to l) {
     int64_t due = 7;
-    uint32_t moment[FUZZY_LOCAL_NUMBERS] = {7, 7, 7, 7, 7, 7, 7, 7, 7};
+    uint32_t local[FUZZY_LOCAL_NUMBERS] = {7, 7, 7, 7, 7, 7, 7, 7, 7};
     size_t i, given = answer == 0;
     if (!kept_but(dues, l.due, sizeof due, given * sizeof due)) stop("something beside the second was written, or it by a refusal");
-    if (!kept_but(moments, l.moment, MOMENT, given * MOMENT)) stop("something beside a moment was written, or it by a refusal");
+    if (!kept_but(locals, l.local, sizeof local, given * sizeof local)) stop("something beside a moment was written, or it by a refusal");
     if (given) {
         memcpy(&due, l.due, sizeof due);
-        memcpy(moment, l.moment, MOMENT);
+        memcpy(local, l.local, sizeof local);
     }
     write_answer(answer);
     printf(" %" PRIu64, (uint64_t)due);
-    for (i = 0; i < FUZZY_LOCAL_NUMBERS; i++) printf(" %" PRIu32, moment[i]);
+    for (i = 0; i < FUZZY_LOCAL_NUMBERS; i++) printf(" %" PRIu32, local[i]);
 }
 
-static void read_in_zone(uint32_t reading, const uint8_t *phrase, size_t length, uint64_t second) {
-    struct lent_to l = lend(phrase, length);
-    write_lent(fuzzy_read_in_zone(reading, l.text, length, l.zone, size, (int64_t)second, millisecond, (int64_t *)(void *)l.due,
-                                  (uint32_t *)(void *)l.moment), l);
+static void read_in_zone(uint32_t reading, const char *phrase, size_t length, uint64_t second) {
+    struct lent_to l = lend((const uint8_t *)phrase, length);
+    write_lent(fuzzy_read_in_zone(reading, (const char *)l.text, length, l.zone, size, (int64_t)second, millisecond,
+                                  (int64_t *)(void *)l.due, (struct fuzzy_local *)(void *)l.local), l);
 }
 
 static void run_in_zone(const uint8_t *ready, size_t length) {
     struct lent_to l = lend(ready, length);
-    write_lent(fuzzy_run_in_zone(l.text, length, l.zone, size, (int64_t)now, millisecond, (int64_t *)(void *)l.due, (uint32_t *)(void *)l.moment), l);
+    write_lent(fuzzy_run_in_zone(l.text, length, l.zone, size, (int64_t)now, millisecond, (int64_t *)(void *)l.due,
+                                 (struct fuzzy_local *)(void *)l.local), l);
 }
 
-static void run_made(uint32_t reading, const uint8_t *phrase, size_t length) {
+static void run_made(uint32_t reading, const char *phrase, size_t length) {
     uint8_t ready[FUZZY_READY_SIZE];
     uint64_t made = fuzzy_make_ready(reading, phrase, length, ready);
-    if (fuzzy_number(made) == 0) run_in_zone(ready, fuzzy_length(made));
+    if (fuzzy_ok(made)) run_in_zone(ready, fuzzy_length(made));
     else write_answer(made);
 }
 
@@ -94,7 +95,7 @@ static void walk(uint64_t second) {
     int k;
     for (k = 0; k < 3; k++) {
         if (k > 0) printf("|");
-        read_in_zone(FUZZY_FIRST, (const uint8_t *)"now", 3, second + (uint64_t)k);
+        read_in_zone(FUZZY_FIRST, "now", 3, second + (uint64_t)k);
     }
 }
 
@@ -122,8 +123,8 @@ static void take(const char *line, size_t length) {
     if (length == 0 || change(line[0], rest, strtoull(rest, NULL, 16))) return;
     if (line[0] == 'W') walk(strtoull(rest, NULL, 16));
     else if (line[0] == 'R') run_records(rest);
-    else if (line[0] <= '9') read_in_zone((uint32_t)(line[0] - '0'), (const uint8_t *)rest, length - 1, now);
-    else run_made((uint32_t)(line[0] - 'a' + 1), (const uint8_t *)rest, length - 1);
+    else if (line[0] <= '9') read_in_zone((uint32_t)(line[0] - '0'), rest, length - 1, now);
+    else run_made((uint32_t)(line[0] - 'a' + 1), rest, length - 1);
     printf("\n");
 }
 
@@ -132,7 +133,7 @@ int main(void) {
     files = fenced(MOST_FILE);
     texts = fenced(MOST_READ);
     dues = fenced(1);
-    moments = fenced(1);
+    locals = fenced(1);
     while (fgets(line, sizeof line, stdin) != NULL) {
         size_t length = strlen(line);
         if (length > 0 && line[length - 1] == '\n') line[--length] = '\0';

@@ -29,7 +29,7 @@ import model
 import phrases
 from model import BACK, FORWARD, Refused
 
-NO_NOW, NO_SENSE, OUTSIDE, NO_ZONE, PAST_LAST, NO_INSTANT = 8, 9, 12, 21, 22, 23
+INVALID_MOMENT, NO_SENSE, OUTSIDE, NO_ZONE, PAST_LAST, NO_INSTANT = 8, 9, 12, 21, 22, 23
 DAY, EPOCH = 86_400, datetime.date(1970, 1, 1).toordinal()
 ROOM, PIECE = 65_600, 65_536
 
@@ -175,11 +175,11 @@ class InZone:
         self.zone, self.second, self.millisecond = zone, second, millisecond
         # 02: 8, then 22 for now itself; before the last transition 8 is for a civil now outside the years too
         if millisecond > 999:
-            raise Refused(NO_NOW)
+            raise Refused(INVALID_MOMENT)
         if second >= zone.last:
             raise Refused(PAST_LAST)
         if not self.in_years(second):
-            raise Refused(NO_NOW)
+            raise Refused(INVALID_MOMENT)
         self.civil = model.Evaluation(self.shown(second))
 
     def in_years(self, second):

@@ -1,4 +1,5 @@
-/* Calls every function with good, damaged and empty input, and looks at every byte that must not change: every ZONE, the file bindings/zones/New_York. */
+/* Calls every function with good, damaged and empty input, and looks at every byte that must not change: every ZONE, the file
+ * bindings/zones/New_York. */
 #include "fuzzy.h"
 
 #include <stdio.h>
@@ -7,11 +8,12 @@
 #define PATTERN 0xa5
 #define GUARD 64
 
-/* 2026-02-11 09:30:15.250 */
-#define NOW 2026, 2, 11, 9, 30, 15, 250
+/* A moment, for a call that only reads it. */
+#define AT(...) (&(const struct fuzzy_moment){__VA_ARGS__})
+#define NOW AT(2026, 2, 11, 9, 30, 15, 250)
 
-/* as many occurrences are listed at most */
-#define MOST_ROWS 8
+/* As many occurrences are listed at most. */
+#define MOST_MOMENTS 8
 
 static int failed = 0;
 
@@ -22,18 +24,19 @@ static void expect(int holds, const char *what) {
     }
 }
 
-/* a lent array between two guards, all of it full of a pattern */
+/* A buffer between two guards, all of it full of a pattern. */
 struct lent {
     uint8_t before[GUARD];
     union {
-        uint32_t moment[FUZZY_MOMENT_NUMBERS];
+        struct fuzzy_moment moment;
         uint8_t ready[FUZZY_READY_SIZE];
-        uint32_t stamp[FUZZY_STAMP_NUMBERS];
-        uint8_t text[2 * FUZZY_STAMP_SIZE];
+        struct fuzzy_stamp stamp;
+        char text[2 * FUZZY_STAMP_SIZE];
         uint32_t found[FUZZY_FOUND_NUMBERS];
-        uint32_t moments[MOST_ROWS * FUZZY_MOMENT_NUMBERS];
+        struct fuzzy_moment moments[MOST_MOMENTS];
+        uint32_t numbers[MOST_MOMENTS * FUZZY_MOMENT_NUMBERS];
         int64_t due;
-        uint32_t local[FUZZY_LOCAL_NUMBERS];
+        struct fuzzy_local local;
     } in;
     uint8_t after[GUARD];
 };
@@ -44,7 +47,7 @@ static struct lent fresh(void) {
     return l;
 }
 
-/* whether all bytes of l from a place in `in` on, and both guards, are as they were */
+/* Whether all bytes of l from a place in `in` on, and both guards, are as they were. */
 static int kept_from(const struct lent *l, size_t from) {
     const uint8_t *in = (const uint8_t *)&l->in;
     size_t i;
@@ -58,11 +61,11 @@ static int kept_from(const struct lent *l, size_t from) {
 }
 
 static uint64_t read_at(uint32_t reading, const char *phrase, size_t n, struct lent *l) {
-    return fuzzy_read(reading, (const uint8_t *)phrase, n, NOW, l->in.moment);
+    return fuzzy_read(reading, phrase, n, NOW, &l->in.moment);
 }
 
-/* a refusal with its number, place and length, and nothing written: by reading, and by making ready where it is one of 1 to 7 or 15 */
-static void refused_as(uint32_t reading, const char *phrase, size_t n, unsigned number, size_t place, size_t length) {
+/* A refusal with its number, place and length, and nothing written: by reading, and by making ready where it is one of 1 to 7 or 15. */
+static void refused_as(uint32_t reading, const char *phrase, size_t n, unsigned number, uint32_t place, uint32_t length) {
     struct lent l = fresh();
     uint64_t answer = read_at(reading, phrase, n, &l);
     expect(fuzzy_number(answer) == number, "the number of a refusal");
@@ -71,101 +74,97 @@ static void refused_as(uint32_t reading, const char *phrase, size_t n, unsigned 
     expect(kept_from(&l, 0), "nothing written on a refusal");
     if (number <= 7 || number == FUZZY_NO_READING) {
         l = fresh();
-        expect(fuzzy_make_ready(reading, (const uint8_t *)phrase, n, l.in.ready) == answer, "making ready refuses as reading does");
+        expect(fuzzy_make_ready(reading, phrase, n, l.in.ready) == answer, "making ready refuses as reading does");
         expect(kept_from(&l, 0), "nothing written by making ready on a refusal");
     }
 }
 
-/* the same in both readings */
-static void refused(const char *phrase, size_t n, unsigned number, size_t place, size_t length) {
+/* The same in both readings. */
+static void refused(const char *phrase, size_t n, unsigned number, uint32_t place, uint32_t length) {
     refused_as(FUZZY_FIRST, phrase, n, number, place, length);
     refused_as(FUZZY_SECOND, phrase, n, number, place, length);
 }
 
-/* a moment, by reading and by running what was made ready; bytes past what was written stay */
+/* A moment, by reading and by running what was made ready; bytes past what was written stay. */
 static void given_as(uint32_t reading, const char *phrase, uint32_t y, uint32_t mo, uint32_t d, uint32_t h, uint32_t mi, uint32_t s,
                      uint32_t ms) {
-    const uint32_t wanted[FUZZY_MOMENT_NUMBERS] = {y, mo, d, h, mi, s, ms};
+    const struct fuzzy_moment wanted = {y, mo, d, h, mi, s, ms};
     struct lent l = fresh();
     struct lent m = fresh();
     uint64_t made;
     expect(read_at(reading, phrase, strlen(phrase), &l) == 0, "a phrase that is read");
-    expect(memcmp(l.in.moment, wanted, sizeof wanted) == 0, "its moment");
+    expect(memcmp(&l.in.moment, &wanted, sizeof wanted) == 0, "its moment");
     expect(kept_from(&l, sizeof wanted), "nothing written but the moment");
     l = fresh();
-    made = fuzzy_make_ready(reading, (const uint8_t *)phrase, strlen(phrase), l.in.ready);
-    expect(fuzzy_number(made) == 0 && fuzzy_place(made) == 0, "a phrase that is made ready");
+    made = fuzzy_make_ready(reading, phrase, strlen(phrase), l.in.ready);
+    expect(fuzzy_ok(made) && fuzzy_place(made) == 0, "a phrase that is made ready");
     expect(fuzzy_length(made) >= 16 && fuzzy_length(made) <= FUZZY_READY_SIZE && fuzzy_length(made) % 16 == 0, "its length");
     expect(kept_from(&l, fuzzy_length(made)), "nothing written but the ready phrase");
-    expect(fuzzy_run(l.in.ready, fuzzy_length(made), NOW, m.in.moment) == 0, "a ready phrase that is run");
-    expect(memcmp(m.in.moment, wanted, sizeof wanted) == 0, "its moment when run");
+    expect(fuzzy_run(l.in.ready, fuzzy_length(made), NOW, &m.in.moment) == 0, "a ready phrase that is run");
+    expect(memcmp(&m.in.moment, &wanted, sizeof wanted) == 0, "its moment when run");
     expect(kept_from(&m, sizeof wanted), "nothing written but the moment when run");
     m = fresh();
-    expect(fuzzy_run(l.in.ready, fuzzy_length(made), 2026, 2, 30, 9, 30, 15, 250, m.in.moment) == 8, "an invalid now");
+    expect(fuzzy_run(l.in.ready, fuzzy_length(made), AT(2026, 2, 30, 9, 30, 15, 250), &m.in.moment) == 8, "an invalid now");
     expect(kept_from(&m, 0), "nothing written at an invalid now");
-    expect(fuzzy_run(l.in.ready, fuzzy_length(made) - 1, NOW, m.in.moment) == 9, "a ready phrase cut short");
+    expect(fuzzy_run(l.in.ready, fuzzy_length(made) - 1, NOW, &m.in.moment) == 9, "a ready phrase cut short");
     l.in.ready[2] ^= 1;
-    expect(fuzzy_run(l.in.ready, fuzzy_length(made), NOW, m.in.moment) == 9, "a damaged ready phrase");
+    expect(fuzzy_run(l.in.ready, fuzzy_length(made), NOW, &m.in.moment) == 9, "a damaged ready phrase");
     expect(kept_from(&m, 0), "nothing written for a damaged ready phrase");
 }
 
-/* the same in both readings */
+/* The same in both readings. */
 static void given(const char *phrase, uint32_t y, uint32_t mo, uint32_t d, uint32_t h, uint32_t mi, uint32_t s, uint32_t ms) {
     given_as(FUZZY_FIRST, phrase, y, mo, d, h, mi, s, ms);
     given_as(FUZZY_SECOND, phrase, y, mo, d, h, mi, s, ms);
 }
 
-/* "an hour ago" at 09:30:15 and so many milliseconds, read and run: they are kept, or the now is none and nothing is written */
+/* "an hour ago" at 09:30:15 and so many milliseconds, read and run: they are kept, or the now is invalid and nothing is written. */
 static void at_millisecond(uint32_t ms, unsigned number) {
-    const uint8_t *phrase = (const uint8_t *)"an hour ago";
-    const uint32_t wanted[FUZZY_MOMENT_NUMBERS] = {2026, 2, 11, 8, 30, 15, ms};
+    const char *phrase = "an hour ago";
+    const struct fuzzy_moment now = {2026, 2, 11, 9, 30, 15, ms}, wanted = {2026, 2, 11, 8, 30, 15, ms};
     size_t written = number == 0 ? sizeof wanted : 0;
     struct lent ready = fresh(), l = fresh();
     uint64_t made = fuzzy_make_ready(FUZZY_FIRST, phrase, 11, ready.in.ready);
-    expect(fuzzy_read(FUZZY_FIRST, phrase, 11, 2026, 2, 11, 9, 30, 15, ms, l.in.moment) == number, "reading at a millisecond");
-    expect(memcmp(l.in.moment, wanted, written) == 0 && kept_from(&l, written), "what reading writes at a millisecond");
+    expect(fuzzy_read(FUZZY_FIRST, phrase, 11, &now, &l.in.moment) == number, "reading at a millisecond");
+    expect(memcmp(&l.in.moment, &wanted, written) == 0 && kept_from(&l, written), "what reading writes at a millisecond");
     l = fresh();
-    expect(fuzzy_run(ready.in.ready, fuzzy_length(made), 2026, 2, 11, 9, 30, 15, ms, l.in.moment) == number, "running at a millisecond");
-    expect(memcmp(l.in.moment, wanted, written) == 0 && kept_from(&l, written), "what running writes at a millisecond");
+    expect(fuzzy_run(ready.in.ready, fuzzy_length(made), &now, &l.in.moment) == number, "running at a millisecond");
+    expect(memcmp(&l.in.moment, &wanted, written) == 0 && kept_from(&l, written), "what running writes at a millisecond");
 }
 
-static uint64_t write_with_room(const uint32_t s[FUZZY_STAMP_NUMBERS], struct lent *l, size_t room) {
-    return fuzzy_write_stamp(s[0], s[1], s[2], s[3], s[4], s[5], s[6], s[7], s[8], l->in.text, room);
-}
-
-/* a text with its nine numbers, which are written as `written`: with room for exactly that, and not with a byte less */
+/* A text with its stamp, which is written as `written`: with room for exactly that, and not with a byte less. */
 static void stamped(const char *text, const char *written, uint32_t y, uint32_t mo, uint32_t d, uint32_t h, uint32_t mi, uint32_t s,
                     uint32_t ms, uint32_t west, uint32_t offset) {
-    const uint32_t wanted[FUZZY_STAMP_NUMBERS] = {y, mo, d, h, mi, s, ms, west, offset};
+    const struct fuzzy_stamp wanted = {{y, mo, d, h, mi, s, ms}, west, offset};
     size_t n = strlen(written);
     struct lent l = fresh();
     uint64_t answer;
-    expect(fuzzy_read_stamp((const uint8_t *)text, strlen(text), l.in.stamp) == 0, "a stamp that is read");
-    expect(memcmp(l.in.stamp, wanted, sizeof wanted) == 0, "its numbers");
+    expect(fuzzy_read_stamp(text, strlen(text), &l.in.stamp) == 0, "a stamp that is read");
+    expect(memcmp(&l.in.stamp, &wanted, sizeof wanted) == 0, "its numbers");
     expect(kept_from(&l, sizeof wanted), "nothing written but the stamp");
     l = fresh();
-    answer = write_with_room(wanted, &l, n);
-    expect(fuzzy_number(answer) == 0 && fuzzy_place(answer) == 0 && fuzzy_length(answer) == n, "a stamp that is written");
+    answer = fuzzy_write_stamp(&wanted, l.in.text, n);
+    expect(fuzzy_ok(answer) && fuzzy_place(answer) == 0 && fuzzy_length(answer) == n, "a stamp that is written");
     expect(memcmp(l.in.text, written, n) == 0, "its text");
     expect(kept_from(&l, n), "nothing written but the text");
     l = fresh();
-    expect(write_with_room(wanted, &l, n - 1) == FUZZY_NO_ROOM, "a text too short");
+    expect(fuzzy_write_stamp(&wanted, l.in.text, n - 1) == FUZZY_NO_ROOM, "a text too short");
     expect(kept_from(&l, 0), "nothing written where there is no room");
 }
 
-/* a text that is no stamp, and nothing written */
+/* A text that is not a stamp, and nothing written. */
 static void unstamped(const char *text, size_t n, unsigned number) {
     struct lent l = fresh();
-    expect(fuzzy_read_stamp((const uint8_t *)text, n, l.in.stamp) == number, "a text that is no stamp");
-    expect(kept_from(&l, 0), "nothing written for a text that is no stamp");
+    expect(fuzzy_read_stamp(text, n, &l.in.stamp) == number, "a text that is not a stamp");
+    expect(kept_from(&l, 0), "nothing written for a text that is not a stamp");
 }
 
-/* numbers that are no stamp, and nothing written */
+/* Numbers that are not a stamp, and nothing written. */
 static void unwritten(uint32_t mo, uint32_t ms, uint32_t west, uint32_t offset, size_t room, unsigned number) {
-    const uint32_t s[FUZZY_STAMP_NUMBERS] = {2026, mo, 11, 9, 30, 15, ms, west, offset};
+    const struct fuzzy_stamp stamp = {{2026, mo, 11, 9, 30, 15, ms}, west, offset};
     struct lent l = fresh();
-    expect(write_with_room(s, &l, room) == number, "numbers that are no stamp");
-    expect(kept_from(&l, 0), "nothing written for numbers that are no stamp");
+    expect(fuzzy_write_stamp(&stamp, l.in.text, room) == number, "numbers that are not a stamp");
+    expect(kept_from(&l, 0), "nothing written for numbers that are not a stamp");
 }
 
 static void stamps(void) {
@@ -204,28 +203,28 @@ static void stamps(void) {
     unstamped("2026-02-11T09:30:15Z\n", 21, FUZZY_NO_STAMP);
     unstamped("2026-02-11T09:30:15", 19, FUZZY_NO_STAMP);
     unstamped("", 0, FUZZY_NO_STAMP);
-    unwritten(13, 0, 2, 1440, 0, FUZZY_NO_NOW);
-    unwritten(2, 1000, 2, 1440, 0, FUZZY_NO_NOW);
-    unwritten(2, 1000, 0, 0, FUZZY_STAMP_SIZE, FUZZY_NO_NOW);
-    unwritten(2, UINT32_MAX, 0, 0, FUZZY_STAMP_SIZE, FUZZY_NO_NOW);
+    unwritten(13, 0, 2, 1440, 0, FUZZY_INVALID_MOMENT);
+    unwritten(2, 1000, 2, 1440, 0, FUZZY_INVALID_MOMENT);
+    unwritten(2, 1000, 0, 0, FUZZY_STAMP_SIZE, FUZZY_INVALID_MOMENT);
+    unwritten(2, UINT32_MAX, 0, 0, FUZZY_STAMP_SIZE, FUZZY_INVALID_MOMENT);
     unwritten(2, 0, 2, 0, 0, FUZZY_NO_STAMP);
     unwritten(2, 0, 0, 1440, 0, FUZZY_NO_STAMP);
     unwritten(2, 0, 0, 1, 0, FUZZY_NO_ROOM);
 }
 
-/* a word in one reading: its code or 0, and the comparisons made */
+/* A word in one reading: its code or 0, and the comparisons made. */
 static void found_as(uint32_t reading, const char *word, size_t n, uint32_t code, uint32_t comparisons) {
     const uint32_t wanted[FUZZY_FOUND_NUMBERS] = {code, comparisons};
     struct lent l = fresh();
-    expect(fuzzy_find_word(reading, (const uint8_t *)word, n, l.in.found) == 0, "a word that is looked up");
+    expect(fuzzy_find_word(reading, word, n, l.in.found) == 0, "a word that is looked up");
     expect(memcmp(l.in.found, wanted, sizeof wanted) == 0, "its code and the comparisons");
     expect(kept_from(&l, sizeof wanted), "nothing written but the two numbers");
 }
 
-/* a reading that is none, and nothing written */
+/* An unknown reading, and nothing written. */
 static void unfound(uint32_t reading) {
     struct lent l = fresh();
-    expect(fuzzy_find_word(reading, (const uint8_t *)"now", 3, l.in.found) == FUZZY_NO_READING, "a word in no reading");
+    expect(fuzzy_find_word(reading, "now", 3, l.in.found) == FUZZY_NO_READING, "a word in no reading");
     expect(kept_from(&l, 0), "nothing written for a word in no reading");
 }
 
@@ -245,36 +244,32 @@ static void words(const char *many, size_t n) {
     unfound(UINT32_MAX);
 }
 
-static uint64_t show_with_room(const uint32_t m[FUZZY_MOMENT_NUMBERS], struct lent *l, size_t room) {
-    return fuzzy_write_phrase(m[0], m[1], m[2], m[3], m[4], m[5], m[6], l->in.text, room);
-}
-
-/* a moment as a phrase, with room for exactly that, and not with a byte less; it is read back in both readings, or, in a year of fewer than four
- * digits, in the first */
+/* A moment as a phrase, with room for exactly that, and not with a byte less; it is read back in both readings, or, in a year of fewer than
+ * four digits, in the first. */
 static void shown(const char *phrase, uint32_t y, uint32_t mo, uint32_t d, uint32_t h, uint32_t mi) {
-    const uint32_t wanted[FUZZY_MOMENT_NUMBERS] = {y, mo, d, h, mi, 0, 0};
+    const struct fuzzy_moment wanted = {y, mo, d, h, mi, 0, 0};
     size_t n = strlen(phrase);
     struct lent l = fresh();
-    uint64_t answer = show_with_room(wanted, &l, n);
+    uint64_t answer = fuzzy_write_phrase(&wanted, l.in.text, n);
     uint32_t reading;
-    expect(fuzzy_number(answer) == 0 && fuzzy_place(answer) == 0 && fuzzy_length(answer) == n, "a moment that is shown");
+    expect(fuzzy_ok(answer) && fuzzy_place(answer) == 0 && fuzzy_length(answer) == n, "a moment that is shown");
     expect(memcmp(l.in.text, phrase, n) == 0, "its phrase");
     expect(kept_from(&l, n), "nothing written but the phrase");
     l = fresh();
-    expect(show_with_room(wanted, &l, n - 1) == FUZZY_NO_ROOM, "a text too short for a phrase");
+    expect(fuzzy_write_phrase(&wanted, l.in.text, n - 1) == FUZZY_NO_ROOM, "a text too short for a phrase");
     expect(kept_from(&l, 0), "nothing written where there is no room for a phrase");
     for (reading = FUZZY_FIRST; reading <= (y < 1000 ? FUZZY_FIRST : FUZZY_SECOND); reading++) {
         l = fresh();
         expect(read_at(reading, phrase, n, &l) == 0, "a phrase that was shown");
-        expect(memcmp(l.in.moment, wanted, sizeof wanted) == 0, "the moment that it shows");
+        expect(memcmp(&l.in.moment, &wanted, sizeof wanted) == 0, "the moment that it shows");
     }
 }
 
-/* numbers that are not shown, and nothing written */
+/* Numbers that are not shown, and nothing written. */
 static void unshown(uint32_t mo, uint32_t s, uint32_t ms, size_t room, unsigned number) {
-    const uint32_t m[FUZZY_MOMENT_NUMBERS] = {2026, mo, 4, 9, 5, s, ms};
+    const struct fuzzy_moment moment = {2026, mo, 4, 9, 5, s, ms};
     struct lent l = fresh();
-    expect(show_with_room(m, &l, room) == number, "a moment that is not shown");
+    expect(fuzzy_write_phrase(&moment, l.in.text, room) == number, "a moment that is not shown");
     expect(kept_from(&l, 0), "nothing written for a moment that is not shown");
 }
 
@@ -285,42 +280,62 @@ static void phrases(void) {
     shown("june 30 999 at 10:10", 999, 6, 30, 10, 10);
     shown("february 29 2024 at 12:00", 2024, 2, 29, 12, 0);
     shown("december 31 9999 at 23:59", 9999, 12, 31, 23, 59);
-    unshown(13, 1, 1, 0, FUZZY_NO_NOW);
-    unshown(3, 60, 0, FUZZY_PHRASE_SIZE, FUZZY_NO_NOW);
-    unshown(3, 0, 1000, FUZZY_PHRASE_SIZE, FUZZY_NO_NOW);
+    unshown(13, 1, 1, 0, FUZZY_INVALID_MOMENT);
+    unshown(3, 60, 0, FUZZY_PHRASE_SIZE, FUZZY_INVALID_MOMENT);
+    unshown(3, 0, 1000, FUZZY_PHRASE_SIZE, FUZZY_INVALID_MOMENT);
     unshown(3, 1, 0, 0, FUZZY_NOT_WHOLE);
     unshown(3, 0, 1, FUZZY_PHRASE_SIZE, FUZZY_NOT_WHOLE);
     unshown(3, 0, 0, 0, FUZZY_NO_ROOM);
 }
 
 /* Tuesday, 2026-02-10 09:30:15.250 */
-static const uint32_t tuesday[FUZZY_MOMENT_NUMBERS] = {2026, 2, 10, 9, 30, 15, 250};
+static const struct fuzzy_moment tuesday = {2026, 2, 10, 9, 30, 15, 250};
 
-static uint64_t list_with_room(const char *rule, size_t n, const uint32_t s[FUZZY_MOMENT_NUMBERS], struct lent *l, size_t room) {
-    return fuzzy_list((const uint8_t *)rule, n, s[0], s[1], s[2], s[3], s[4], s[5], s[6], l->in.moments, room);
+/* The moment of a date, year, month and day in one number, at so many milliseconds of 09:30:15. */
+static struct fuzzy_moment on_date(uint32_t date, uint32_t millisecond) {
+    struct fuzzy_moment moment = tuesday;
+    moment.year = date / 10000;
+    moment.month = date / 100 % 100;
+    moment.day = date % 100;
+    moment.millisecond = millisecond;
+    return moment;
 }
 
-/* the dates of a rule's occurrences from Tuesday on, year, month and day in one number each, at the start's time of day: with so many numbers
- * of room and, where they fill it, with a number less, down to none */
+/* An answer that counts the occurrences of a rule from Tuesday on, whose dates are given, and nothing written after them. */
+static void rows_are(const struct lent *l, uint64_t answer, size_t count, const uint32_t *dates) {
+    size_t i;
+    expect(fuzzy_ok(answer) && fuzzy_place(answer) == 0 && fuzzy_length(answer) == count, "a rule that is listed");
+    for (i = 0; i < count; i++) {
+        struct fuzzy_moment wanted = on_date(dates[i], tuesday.millisecond);
+        expect(memcmp(&l->in.moments[i], &wanted, sizeof wanted) == 0, "an occurrence");
+    }
+    expect(kept_from(l, count * sizeof l->in.moments[0]), "nothing written but the occurrences");
+}
+
+/* The dates of a rule's occurrences from Tuesday on: with room for so many moments, for a number less than one more, and, where they fill
+ * the room, for one less, down to none. */
 static void listed(const char *rule, size_t room, size_t count, const uint32_t *dates) {
     struct lent l = fresh();
-    uint64_t answer = list_with_room(rule, strlen(rule), tuesday, &l, room);
-    size_t i;
-    expect(fuzzy_number(answer) == 0 && fuzzy_place(answer) == 0 && fuzzy_length(answer) == count, "a rule that is listed");
-    for (i = 0; i < count; i++) {
-        const uint32_t *row = l.in.moments + FUZZY_MOMENT_NUMBERS * i;
-        expect(10000 * row[0] + 100 * row[1] + row[2] == dates[i], "the date of an occurrence");
-        expect(memcmp(row + 3, tuesday + 3, 4 * sizeof *row) == 0, "its time of day");
-    }
-    expect(kept_from(&l, count * FUZZY_MOMENT_NUMBERS * sizeof *dates), "nothing written but the rows");
-    if (count > 0 && count == room / FUZZY_MOMENT_NUMBERS) listed(rule, FUZZY_MOMENT_NUMBERS * count - 1, count - 1, dates);
+    size_t n = strlen(rule), numbers = FUZZY_MOMENT_NUMBERS * room + FUZZY_MOMENT_NUMBERS - 1;
+    rows_are(&l, fuzzy_list(rule, n, &tuesday, l.in.moments, room), count, dates);
+    l = fresh();
+    if (room < MOST_MOMENTS) rows_are(&l, fuzzy_list_in(rule, n, &tuesday, l.in.numbers, numbers), count, dates);
+    if (count > 0 && count == room) listed(rule, room - 1, count - 1, dates);
 }
 
-/* a rule or a start that is refused, and nothing written */
-static void unlisted(const char *rule, size_t n, const uint32_t s[FUZZY_MOMENT_NUMBERS], unsigned number) {
+/* A length above all that a rule may have is taken as that: only as many as the rule has are written. */
+static void listed_without_end(uint64_t room) {
+    static const uint32_t days[] = {20260210, 20260211, 20260212};
     struct lent l = fresh();
-    expect(list_with_room(rule, n, s, &l, MOST_ROWS * FUZZY_MOMENT_NUMBERS) == number, "a rule that is not listed");
-    expect(list_with_room(rule, n, s, &l, 0) == number, "a rule that is not listed without room");
+    rows_are(&l, fuzzy_list("FREQ=DAILY;COUNT=3", 18, &tuesday, l.in.moments, room), 3, days);
+}
+
+/* A rule or a start that is refused, and nothing written. */
+static void unlisted(const char *rule, size_t n, const struct fuzzy_moment *start, unsigned number) {
+    struct lent l = fresh();
+    expect(fuzzy_list(rule, n, start, l.in.moments, MOST_MOMENTS) == number, "a rule that is not listed");
+    expect(fuzzy_list(rule, n, start, l.in.moments, 0) == number, "a rule that is not listed without room");
+    expect(fuzzy_list(rule, n, start, NULL, 0) == number, "a rule that is not listed without a buffer");
     expect(kept_from(&l, 0), "nothing written for a rule that is not listed");
 }
 
@@ -329,71 +344,62 @@ static void rules(const char *many, size_t n) {
     static const uint32_t sundays_too[] = {20260210, 20260215, 20260224, 20260301};
     static const uint32_t days[] = {20260210, 20260211, 20260212};
     static const uint32_t months[] = {20260210, 20260310, 20260410, 20260510};
-    static const uint32_t past[FUZZY_MOMENT_NUMBERS] = {10000, 1, 1, 0, 0, 0, 0};
-    static const uint32_t no_day[FUZZY_MOMENT_NUMBERS] = {2026, 2, 29, 9, 30, 15, 250};
-    static const uint32_t no_time[FUZZY_MOMENT_NUMBERS] = {2026, 2, 10, 9, 30, 15, 1000};
-    listed("FREQ=WEEKLY;INTERVAL=2;BYDAY=TU", 35, 5, fortnights);
-    listed("freq=weekly;wkst=mo;byday=tu;interval=002", 41, 5, fortnights);
-    listed("FREQ=WEEKLY;INTERVAL=2;BYDAY=SU,TU,SU", 28, 4, sundays_too);
-    listed("FREQ=DAILY;COUNT=3", 56, 3, days);
-    listed("FREQ=DAILY;UNTIL=20260212", 56, 3, days);
-    listed("FREQ=DAILY;UNTIL=20260212T093015", 56, 2, days);
-    listed("FREQ=DAILY;UNTIL=20260212T093016", 56, 3, days);
-    listed("FREQ=MONTHLY;BYMONTHDAY=+10;COUNT=4294967295", 34, 4, months);
-    listed("FREQ=MONTHLY", 6, 0, months);
-    unlisted("FREQ=WEEKLY;BYDAY=MO", 20, tuesday, FUZZY_NO_START);
-    unlisted("FREQ=MONTHLY;BYMONTHDAY=11", 26, tuesday, FUZZY_NO_START);
-    unlisted("FREQ=DAILY;UNTIL=20260209", 25, tuesday, FUZZY_NO_START);
-    unlisted("FREQ=DAILY;UNTIL=20260210T093015", 32, tuesday, FUZZY_NO_START);
-    unlisted("", 0, tuesday, FUZZY_NO_RULE);
-    unlisted("FREQ=DAILY\n", 11, tuesday, FUZZY_NO_RULE);
-    unlisted("FREQ=YEARLY", 11, tuesday, FUZZY_NO_RULE);
-    unlisted("RRULE:FREQ=DAILY", 16, tuesday, FUZZY_NO_RULE);
-    unlisted("FREQ=WEEKLY;BYDAY=MO;BYDAY=MO", 29, tuesday, FUZZY_NO_RULE);
-    unlisted("FREQ=DAILY;UNTIL=20260212T093015Z", 33, tuesday, FUZZY_NO_RULE);
-    unlisted(many, n, tuesday, FUZZY_NO_RULE);
-    unlisted("FREQ=DAILY", 10, past, FUZZY_NO_NOW);
-    unlisted("FREQ=YEARLY", 11, no_day, FUZZY_NO_NOW);
-    unlisted("FREQ=WEEKLY;BYDAY=MO", 20, no_time, FUZZY_NO_NOW);
+    static const struct fuzzy_moment past = {10000, 1, 1, 0, 0, 0, 0};
+    static const struct fuzzy_moment no_day = {2026, 2, 29, 9, 30, 15, 250};
+    static const struct fuzzy_moment no_time = {2026, 2, 10, 9, 30, 15, 1000};
+    listed("FREQ=WEEKLY;INTERVAL=2;BYDAY=TU", 5, 5, fortnights);
+    listed("freq=weekly;wkst=mo;byday=tu;interval=002", 5, 5, fortnights);
+    listed("FREQ=WEEKLY;INTERVAL=2;BYDAY=SU,TU,SU", 4, 4, sundays_too);
+    listed("FREQ=DAILY;COUNT=3", MOST_MOMENTS, 3, days);
+    listed("FREQ=DAILY;UNTIL=20260212", MOST_MOMENTS, 3, days);
+    listed("FREQ=DAILY;UNTIL=20260212T093015", MOST_MOMENTS, 2, days);
+    listed("FREQ=DAILY;UNTIL=20260212T093016", MOST_MOMENTS, 3, days);
+    listed("FREQ=MONTHLY;BYMONTHDAY=+10;COUNT=4294967295", 4, 4, months);
+    listed("FREQ=MONTHLY", 0, 0, months);
+    listed_without_end(3);
+    listed_without_end(FUZZY_MOST_OCCURRENCES - 1);
+    listed_without_end(FUZZY_MOST_OCCURRENCES);
+    listed_without_end(FUZZY_MOST_OCCURRENCES + 1);
+    listed_without_end(UINT64_MAX / FUZZY_MOMENT_NUMBERS + 1);
+    listed_without_end(UINT64_MAX);
+    unlisted("FREQ=WEEKLY;BYDAY=MO", 20, &tuesday, FUZZY_NO_START);
+    unlisted("FREQ=MONTHLY;BYMONTHDAY=11", 26, &tuesday, FUZZY_NO_START);
+    unlisted("FREQ=DAILY;UNTIL=20260209", 25, &tuesday, FUZZY_NO_START);
+    unlisted("FREQ=DAILY;UNTIL=20260210T093015", 32, &tuesday, FUZZY_NO_START);
+    unlisted("", 0, &tuesday, FUZZY_NO_RULE);
+    unlisted("FREQ=DAILY\n", 11, &tuesday, FUZZY_NO_RULE);
+    unlisted("FREQ=YEARLY", 11, &tuesday, FUZZY_NO_RULE);
+    unlisted("RRULE:FREQ=DAILY", 16, &tuesday, FUZZY_NO_RULE);
+    unlisted("FREQ=WEEKLY;BYDAY=MO;BYDAY=MO", 29, &tuesday, FUZZY_NO_RULE);
+    unlisted("FREQ=DAILY;UNTIL=20260212T093015Z", 33, &tuesday, FUZZY_NO_RULE);
+    unlisted(many, n, &tuesday, FUZZY_NO_RULE);
+    unlisted("FREQ=DAILY", 10, &past, FUZZY_INVALID_MOMENT);
+    unlisted("FREQ=YEARLY", 11, &no_day, FUZZY_INVALID_MOMENT);
+    unlisted("FREQ=WEEKLY;BYDAY=MO", 20, &no_time, FUZZY_INVALID_MOMENT);
 }
 
-static uint64_t next_at(const char *rule, size_t n, const uint32_t s[FUZZY_MOMENT_NUMBERS], const uint32_t a[FUZZY_MOMENT_NUMBERS], struct lent *l) {
-    return fuzzy_next((const uint8_t *)rule, n, s[0], s[1], s[2], s[3], s[4], s[5], s[6], a[0], a[1], a[2], a[3], a[4], a[5], a[6], l->in.moment);
-}
-
-/* the moment of a date, year, month and day in one number, at so many milliseconds of 09:30:15 */
-static void on_date(uint32_t date, uint32_t millisecond, uint32_t moment[FUZZY_MOMENT_NUMBERS]) {
-    memcpy(moment, tuesday, FUZZY_MOMENT_NUMBERS * sizeof *moment);
-    moment[0] = date / 10000;
-    moment[1] = date / 100 % 100;
-    moment[2] = date % 100;
-    moment[6] = millisecond;
-}
-
-/* the date of the occurrence that comes next, from Tuesday on, as asked at so many milliseconds of 09:30:15 on a date; 0 where none is left */
+/* The date of the occurrence that comes next, from Tuesday on, as asked at so many milliseconds of 09:30:15 on a date; 0 where none is
+ * left. */
 static void comes(const char *rule, uint32_t asked_date, uint32_t millisecond, uint32_t date) {
+    struct fuzzy_moment asked = on_date(asked_date, millisecond), wanted = on_date(date, tuesday.millisecond);
     struct lent l = fresh();
-    uint32_t asked[FUZZY_MOMENT_NUMBERS], wanted[FUZZY_MOMENT_NUMBERS];
-    uint64_t answer;
-    on_date(asked_date, millisecond, asked);
-    on_date(date, tuesday[6], wanted);
-    answer = next_at(rule, strlen(rule), tuesday, asked, &l);
-    expect(answer == (date == 0 ? FUZZY_NO_NEXT : 0), "whether an occurrence comes next");
-    if (date != 0) expect(memcmp(l.in.moment, wanted, sizeof wanted) == 0, "the occurrence that comes next");
+    expect(fuzzy_next(rule, strlen(rule), &tuesday, &asked, &l.in.moment) == (date == 0 ? FUZZY_NO_NEXT : 0),
+           "whether an occurrence comes next");
+    if (date != 0) expect(memcmp(&l.in.moment, &wanted, sizeof wanted) == 0, "the occurrence that comes next");
     expect(kept_from(&l, date == 0 ? 0 : sizeof wanted), "nothing written but the occurrence");
 }
 
-/* a rule, a start or an asked moment that is refused, and nothing written */
-static void unasked(const char *rule, size_t n, const uint32_t s[FUZZY_MOMENT_NUMBERS], const uint32_t a[FUZZY_MOMENT_NUMBERS], unsigned number) {
+/* A rule, a start or an asked moment that is refused, and nothing written. The asked moment is a copy: it may be the start. */
+static void unasked(const char *rule, size_t n, const struct fuzzy_moment *start, struct fuzzy_moment asked, unsigned number) {
     struct lent l = fresh();
-    expect(next_at(rule, n, s, a, &l) == number, "what cannot be asked");
+    expect(fuzzy_next(rule, n, start, &asked, &l.in.moment) == number, "what cannot be asked");
     expect(kept_from(&l, 0), "nothing written for what cannot be asked");
 }
 
 static void asked_rules(const char *many, size_t n) {
-    static const uint32_t past[FUZZY_MOMENT_NUMBERS] = {10000, 1, 1, 0, 0, 0, 0};
-    static const uint32_t no_time[FUZZY_MOMENT_NUMBERS] = {2026, 2, 10, 9, 30, 15, 1000};
-    static const uint32_t last[FUZZY_MOMENT_NUMBERS] = {9999, 12, 31, 23, 59, 59, 999};
+    static const struct fuzzy_moment past = {10000, 1, 1, 0, 0, 0, 0};
+    static const struct fuzzy_moment no_time = {2026, 2, 10, 9, 30, 15, 1000};
+    static const struct fuzzy_moment last = {9999, 12, 31, 23, 59, 59, 999};
     comes("FREQ=WEEKLY;INTERVAL=2;BYDAY=TU", 10101, 0, 20260210);
     comes("FREQ=WEEKLY;INTERVAL=2;BYDAY=TU", 20260210, 250, 20260210);
     comes("FREQ=WEEKLY;INTERVAL=2;BYDAY=TU", 20260210, 251, 20260224);
@@ -410,60 +416,63 @@ static void asked_rules(const char *many, size_t n) {
     comes("FREQ=DAILY", 99991231, 251, 0);
     comes("FREQ=MONTHLY;BYMONTHDAY=+10;COUNT=95687", 99991111, 0, 99991210);
     comes("FREQ=MONTHLY;BYMONTHDAY=+10;COUNT=95686", 99991111, 0, 0);
-    unasked("FREQ=WEEKLY;BYDAY=MO", 20, tuesday, last, FUZZY_NO_START);
-    unasked("FREQ=DAILY;UNTIL=20260209", 25, tuesday, last, FUZZY_NO_START);
-    unasked("", 0, tuesday, tuesday, FUZZY_NO_RULE);
-    unasked("FREQ=YEARLY", 11, tuesday, last, FUZZY_NO_RULE);
-    unasked(many, n, tuesday, tuesday, FUZZY_NO_RULE);
-    unasked("FREQ=DAILY", 10, past, tuesday, FUZZY_NO_NOW);
-    unasked("FREQ=DAILY", 10, tuesday, past, FUZZY_NO_NOW);
-    unasked("FREQ=YEARLY", 11, tuesday, no_time, FUZZY_NO_NOW);
-    unasked("FREQ=WEEKLY;BYDAY=MO", 20, no_time, last, FUZZY_NO_NOW);
+    unasked("FREQ=WEEKLY;BYDAY=MO", 20, &tuesday, last, FUZZY_NO_START);
+    unasked("FREQ=DAILY;UNTIL=20260209", 25, &tuesday, last, FUZZY_NO_START);
+    unasked("", 0, &tuesday, tuesday, FUZZY_NO_RULE);
+    unasked("FREQ=YEARLY", 11, &tuesday, last, FUZZY_NO_RULE);
+    unasked(many, n, &tuesday, tuesday, FUZZY_NO_RULE);
+    unasked("FREQ=DAILY", 10, &past, tuesday, FUZZY_INVALID_MOMENT);
+    unasked("FREQ=DAILY", 10, &tuesday, past, FUZZY_INVALID_MOMENT);
+    unasked("FREQ=YEARLY", 11, &tuesday, no_time, FUZZY_INVALID_MOMENT);
+    unasked("FREQ=WEEKLY;BYDAY=MO", 20, &no_time, last, FUZZY_INVALID_MOMENT);
 }
 
-/* the most bytes of a zone's file, and one more */
+/* The most bytes of a zone's file, and one more. */
 static uint8_t zone[65537];
 static size_t zone_length;
 
-/* 01:30:00 on 8 March 2026, half an hour before New York's clocks go forward; the last transition that the file has */
+/* 01:30:00 on 8 March 2026, half an hour before New York's clocks go forward; the last transition that the file has. */
 #define BEFORE_GAP 1772951400
 #define LAST 1805007600
 
-/* a phrase at an instant in the zone, read, and run where it can be made ready: the same answer, and the same written by both */
+/* A phrase at an instant in the zone, read, and run where it can be made ready: the same answer, and the same written by both. */
 static uint64_t in_zone(uint32_t reading, const char *phrase, size_t n, int64_t second, uint32_t ms, struct lent *due, struct lent *local) {
     struct lent ready = fresh(), d = fresh(), l = fresh();
-    uint64_t made = fuzzy_make_ready(reading, (const uint8_t *)phrase, n, ready.in.ready);
-    uint64_t answer = fuzzy_read_in_zone(reading, (const uint8_t *)phrase, n, zone, zone_length, second, ms, &due->in.due, local->in.local);
-    if (fuzzy_number(made) != 0) {
+    uint64_t made = fuzzy_make_ready(reading, phrase, n, ready.in.ready), run;
+    uint64_t answer = fuzzy_read_in_zone(reading, phrase, n, zone, zone_length, second, ms, &due->in.due, &local->in.local);
+    if (!fuzzy_ok(made)) {
         expect(answer == made, "reading in a zone refuses as making ready does");
         return answer;
     }
-    expect(fuzzy_run_in_zone(ready.in.ready, fuzzy_length(made), zone, zone_length, second, ms, &d.in.due, l.in.local) == answer, "running in a zone");
+    run = fuzzy_run_in_zone(ready.in.ready, fuzzy_length(made), zone, zone_length, second, ms, &d.in.due, &l.in.local);
+    expect(run == answer, "running in a zone");
     expect(memcmp(&d, due, sizeof d) == 0 && memcmp(&l, local, sizeof l) == 0, "what running in a zone writes");
     return answer;
 }
 
-/* an instant and what New York's clocks show there, month to second, in 2026 and an offset of so many hours to the west; the milliseconds are kept or 0 */
-static void due_at(const char *phrase, int64_t second, int64_t due, uint32_t mo, uint32_t d, uint32_t h, uint32_t mi, uint32_t ms, uint32_t hours) {
-    const uint32_t wanted[FUZZY_LOCAL_NUMBERS] = {2026, mo, d, h, mi, 0, ms, 1, 3600 * hours};
+/* An instant and what New York's clocks show then, month to second, in 2026 and an offset of so many hours to the west; the milliseconds
+ * are kept or 0. */
+static void due_at(const char *phrase, int64_t second, int64_t due, uint32_t mo, uint32_t d, uint32_t h, uint32_t mi, uint32_t ms,
+                   uint32_t hours) {
+    const struct fuzzy_local wanted = {{2026, mo, d, h, mi, 0, ms}, 1, 3600 * hours};
     uint32_t reading;
     for (reading = FUZZY_FIRST; reading <= FUZZY_SECOND; reading++) {
         struct lent at = fresh(), local = fresh();
         expect(in_zone(reading, phrase, strlen(phrase), second, 250, &at, &local) == 0, "a phrase in a zone");
         expect(at.in.due == due, "its instant");
-        expect(memcmp(local.in.local, wanted, sizeof wanted) == 0, "what the clocks show");
+        expect(memcmp(&local.in.local, &wanted, sizeof wanted) == 0, "what the clocks show");
         expect(kept_from(&at, sizeof due) && kept_from(&local, sizeof wanted), "nothing written but the instant and what the clocks show");
     }
 }
 
-/* a refusal in the zone, and nothing written */
+/* A refusal in the zone, and nothing written. */
 static void undue(uint32_t reading, const char *phrase, size_t n, int64_t second, uint32_t ms, unsigned number) {
     struct lent due = fresh(), local = fresh();
     expect(fuzzy_number(in_zone(reading, phrase, n, second, ms, &due, &local)) == number, "the number of a refusal in a zone");
     expect(kept_from(&due, 0) && kept_from(&local, 0), "nothing written on a refusal in a zone");
 }
 
-/* the same at half past one in the first reading */
+/* The same at half past one in the first reading. */
 static void undue_phrase(const char *phrase, unsigned number) {
     undue(FUZZY_FIRST, phrase, strlen(phrase), BEFORE_GAP, 250, number);
 }
@@ -490,16 +499,16 @@ static void zones(const char *many, size_t n) {
     undue_phrase("this month", FUZZY_NO_SENSE);
     undue(FUZZY_SECOND, "now", 3, LAST, 0, FUZZY_PAST_LAST);
     undue(FUZZY_SECOND, "this month", 10, LAST, 0, FUZZY_PAST_LAST);
-    undue(FUZZY_SECOND, "now", 3, LAST, 1000, FUZZY_NO_NOW);
-    undue(FUZZY_SECOND, "now", 3, BEFORE_GAP, UINT32_MAX, FUZZY_NO_NOW);
-    undue(FUZZY_SECOND, "now", 3, INT64_MIN, 0, FUZZY_NO_NOW);
+    undue(FUZZY_SECOND, "now", 3, LAST, 1000, FUZZY_INVALID_MOMENT);
+    undue(FUZZY_SECOND, "now", 3, BEFORE_GAP, UINT32_MAX, FUZZY_INVALID_MOMENT);
+    undue(FUZZY_SECOND, "now", 3, INT64_MIN, 0, FUZZY_INVALID_MOMENT);
     undue(FUZZY_SECOND, "now", 3, INT64_MAX, 0, FUZZY_PAST_LAST);
     undue(0, "now", 3, BEFORE_GAP, 1000, FUZZY_NO_READING);
     undue(FUZZY_FIRST, many, n, BEFORE_GAP, 1000, FUZZY_TOO_LONG);
     undue(FUZZY_FIRST, "5/2", 3, LAST, 1000, FUZZY_LEFT_OVER);
 }
 
-/* bytes that are no zone, by both calls: behind what making ready refuses, before everything else */
+/* Bytes that are not a zone, by both calls: after what making ready refuses, before everything else. */
 static void unzoned(void) {
     undue(FUZZY_FIRST, "now", 3, BEFORE_GAP, 0, FUZZY_NO_ZONE);
     undue(FUZZY_SECOND, "this month", 10, LAST, 1000, FUZZY_NO_ZONE);
@@ -507,17 +516,18 @@ static void unzoned(void) {
     undue(UINT32_MAX, "", 0, BEFORE_GAP, 0, FUZZY_NO_READING);
 }
 
-/* a zone with a bit changed: refused, or another zone, in which "tomorrow" may be refused too */
+/* A zone with a bit changed: refused, or another zone, in which "tomorrow" may be refused too. */
 static void damaged(void) {
     struct lent due = fresh(), local = fresh();
     uint64_t answer = in_zone(FUZZY_FIRST, "tomorrow", 8, BEFORE_GAP, 250, &due, &local);
     int written = answer == 0, by_zone = answer >= FUZZY_NO_ZONE && answer <= FUZZY_NO_INSTANT;
-    expect(written || answer == FUZZY_NO_NOW || answer == FUZZY_OUTSIDE || by_zone, "an answer in a damaged zone");
+    expect(written || answer == FUZZY_INVALID_MOMENT || answer == FUZZY_OUTSIDE || by_zone, "an answer in a damaged zone");
     expect(kept_from(&due, written ? sizeof due.in.due : 0), "nothing written but the instant in a damaged zone");
     expect(kept_from(&local, written ? sizeof local.in.local : 0), "nothing written but what the clocks of a damaged zone show");
 }
 
-/* the file cut short, with each bit changed, and with as many bytes behind it as a zone may have, and one more; then bytes that are no file */
+/* The file cut short, with each bit changed, and with as many bytes after it as a zone may have, and one more; then bytes that are not a
+ * file. */
 static void files(const char *many, size_t n) {
     size_t whole = zone_length, i;
     for (zone_length = 0; zone_length < whole; zone_length++) unzoned();
@@ -534,13 +544,14 @@ static void files(const char *many, size_t n) {
     for (zone_length = 0; zone_length <= n; zone_length += 64) unzoned();
 }
 
-/* ready phrases that are none, in a zone */
+/* Bytes that are not a ready phrase, in a zone. */
 static void unready(const char *many) {
+    const uint8_t *bytes = (const uint8_t *)many;
     struct lent due = fresh(), local = fresh();
-    expect(fuzzy_run_in_zone((const uint8_t *)"", 0, zone, zone_length, 0, 0, &due.in.due, local.in.local) == FUZZY_NO_SENSE, "no step in a zone");
-    expect(fuzzy_run_in_zone((const uint8_t *)many, 400, zone, zone_length, 0, 0, &due.in.due, local.in.local) == FUZZY_NO_SENSE, "25 records");
-    expect(fuzzy_run_in_zone((const uint8_t *)"", 0, zone, zone_length, LAST, 0, &due.in.due, local.in.local) == FUZZY_PAST_LAST, "22 before 9");
-    expect(kept_from(&due, 0) && kept_from(&local, 0), "nothing written for what is no ready phrase");
+    expect(fuzzy_run_in_zone(bytes, 0, zone, zone_length, 0, 0, &due.in.due, &local.in.local) == FUZZY_NO_SENSE, "no step in a zone");
+    expect(fuzzy_run_in_zone(bytes, 400, zone, zone_length, 0, 0, &due.in.due, &local.in.local) == FUZZY_NO_SENSE, "25 records in a zone");
+    expect(fuzzy_run_in_zone(bytes, 0, zone, zone_length, LAST, 0, &due.in.due, &local.in.local) == FUZZY_PAST_LAST, "22 before 9");
+    expect(kept_from(&due, 0) && kept_from(&local, 0), "nothing written for what is not a ready phrase");
 }
 
 static void take_zone(const char *name) {
@@ -550,7 +561,7 @@ static void take_zone(const char *name) {
     fclose(file);
 }
 
-/* a board between two guards, and how it was before a call */
+/* A board between two guards, and how it was before a call. */
 static struct guarded {
     uint8_t before[GUARD];
     struct fuzzy_board board;
@@ -559,68 +570,69 @@ static struct guarded {
 
 #define IN_SLOT(slot) ((uint64_t)(slot) << 32)
 
-/* the guards of the board are as they were */
+/* The guards of the board are as they were. */
 static void board_guarded(void) {
     size_t i;
     for (i = 0; i < GUARD; i++) expect(held.before[i] == PATTERN && held.after[i] == PATTERN, "nothing written beside a board");
 }
 
-/* a call's answer; where it is a refusal, every byte of the board is as it was */
+/* A call's answer; where it is a refusal, every byte of the board is as it was. */
 static void answered(uint64_t answer, uint64_t wanted, const char *what) {
     expect(answer == wanted, what);
-    if (fuzzy_number(wanted) != 0) expect(memcmp(&held, &was, sizeof held) == 0, "a refused call leaves the board as before");
+    if (!fuzzy_ok(wanted)) expect(memcmp(&held, &was, sizeof held) == 0, "a refused call leaves the board unchanged");
     board_guarded();
     was = held;
 }
 
 static uint64_t add_phrase(uint32_t reading, const char *phrase) {
-    return fuzzy_board_add(&held.board, reading, (const uint8_t *)phrase, strlen(phrase));
+    return fuzzy_board_add(&held.board, reading, phrase, strlen(phrase));
 }
 
 static uint64_t again_at(uint32_t year, uint32_t month, uint32_t day, uint32_t millisecond) {
-    return fuzzy_board_again(&held.board, year, month, day, 0, 0, 0, millisecond);
+    return fuzzy_board_again(&held.board, AT(year, month, day, 0, 0, 0, millisecond));
 }
 
-/* the head's slot, month, day and hour; in no slot 26, and nothing written */
+/* The head's slot, month, day and hour; in no slot 26, and nothing written. */
 static void heads(uint32_t slot, uint32_t month, uint32_t day, uint32_t hour) {
     struct lent l = fresh();
-    uint64_t answer = fuzzy_board_head(&held.board, l.in.moment);
+    uint64_t answer = fuzzy_board_head(&held.board, &l.in.moment);
     int none = slot == FUZZY_BOARD_SLOTS;
-    expect(answer == (none ? FUZZY_NO_MOMENT : IN_SLOT(slot)), "the slot of a head");
-    if (!none) expect(l.in.moment[1] == month && l.in.moment[2] == day && l.in.moment[3] == hour, "the moment of a head");
+    expect(answer == (none ? FUZZY_NOTHING_DUE : IN_SLOT(slot)), "the slot of a head");
+    if (!none) expect(l.in.moment.month == month && l.in.moment.day == day && l.in.moment.hour == hour, "the moment of a head");
     expect(kept_from(&l, none ? 0 : sizeof l.in.moment), "nothing written but the head's moment");
-    expect(memcmp(&held, &was, sizeof held) == 0, "asking leaves the board as before");
+    expect(memcmp(&held, &was, sizeof held) == 0, "asking leaves the board unchanged");
 }
 
-/* the order has these slots, and nothing is written behind them */
+/* The order has these slots, and nothing is written after them. */
 static void ordered(const uint32_t *slots, size_t count) {
     static uint32_t found[FUZZY_BOARD_SLOTS + 1];
     size_t i;
     memset(found, PATTERN, sizeof found);
     expect(fuzzy_board_order(&held.board, found) == (uint64_t)count << 32, "the count of an order");
     expect(memcmp(found, slots, count * sizeof *slots) == 0, "the slots of an order");
-    for (i = count; i <= FUZZY_BOARD_SLOTS; i++) expect(found[i] == 0xa5a5a5a5u, "nothing written behind an order");
-    expect(memcmp(&held, &was, sizeof held) == 0, "asking leaves the board as before");
+    for (i = count; i <= FUZZY_BOARD_SLOTS; i++) expect(found[i] == 0xa5a5a5a5u, "nothing written after an order");
+    expect(memcmp(&held, &was, sizeof held) == 0, "asking leaves the board unchanged");
 }
 
-/* what adding refuses before it looks for a slot, in either reading */
+/* What adding refuses before it looks for a slot, in either reading. */
 static void unadded(const char *many) {
     answered(add_phrase(0, "forty"), FUZZY_NO_READING, "adding in no reading");
     answered(add_phrase(3, "now"), FUZZY_NO_READING, "adding in no reading");
-    answered(fuzzy_board_add(&held.board, 1, (const uint8_t *)many, 257), FUZZY_TOO_LONG, "adding a long phrase");
+    answered(fuzzy_board_add(&held.board, 1, many, 257), FUZZY_TOO_LONG, "adding a long phrase");
     answered(add_phrase(2, "next fryday"), FUZZY_UNKNOWN | 5u << 16 | (uint64_t)6 << 32, "adding what is not understood");
     answered(add_phrase(1, "4294967296 days ago"), FUZZY_LARGE_DIGITS | (uint64_t)10 << 32, "adding large digits");
-    answered(fuzzy_board_add(&held.board, 2, (const uint8_t *)many, 256), FUZZY_TOO_MANY | 128u << 16 | (uint64_t)1 << 32, "adding 65 numbers");
+    answered(fuzzy_board_add(&held.board, 2, many, 256), FUZZY_TOO_MANY | 128u << 16 | (uint64_t)1 << 32, "adding 65 numbers");
     answered(add_phrase(1, ""), FUZZY_NOTHING, "adding nothing");
+    answered(fuzzy_board_add(&held.board, 2, NULL, 0), FUZZY_NOTHING, "adding a null phrase");
     answered(add_phrase(2, "five billion days ago"), FUZZY_LARGE_SUM, "adding a large sum");
     answered(add_phrase(1, "5/2"), FUZZY_LEFT_OVER | 1u << 16 | (uint64_t)2 << 32, "adding what is left over");
 }
 
-/* few reminders: ties, one that refuses at every now, one that refuses at one, and both readings */
+/* Few reminders: ties, one that refuses at every now, one that refuses at one, and both readings. */
 static void small_board(const char *many) {
     static const uint32_t first[] = {1, 3, 4, 2, 0, 5, 6}, second[] = {3, 4, 2, 0, 5, 6};
     static const uint32_t leap_day[] = {3, 4, 2, 6, 0, 1, 5}, none[] = {0, 1};
-    answered(fuzzy_board_make(&held.board, 2026, 2, 30, 0, 0, 0, 0), FUZZY_NO_NOW, "a board at no now");
+    answered(fuzzy_board_make(&held.board, AT(2026, 2, 30, 0, 0, 0, 0)), FUZZY_INVALID_MOMENT, "a board at an invalid now");
     answered(fuzzy_board_make(&held.board, NOW), 0, "a board");
     heads(FUZZY_BOARD_SLOTS, 0, 0, 0);
     ordered(none, 0);
@@ -643,8 +655,8 @@ static void small_board(const char *many) {
     answered(fuzzy_board_remove(&held.board, 1), FUZZY_EMPTY_SLOT, "removing twice");
     ordered(second, 6);
     heads(3, 2, 11, 8);
-    answered(again_at(2026, 13, 1, 0), FUZZY_NO_NOW, "running again in month 13");
-    answered(again_at(2026, 2, 12, 1000), FUZZY_NO_NOW, "running again at millisecond 1000");
+    answered(again_at(2026, 13, 1, 0), FUZZY_INVALID_MOMENT, "running again in month 13");
+    answered(again_at(2026, 2, 12, 1000), FUZZY_INVALID_MOMENT, "running again at millisecond 1000");
     ordered(second, 6);
     answered(again_at(2026, 2, 12, 0), 0, "running again at midnight");
     heads(3, 2, 11, 23);
@@ -660,7 +672,7 @@ static void small_board(const char *many) {
     ordered(none, 1);
 }
 
-/* as many as there are slots, all at one moment, and no more */
+/* As many as there are slots, all at one moment, and no more. */
 static void full_board(const char *many) {
     static uint32_t slots[FUZZY_BOARD_SLOTS];
     uint32_t i;
@@ -673,7 +685,7 @@ static void full_board(const char *many) {
     heads(0, 2, 12, 9);
     answered(add_phrase(1, "now"), FUZZY_FULL_BOARD, "adding to a full board");
     unadded(many);
-    answered(again_at(2026, 2, 30, 0), FUZZY_NO_NOW, "running a full board again at no now");
+    answered(again_at(2026, 2, 30, 0), FUZZY_INVALID_MOMENT, "running a full board again at an invalid now");
     answered(again_at(2026, 2, 12, 0), 0, "running a full board again");
     heads(0, 2, 13, 0);
     answered(fuzzy_board_remove(&held.board, 200), 0, "removing from a full board");
@@ -684,25 +696,23 @@ static void full_board(const char *many) {
     answered(add_phrase(1, "now"), FUZZY_FULL_BOARD, "adding to a board that is full again");
 }
 
-/* memory that no call made: every call answers, and nothing beside it is written */
+/* Memory that no call made: every call answers, and nothing beside it is written. */
 static void any_memory(uint8_t filling, uint32_t count) {
     static uint32_t slots[FUZZY_BOARD_SLOTS];
-    uint32_t moment[FUZZY_MOMENT_NUMBERS], now[FUZZY_MOMENT_NUMBERS], slot;
+    struct fuzzy_moment moment, same;
     uint64_t answer;
+    uint32_t slot;
     size_t i;
     memset(&held.board, filling, sizeof held.board);
     held.board.state[7] = count;
-    answer = fuzzy_board_head(&held.board, moment);
-    expect(fuzzy_number(answer) == 0 || answer == FUZZY_NO_MOMENT, "a head of any memory");
-    if (fuzzy_number(answer) == 0) {
-        answer = fuzzy_read(FUZZY_FIRST, (const uint8_t *)"now", 3, moment[0], moment[1], moment[2], moment[3], moment[4], moment[5], moment[6], now);
-        expect(answer == 0, "a head of any memory is a moment");
-    }
+    answer = fuzzy_board_head(&held.board, &moment);
+    expect(fuzzy_ok(answer) || answer == FUZZY_NOTHING_DUE, "a head of any memory");
+    if (fuzzy_ok(answer)) expect(fuzzy_read(FUZZY_FIRST, "now", 3, &moment, &same) == 0, "a head of any memory is a valid moment");
     answer = fuzzy_board_order(&held.board, slots);
-    expect(fuzzy_number(answer) == 0 && fuzzy_length(answer) <= FUZZY_BOARD_SLOTS, "an order of any memory");
+    expect(fuzzy_ok(answer) && fuzzy_length(answer) <= FUZZY_BOARD_SLOTS, "an order of any memory");
     for (i = 0; i < fuzzy_length(answer); i++) expect(slots[i] < FUZZY_BOARD_SLOTS, "slots of any memory");
     answer = add_phrase(1, "next friday");
-    expect(fuzzy_number(answer) == 0 ? fuzzy_length(answer) < FUZZY_BOARD_SLOTS : answer == FUZZY_FULL_BOARD, "adding to any memory");
+    expect(fuzzy_ok(answer) ? fuzzy_length(answer) < FUZZY_BOARD_SLOTS : answer == FUZZY_FULL_BOARD, "adding to any memory");
     for (slot = 0; slot <= FUZZY_BOARD_SLOTS; slot++) {
         answer = fuzzy_board_remove(&held.board, slot);
         expect(answer == 0 || answer == FUZZY_EMPTY_SLOT, "removing from any memory");
@@ -728,6 +738,71 @@ static void boards(const char *many) {
     }
 }
 
+/* A null pointer with length 0 is an empty text, word, rule, ready phrase or zone, or no room, in every call that takes a length. */
+static void nulls(void) {
+    static const struct fuzzy_stamp stamp = {{2026, 2, 11, 9, 30, 15, 250}, 0, 0};
+    static const struct fuzzy_moment whole = {2026, 2, 11, 9, 30, 0, 0};
+    struct lent l = fresh(), ready = fresh();
+    expect(fuzzy_read(FUZZY_FIRST, NULL, 0, NOW, &l.in.moment) == FUZZY_NOTHING, "reading a null phrase");
+    expect(fuzzy_read(FUZZY_SECOND, NULL, 0, NOW, &l.in.moment) == FUZZY_NOTHING, "reading a null phrase in the second reading");
+    expect(fuzzy_make_ready(FUZZY_FIRST, NULL, 0, ready.in.ready) == FUZZY_NOTHING, "making a null phrase ready");
+    expect(fuzzy_run(NULL, 0, NOW, &l.in.moment) == FUZZY_NO_SENSE, "running a null ready phrase");
+    expect(fuzzy_read_stamp(NULL, 0, &l.in.stamp) == FUZZY_NO_STAMP, "reading a null stamp");
+    expect(fuzzy_write_stamp(&stamp, NULL, 0) == FUZZY_NO_ROOM, "writing a stamp into a null text");
+    expect(fuzzy_write_phrase(&whole, NULL, 0) == FUZZY_NO_ROOM, "writing a phrase into a null text");
+    expect(fuzzy_list(NULL, 0, &tuesday, l.in.moments, MOST_MOMENTS) == FUZZY_NO_RULE, "listing a null rule");
+    expect(fuzzy_list(NULL, 0, &tuesday, NULL, 0) == FUZZY_NO_RULE, "listing a null rule into nothing");
+    expect(fuzzy_list("FREQ=DAILY", 10, &tuesday, NULL, 0) == 0, "listing into nothing");
+    expect(fuzzy_list_in("FREQ=DAILY", 10, &tuesday, NULL, 0) == 0, "listing numbers into nothing");
+    expect(fuzzy_next(NULL, 0, &tuesday, NOW, &l.in.moment) == FUZZY_NO_RULE, "asking a null rule");
+    expect(kept_from(&l, 0) && kept_from(&ready, 0), "nothing written for a null pointer");
+    found_as(FUZZY_FIRST, NULL, 0, 0, 7);
+    found_as(FUZZY_SECOND, NULL, 0, 0, 7);
+}
+
+/* The same in the zone. */
+static void nulls_in_zone(void) {
+    struct lent ready = fresh(), due = fresh(), local = fresh();
+    uint64_t made = fuzzy_make_ready(FUZZY_FIRST, "now", 3, ready.in.ready);
+    int64_t *d = &due.in.due;
+    struct fuzzy_local *l = &local.in.local;
+    expect(fuzzy_read_in_zone(FUZZY_FIRST, NULL, 0, zone, zone_length, BEFORE_GAP, 0, d, l) == FUZZY_NOTHING,
+           "reading a null phrase in a zone");
+    expect(fuzzy_read_in_zone(FUZZY_FIRST, "now", 3, NULL, 0, BEFORE_GAP, 0, d, l) == FUZZY_NO_ZONE, "reading in a null zone");
+    expect(fuzzy_read_in_zone(FUZZY_FIRST, NULL, 0, NULL, 0, BEFORE_GAP, 0, d, l) == FUZZY_NOTHING, "reading a null phrase in a null zone");
+    expect(fuzzy_run_in_zone(NULL, 0, zone, zone_length, BEFORE_GAP, 0, d, l) == FUZZY_NO_SENSE, "running a null ready phrase in a zone");
+    expect(fuzzy_run_in_zone(ready.in.ready, fuzzy_length(made), NULL, 0, BEFORE_GAP, 0, d, l) == FUZZY_NO_ZONE, "running in a null zone");
+    expect(fuzzy_run_in_zone(NULL, 0, NULL, 0, BEFORE_GAP, 0, d, l) == FUZZY_NO_ZONE, "running a null ready phrase in a null zone");
+    expect(kept_from(&due, 0) && kept_from(&local, 0), "nothing written for a null pointer in a zone");
+}
+
+/* The version's numbers, its text, and the library's are one. */
+static void versions(void) {
+    char text[40];
+    snprintf(text, sizeof text, "%d.%d.%d", FUZZY_VERSION_MAJOR, FUZZY_VERSION_MINOR, FUZZY_VERSION_PATCH);
+    expect(strcmp(text, FUZZY_VERSION) == 0, "the version's text");
+    expect(fuzzy_version() == 1000000 * FUZZY_VERSION_MAJOR + 1000 * FUZZY_VERSION_MINOR + FUZZY_VERSION_PATCH, "the library's version");
+}
+
+/* Every refusal has words of its own, and a number that is not known has others. */
+static void refusals(void) {
+    const char *unknown = "a refusal of a newer library";
+    uint32_t i, k;
+    expect(strcmp(fuzzy_words(0), "done") == 0, "the words of success");
+    expect(strcmp(fuzzy_words(FUZZY_TOO_LONG), "longer than 256 bytes") == 0, "the words of the first refusal");
+    expect(strcmp(fuzzy_words(FUZZY_NOTHING_DUE), "no reminder has a moment") == 0, "the words of the last refusal");
+    for (i = 0; i <= FUZZY_NOTHING_DUE; i++) {
+        expect(fuzzy_words(i)[0] != '\0' && strcmp(fuzzy_words(i), unknown) != 0, "the words of a refusal");
+        for (k = 0; k < i; k++) expect(strcmp(fuzzy_words(i), fuzzy_words(k)) != 0, "words of its own");
+        expect(fuzzy_ok(i) == (i == 0) && fuzzy_number(i) == i && fuzzy_place(i) == 0 && fuzzy_length(i) == 0, "the parts of a refusal");
+    }
+    expect(strcmp(fuzzy_words(FUZZY_NOTHING_DUE + 1), unknown) == 0, "the words of the next number");
+    expect(strcmp(fuzzy_words(UINT32_MAX), unknown) == 0, "the words of the last number");
+    expect(fuzzy_number(UINT64_MAX) == 0xffff && fuzzy_place(UINT64_MAX) == 0xffff && fuzzy_length(UINT64_MAX) == UINT32_MAX,
+           "the largest parts");
+    expect(!fuzzy_ok(UINT64_MAX) && fuzzy_ok((uint64_t)7 << 32), "a refusal and a success that counts");
+}
+
 int main(int count, char **arguments) {
     static char many[4096];
     struct lent l = fresh();
@@ -750,8 +825,8 @@ int main(int count, char **arguments) {
 
     at_millisecond(0, 0);
     at_millisecond(999, 0);
-    at_millisecond(1000, FUZZY_NO_NOW);
-    at_millisecond(UINT32_MAX, FUZZY_NO_NOW);
+    at_millisecond(1000, FUZZY_INVALID_MOMENT);
+    at_millisecond(UINT32_MAX, FUZZY_INVALID_MOMENT);
 
     refused_as(0, "forty", 5, FUZZY_NO_READING, 0, 0);
     refused_as(3, "", 0, FUZZY_NO_READING, 0, 0);
@@ -778,11 +853,12 @@ int main(int count, char **arguments) {
     refused(many, sizeof many, FUZZY_TOO_LONG, 0, 0);
     refused_as(3, many, sizeof many, FUZZY_NO_READING, 0, 0);
 
-    expect(fuzzy_read(FUZZY_FIRST, (const uint8_t *)"today", 5, 10000, 1, 1, 0, 0, 0, 0, l.in.moment) == FUZZY_NO_NOW, "a now past the calendar");
-    expect(fuzzy_read(3, (const uint8_t *)"today", 5, 10000, 1, 1, 0, 0, 0, 0, l.in.moment) == FUZZY_NO_READING, "no such reading, before the now");
-    expect(fuzzy_read(FUZZY_FIRST, (const uint8_t *)"a year from now", 15, 2024, 2, 29, 12, 0, 0, 0, l.in.moment) == FUZZY_NO_LEAP_DAY, "29 February");
-    expect(fuzzy_run((const uint8_t *)"", 0, NOW, l.in.moment) == FUZZY_NO_SENSE, "no step");
-    expect(fuzzy_run((const uint8_t *)many, 400, NOW, l.in.moment) == FUZZY_NO_SENSE, "25 records");
+    expect(fuzzy_read(FUZZY_FIRST, "today", 5, AT(10000, 1, 1, 0, 0, 0, 0), &l.in.moment) == FUZZY_INVALID_MOMENT,
+           "a now after the calendar");
+    expect(fuzzy_read(3, "today", 5, AT(10000, 1, 1, 0, 0, 0, 0), &l.in.moment) == FUZZY_NO_READING, "an unknown reading, before the now");
+    expect(fuzzy_read(FUZZY_FIRST, "a year from now", 15, AT(2024, 2, 29, 12, 0, 0, 0), &l.in.moment) == FUZZY_NO_LEAP_DAY, "29 February");
+    expect(fuzzy_run((const uint8_t *)many, 0, NOW, &l.in.moment) == FUZZY_NO_SENSE, "no step");
+    expect(fuzzy_run((const uint8_t *)many, 400, NOW, &l.in.moment) == FUZZY_NO_SENSE, "25 records");
     expect(kept_from(&l, 0), "nothing written by any of these");
     stamps();
     words(many, sizeof many);
@@ -792,8 +868,12 @@ int main(int count, char **arguments) {
     if (count == 2) take_zone(arguments[1]);
     zones(many, sizeof many);
     unready(many);
+    nulls();
+    nulls_in_zone();
     files(many, sizeof many);
     boards(many);
+    versions();
+    refusals();
 
     printf(failed ? "some calls failed\n" : "every call answered as it should\n");
     return failed;

@@ -1,6 +1,6 @@
-/* Prints the most bytes of stack that reading, making ready and running, in a zone too, were seen to use, over the replayed list and over phrases that nest
- * as deeply as 256 bytes let them, those for rules over a rule of each FREQ, and those for boards over such phrases: stack LIST ZONE. A call runs on a stack
- * of its own that is full of a pattern; what an empty call uses is taken off. */
+/* Prints the most bytes of stack that reading, making ready and running, in a zone too, were seen to use, over the replayed list and over
+ * phrases that nest as deeply as 256 bytes let them, those for rules over a rule of each FREQ, and those for boards over such phrases:
+ * stack LIST ZONE. A call runs on a stack of its own that is full of a pattern; what an empty call uses is taken off. */
 #define _DEFAULT_SOURCE
 #include "fuzzy.h"
 #include "lent.h"
@@ -12,23 +12,24 @@
 static struct field stack;
 static struct line line;
 static uint8_t ready[FUZZY_READY_SIZE];
-static uint32_t moment[FUZZY_MOMENT_NUMBERS];
-static uint32_t rows[64 * FUZZY_MOMENT_NUMBERS];
+static struct fuzzy_moment moment, moments[64];
 static uint64_t made;
 static uint8_t zone[65536];
 static size_t zone_length;
 static int64_t due;
-static uint32_t local[FUZZY_LOCAL_NUMBERS];
+static struct fuzzy_local local;
 static struct fuzzy_board board;
 static uint32_t slots[FUZZY_BOARD_SLOTS];
 static ucontext_t here, there;
+
+static const struct fuzzy_moment leap_day = {2024, 2, 29, 12, 0, 0, 0}, last_leap_day = {9996, 2, 29, 12, 0, 0, 0};
+static const struct fuzzy_moment wednesday = {2026, 2, 11, 9, 30, 15, 250};
 
 static void call_nothing(void) {
 }
 
 static void call_read(void) {
-    const uint32_t *n = line.now;
-    fuzzy_read(FUZZY_FIRST, line.phrase, line.length, n[0], n[1], n[2], n[3], n[4], n[5], n[6], moment);
+    fuzzy_read(FUZZY_FIRST, line.phrase, line.length, &line.now, &moment);
 }
 
 static void call_make_ready(void) {
@@ -36,31 +37,30 @@ static void call_make_ready(void) {
 }
 
 static void call_run(void) {
-    const uint32_t *n = line.now;
-    fuzzy_run(ready, fuzzy_length(made), n[0], n[1], n[2], n[3], n[4], n[5], n[6], moment);
+    fuzzy_run(ready, fuzzy_length(made), &line.now, &moment);
 }
 
 /* An instant that New York's file knows. */
 #define SECOND 1772951400
 
 static void call_read_in_zone(void) {
-    fuzzy_read_in_zone(FUZZY_FIRST, line.phrase, line.length, zone, zone_length, SECOND, 0, &due, local);
+    fuzzy_read_in_zone(FUZZY_FIRST, line.phrase, line.length, zone, zone_length, SECOND, 0, &due, &local);
 }
 
 static void call_run_in_zone(void) {
-    fuzzy_run_in_zone(ready, fuzzy_length(made), zone, zone_length, SECOND, 0, &due, local);
+    fuzzy_run_in_zone(ready, fuzzy_length(made), zone, zone_length, SECOND, 0, &due, &local);
 }
 
 static void call_list(void) {
-    fuzzy_list(line.phrase, line.length, 2024, 2, 29, 12, 0, 0, 0, rows, sizeof rows / sizeof rows[0]);
+    fuzzy_list(line.phrase, line.length, &leap_day, moments, sizeof moments / sizeof moments[0]);
 }
 
 static void call_next(void) {
-    fuzzy_next(line.phrase, line.length, 2024, 2, 29, 12, 0, 0, 0, 9996, 2, 29, 12, 0, 0, 0, moment);
+    fuzzy_next(line.phrase, line.length, &leap_day, &last_leap_day, &moment);
 }
 
 static void call_board_make(void) {
-    fuzzy_board_make(&board, 2024, 2, 29, 12, 0, 0, 0);
+    fuzzy_board_make(&board, &leap_day);
 }
 
 static void call_board_add(void) {
@@ -72,11 +72,11 @@ static void call_board_remove(void) {
 }
 
 static void call_board_again(void) {
-    fuzzy_board_again(&board, 2026, 2, 11, 9, 30, 15, 250);
+    fuzzy_board_again(&board, &wednesday);
 }
 
 static void call_board_head(void) {
-    fuzzy_board_head(&board, moment);
+    fuzzy_board_head(&board, &moment);
 }
 
 static void call_board_order(void) {
@@ -109,14 +109,15 @@ static void measure(void) {
     static void (*const calls[PHRASES])(void) = {call_read, call_make_ready, call_read_in_zone, call_run, call_run_in_zone};
     size_t i;
     for (i = 0; i < PHRASES; i++) {
-        size_t used = i >= 3 && fuzzy_number(made) != 0 ? 0 : used_by(calls[i]);
+        size_t used = i >= 3 && !fuzzy_ok(made) ? 0 : used_by(calls[i]);
         if (used > most[i]) most[i] = used;
     }
 }
 
 /* The functions for boards, with the phrase of `line` as the only reminder. */
 static void keep(void) {
-    static void (*const calls[BOARDS])(void) = {call_board_make, call_board_add, call_board_again, call_board_head, call_board_order, call_board_remove};
+    static void (*const calls[BOARDS])(void) = {call_board_make, call_board_add,   call_board_again,
+                                                call_board_head, call_board_order, call_board_remove};
     size_t i;
     for (i = 0; i < BOARDS; i++) {
         size_t used = used_by(calls[i]);
@@ -148,10 +149,12 @@ static void repeat(const char *rule) {
 
 int main(int count, char **arguments) {
     static const char *const names[CALLS] = {
-        "fuzzy_read",       "fuzzy_make_ready", "fuzzy_read_in_zone", "fuzzy_run",        "fuzzy_run_in_zone", "fuzzy_list",         "fuzzy_next",
-        "fuzzy_board_make", "fuzzy_board_add",  "fuzzy_board_again",  "fuzzy_board_head", "fuzzy_board_order", "fuzzy_board_remove",
+        "fuzzy_read",       "fuzzy_make_ready",  "fuzzy_read_in_zone", "fuzzy_run",       "fuzzy_run_in_zone",
+        "fuzzy_list",       "fuzzy_next",        "fuzzy_board_make",   "fuzzy_board_add", "fuzzy_board_again",
+        "fuzzy_board_head", "fuzzy_board_order", "fuzzy_board_remove",
     };
-    static const char *const parts[] = {"million ", "1 million ", "a day after ", "1 day before ", "1day from", "1day after ", "1 day, ", "1 day and "};
+    static const char *const parts[] = {"million ",  "1 million ",  "a day after ", "1 day before ",
+                                        "1day from", "1day after ", "1 day, ",      "1 day and "};
     static const char *const ends[] = {"days ago", "today", "noon", "1 day ago", "now", ""};
     static char text[8192];
     size_t i, j, nothing;

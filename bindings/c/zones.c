@@ -1,16 +1,14 @@
-/* Reads so many phrases of a list, by turns in both readings, at random instants in a zone whose file has random bytes changed, and runs them made ready;
- * prints one digest of all answers and all bytes written: zones LIST ZONE COUNT. Where an instant is given, "now" at it must show the same. Every array
- * that is lent, phrase and file too, stands at a fence, by turns at the upper and the lower one, and nothing else of its pages may change. */
+/* Reads so many phrases of a list, by turns in both readings, at random instants in a zone whose file has random bytes changed, and runs
+ * them made ready; prints one digest of all answers and all bytes written: zones LIST ZONE COUNT. Where an instant is given, "now" at it
+ * must show the same. Every buffer that a call gets, phrase and file too, stands at a fence, by turns at the upper and the lower one, and
+ * nothing else of its pages may change. */
 #define _DEFAULT_SOURCE
 #include "fuzzy.h"
 #include "lent.h"
 
-#include <inttypes.h>
-
 #define MOST_LINES 20000
 #define MOST_TEXT 8192
 #define MOST_ZONE 65536
-#define LOCAL_SIZE (FUZZY_LOCAL_NUMBERS * sizeof(uint32_t))
 
 struct instant {
     int64_t second;
@@ -26,44 +24,46 @@ static uint8_t whole[MOST_ZONE];
 struct located {
     uint64_t answer;
     int64_t due;
-    uint32_t local[FUZZY_LOCAL_NUMBERS];
+    struct fuzzy_local local;
 };
 
-/* Keeps an answer with what was written, which is an instant and nine numbers, or nothing. */
-static struct located taken(uint64_t answer, const uint8_t *due, const uint8_t *local) {
-    struct located l = {0, 0, {0}};
-    size_t given = answer == 0;
-    if (!kept_but(dues, due, sizeof l.due, given * sizeof l.due)) stop("something else than the instant was written");
-    if (!kept_but(locals, local, LOCAL_SIZE, given * LOCAL_SIZE)) stop("something else than what the clocks show was written");
+/* Keeps an answer with what was written, which is an instant and what the clocks show then, or nothing. */
+static struct located taken(uint64_t answer, const int64_t *due, const struct fuzzy_local *local) {
+    struct located l = {0, 0, {{0, 0, 0, 0, 0, 0, 0}, 0, 0}};
+    size_t given = fuzzy_ok(answer);
+    if (!kept_but(dues, due, sizeof *due, given * sizeof *due)) stop("something else than the instant was written");
+    if (!kept_but(locals, local, sizeof *local, given * sizeof *local)) stop("something else than what the clocks show was written");
     l.answer = answer;
-    memcpy(&l.due, due, given * sizeof l.due);
-    memcpy(l.local, local, given * LOCAL_SIZE);
+    if (given) {
+        l.due = *due;
+        l.local = *local;
+    }
     return l;
 }
 
-static struct located read_in(uint32_t reading, const uint8_t *phrase, size_t n, const uint8_t *zone, struct instant now, int upper) {
-    uint8_t *due = lent(dues, sizeof(int64_t), upper), *local = lent(locals, LOCAL_SIZE, upper);
-    uint64_t answer = fuzzy_read_in_zone(reading, phrase, n, zone, zone_length, now.second, now.millisecond, (int64_t *)(void *)due,
-                                         (uint32_t *)(void *)local);
-    return taken(answer, due, local);
+static struct located read_in(uint32_t reading, const char *phrase, size_t n, const uint8_t *zone, struct instant now, int upper) {
+    int64_t *due = lent(dues, sizeof *due, upper);
+    struct fuzzy_local *local = lent(locals, sizeof *local, upper);
+    return taken(fuzzy_read_in_zone(reading, phrase, n, zone, zone_length, now.second, now.millisecond, due, local), due, local);
 }
 
 static struct located run_in(const uint8_t *ready, size_t n, const uint8_t *zone, struct instant now, int upper) {
-    uint8_t *due = lent(dues, sizeof(int64_t), upper), *local = lent(locals, LOCAL_SIZE, upper);
-    uint64_t answer = fuzzy_run_in_zone(ready, n, zone, zone_length, now.second, now.millisecond, (int64_t *)(void *)due, (uint32_t *)(void *)local);
-    return taken(answer, due, local);
+    int64_t *due = lent(dues, sizeof *due, upper);
+    struct fuzzy_local *local = lent(locals, sizeof *local, upper);
+    return taken(fuzzy_run_in_zone(ready, n, zone, zone_length, now.second, now.millisecond, due, local), due, local);
 }
 
 static int alike(const struct located *a, const struct located *b) {
-    return a->answer == b->answer && a->due == b->due && memcmp(a->local, b->local, LOCAL_SIZE) == 0;
+    return a->answer == b->answer && a->due == b->due && memcmp(&a->local, &b->local, sizeof a->local) == 0;
 }
 
 /* The same by running what is made ready, where that can be; else the refusal is that of making ready. */
-static void run_again(uint32_t reading, const uint8_t *phrase, size_t n, const uint8_t *zone, struct instant now, int upper, const struct located *read) {
+static void run_again(uint32_t reading, const char *phrase, size_t n, const uint8_t *zone, struct instant now, int upper,
+                      const struct located *read) {
     uint8_t *ready = lent(readies, FUZZY_READY_SIZE, upper);
     uint64_t made = fuzzy_make_ready(reading, phrase, n, ready);
     struct located run;
-    if (fuzzy_number(made) != 0) {
+    if (!fuzzy_ok(made)) {
         if (read->answer != made) stop("reading in a zone refuses otherwise than making ready");
         return;
     }
@@ -74,30 +74,28 @@ static void run_again(uint32_t reading, const uint8_t *phrase, size_t n, const u
 /* One phrase at one instant in one zone, by both calls. */
 static void answered(uint32_t reading, const struct line *l, const uint8_t *file, struct instant now) {
     int upper = (int)random_below(2);
-    uint8_t *phrase = lent(phrases, l->length, upper), *zone = lent(zones, zone_length, upper);
-    struct located read;
-    memcpy(phrase, l->phrase, l->length);
-    memcpy(zone, file, zone_length);
-    read = read_in(reading, phrase, l->length, zone, now, upper);
+    const char *phrase = lent_copy(phrases, l->phrase, l->length, upper);
+    const uint8_t *zone = lent_copy(zones, file, zone_length, upper);
+    struct located read = read_in(reading, phrase, l->length, zone, now, upper);
     run_again(reading, phrase, l->length, zone, now, upper, &read);
-    if (read.answer == 0) {
-        struct instant due = {read.due, read.local[6]};
-        struct located again = read_in(reading, (const uint8_t *)"now", 3, zone, due, upper);
+    if (fuzzy_ok(read.answer)) {
+        struct instant due = {read.due, read.local.moment.millisecond};
+        struct located again = read_in(reading, "now", 3, zone, due, upper);
         if (!alike(&again, &read)) stop("at the instant that is given the clocks show something else");
     }
-    if (memcmp(phrase, l->phrase, l->length) != 0 || !kept_but(phrases, phrase, l->length, l->length)) stop("a phrase was changed");
-    if (memcmp(zone, file, zone_length) != 0 || !kept_but(zones, zone, zone_length, zone_length)) stop("a zone was changed");
+    if (!unchanged(phrases, phrase, l->phrase, l->length)) stop("a phrase was changed");
+    if (!unchanged(zones, zone, file, zone_length)) stop("a zone was changed");
     answers_by_number[fuzzy_number(read.answer) % 32]++;
     add_number(read.answer);
     add_number((uint64_t)read.due);
-    add(read.local, LOCAL_SIZE);
+    add(&read.local, sizeof read.local);
 }
 
 /* Any second, most often one of few bits. */
 static int64_t random_second(void) {
     int64_t unit = (int64_t)1 << random_below(40);
-    uint64_t high = random_below((size_t)1 << 32);
-    return (int64_t)(high << 32 | random_below((size_t)1 << 32)) / unit;
+    uint64_t high = random_below((uint64_t)1 << 32);
+    return (int64_t)(high << 32 | random_below((uint64_t)1 << 32)) / unit;
 }
 
 /* Mostly near a transition of New York's file, else in the years 1900 to 2030, at times any; mostly with milliseconds of a second. */
@@ -113,7 +111,7 @@ static struct instant random_instant(void) {
     } else {
         now.second = random_second();
     }
-    now.millisecond = (uint32_t)random_below(random_below(32) == 0 ? (size_t)1 << 32 : 1000);
+    now.millisecond = (uint32_t)random_below(random_below(32) == 0 ? (uint64_t)1 << 32 : 1000);
     return now;
 }
 
@@ -146,14 +144,14 @@ int main(int count, char **arguments) {
     zones = fenced(zone_length);
     readies = fenced(FUZZY_READY_SIZE);
     dues = fenced(sizeof(int64_t));
-    locals = fenced(LOCAL_SIZE);
+    locals = fenced(sizeof(struct fuzzy_local));
     rounds = strtoul(arguments[3], NULL, 10);
     for (i = 0; i < rounds; i++) {
         const struct line *l = &lines[random_below(listed)];
         random_file(file);
         answered(1 + (uint32_t)(i % 2), l, file, random_instant());
     }
-    printf("zones: %lu phrases, %zu instants, %zu refused with 21, %zu with 22, %zu with 23: digest %016" PRIx64 "\n", rounds, answers_by_number[0],
-           answers_by_number[21], answers_by_number[22], answers_by_number[23], digest);
+    printf("zones: %lu phrases, %zu instants, %zu refused with 21, %zu with 22, %zu with 23: digest %016" PRIx64 "\n", rounds,
+           answers_by_number[0], answers_by_number[21], answers_by_number[22], answers_by_number[23], digest);
     return 0;
 }

@@ -1,6 +1,7 @@
-/* The functions of fuzzydate.Calls over fuzzy.h. Arrays are copied in and out, and nothing is kept between calls, so that they may run in any thread.
- * An array that is null or too short, and a copy that there is no memory for, leave one exception, and then nothing is called. A board is the memory of
- * a direct buffer, which is not copied: calls on one board may not run at the same time. */
+/* The functions of fuzzydate.Calls over fuzzy.h. Arrays are copied in and out, so that the buffers of a call never overlap, and nothing is kept between
+ * calls, so that they may run in any thread. An array that is null or too short, and a copy that there is no memory for, leave one
+ * exception, and then nothing is called. A board is the memory of a direct buffer, which is not copied: calls on one board may not run at
+ * the same time. */
 #include "fuzzy.h"
 
 #include <jni.h>
@@ -16,9 +17,6 @@
 #endif
 typedef char board_size[fuzzydate_Calls_BOARD_SIZE == sizeof(struct fuzzy_board) ? 1 : -1];
 #endif
-
-/* A moment's seven numbers as seven arguments. */
-#define SEVEN(n) (n)[0], (n)[1], (n)[2], (n)[3], (n)[4], (n)[5], (n)[6]
 
 static void raise_exception(JNIEnv *env, const char *name, const char *words) {
     jclass found = (*env)->FindClass(env, name);
@@ -39,16 +37,21 @@ static int has_room(JNIEnv *env, jarray array, jsize count) {
     return 1;
 }
 
-/* Copies the first numbers of an array; 0 with an exception where it hasn't so many. */
-static int take_numbers(JNIEnv *env, jintArray array, jsize count, uint32_t *numbers) {
+/* Copies the first numbers of an array to a struct of as many; 0 with an exception where it has fewer. */
+static int take_numbers(JNIEnv *env, jintArray array, jsize count, void *numbers) {
     if (!has_room(env, array, count)) return 0;
-    (*env)->GetIntArrayRegion(env, array, 0, count, (jint *)numbers);
+    (*env)->GetIntArrayRegion(env, array, 0, count, numbers);
     return !(*env)->ExceptionCheck(env);
 }
 
+static int take_moment(JNIEnv *env, jintArray array, struct fuzzy_moment *moment) {
+    return take_numbers(env, array, FUZZY_MOMENT_NUMBERS, moment);
+}
+
+/* A copy of an array's bytes: a text, a ready phrase or a zone. */
 struct bytes {
-    uint8_t *first;
-    size_t length;
+    void *first;
+    uint64_t length;
 };
 
 /* Copies all bytes of an array, to be freed; 0 with an exception and nothing to be freed where it is null or there is no memory. */
@@ -56,13 +59,13 @@ static int take_bytes(JNIEnv *env, jbyteArray array, struct bytes *bytes) {
     jsize n;
     if (!has_room(env, array, 0)) return 0;
     n = (*env)->GetArrayLength(env, array);
-    bytes->length = (size_t)n;
+    bytes->length = (uint64_t)n;
     bytes->first = malloc(n > 0 ? (size_t)n : 1);
     if (bytes->first == NULL) {
         raise_exception(env, "java/lang/OutOfMemoryError", "no memory for a copy of the bytes");
         return 0;
     }
-    (*env)->GetByteArrayRegion(env, array, 0, n, (jbyte *)bytes->first);
+    (*env)->GetByteArrayRegion(env, array, 0, n, bytes->first);
     if ((*env)->ExceptionCheck(env)) {
         free(bytes->first);
         return 0;
@@ -89,46 +92,51 @@ static struct fuzzy_board *take_board(JNIEnv *env, jobject buffer) {
     if (board != NULL && (*env)->GetDirectBufferCapacity(env, buffer) == (jlong)sizeof(struct fuzzy_board) && (uintptr_t)board % sizeof(uint64_t) == 0) {
         return board;
     }
-    raise_exception(env, "java/lang/IllegalArgumentException", "a board is no direct buffer of its size");
+    raise_exception(env, "java/lang/IllegalArgumentException", "a board is not a direct buffer of its size");
     return NULL;
 }
 
 /* The answer of a call that gives numbers, which go to the array where there is no refusal. */
-static jlong give_numbers(JNIEnv *env, uint64_t answer, jintArray array, jsize count, const uint32_t *numbers) {
-    if (fuzzy_number(answer) == 0) (*env)->SetIntArrayRegion(env, array, 0, count, (const jint *)numbers);
+static jlong give_numbers(JNIEnv *env, uint64_t answer, jintArray array, jsize count, const void *numbers) {
+    if (fuzzy_ok(answer)) (*env)->SetIntArrayRegion(env, array, 0, count, numbers);
     return (jlong)answer;
 }
 
+static jlong give_moment(JNIEnv *env, uint64_t answer, jintArray array, const struct fuzzy_moment *moment) {
+    return give_numbers(env, answer, array, FUZZY_MOMENT_NUMBERS, moment);
+}
+
 /* The answer of a call that gives an instant's second and what the clocks show, which go to their arrays where there is no refusal. */
-static jlong give_local(JNIEnv *env, uint64_t answer, jlongArray due, int64_t second, jintArray moment, const uint32_t *numbers) {
+static jlong give_local(JNIEnv *env, uint64_t answer, jlongArray due, int64_t second, jintArray array,
+                        const struct fuzzy_local *local) {
     jlong given = (jlong)second;
-    if (fuzzy_number(answer) != 0) return (jlong)answer;
+    if (!fuzzy_ok(answer)) return (jlong)answer;
     (*env)->SetLongArrayRegion(env, due, 0, 1, &given);
     if ((*env)->ExceptionCheck(env)) return 0;
-    return give_numbers(env, answer, moment, FUZZY_LOCAL_NUMBERS, numbers);
+    return give_numbers(env, answer, array, FUZZY_LOCAL_NUMBERS, local);
 }
 
 /* The answer of a call that gives as many bytes as it says, which go to the array where there is no refusal. */
-static jlong give_bytes(JNIEnv *env, uint64_t answer, jbyteArray array, const uint8_t *bytes) {
-    if (fuzzy_number(answer) == 0) (*env)->SetByteArrayRegion(env, array, 0, (jsize)fuzzy_length(answer), (const jbyte *)bytes);
+static jlong give_bytes(JNIEnv *env, uint64_t answer, jbyteArray array, const void *bytes) {
+    if (fuzzy_ok(answer)) (*env)->SetByteArrayRegion(env, array, 0, (jsize)fuzzy_length(answer), bytes);
     return (jlong)answer;
 }
 
 /* The room of an array for a text, and no more than any text needs. */
-static size_t room_of(JNIEnv *env, jbyteArray text, size_t most) {
-    size_t room = (size_t)(*env)->GetArrayLength(env, text);
+static uint64_t room_of(JNIEnv *env, jbyteArray text, uint64_t most) {
+    uint64_t room = (uint64_t)(*env)->GetArrayLength(env, text);
     return room < most ? room : most;
 }
 
 JNIEXPORT jlong JNICALL Java_fuzzydate_Calls_read(JNIEnv *env, jclass calls, jint reading, jbyteArray phrase, jintArray now, jintArray moment) {
-    uint32_t n[FUZZY_MOMENT_NUMBERS], m[FUZZY_MOMENT_NUMBERS];
+    struct fuzzy_moment n, m;
     struct bytes p;
     uint64_t answer;
     (void)calls;
-    if (!take_numbers(env, now, FUZZY_MOMENT_NUMBERS, n) || !has_room(env, moment, FUZZY_MOMENT_NUMBERS) || !take_bytes(env, phrase, &p)) return 0;
-    answer = fuzzy_read((uint32_t)reading, p.first, p.length, SEVEN(n), m);
+    if (!take_moment(env, now, &n) || !has_room(env, moment, FUZZY_MOMENT_NUMBERS) || !take_bytes(env, phrase, &p)) return 0;
+    answer = fuzzy_read((uint32_t)reading, p.first, p.length, &n, &m);
     free(p.first);
-    return give_numbers(env, answer, moment, FUZZY_MOMENT_NUMBERS, m);
+    return give_moment(env, answer, moment, &m);
 }
 
 JNIEXPORT jlong JNICALL Java_fuzzydate_Calls_makeReady(JNIEnv *env, jclass calls, jint reading, jbyteArray phrase, jbyteArray ready) {
@@ -143,34 +151,34 @@ JNIEXPORT jlong JNICALL Java_fuzzydate_Calls_makeReady(JNIEnv *env, jclass calls
 }
 
 JNIEXPORT jlong JNICALL Java_fuzzydate_Calls_run(JNIEnv *env, jclass calls, jbyteArray ready, jintArray now, jintArray moment) {
-    uint32_t n[FUZZY_MOMENT_NUMBERS], m[FUZZY_MOMENT_NUMBERS];
+    struct fuzzy_moment n, m;
     struct bytes r;
     uint64_t answer;
     (void)calls;
-    if (!take_numbers(env, now, FUZZY_MOMENT_NUMBERS, n) || !has_room(env, moment, FUZZY_MOMENT_NUMBERS) || !take_bytes(env, ready, &r)) return 0;
-    answer = fuzzy_run(r.first, r.length, SEVEN(n), m);
+    if (!take_moment(env, now, &n) || !has_room(env, moment, FUZZY_MOMENT_NUMBERS) || !take_bytes(env, ready, &r)) return 0;
+    answer = fuzzy_run(r.first, r.length, &n, &m);
     free(r.first);
-    return give_numbers(env, answer, moment, FUZZY_MOMENT_NUMBERS, m);
+    return give_moment(env, answer, moment, &m);
 }
 
 JNIEXPORT jlong JNICALL Java_fuzzydate_Calls_readStamp(JNIEnv *env, jclass calls, jbyteArray text, jintArray stamp) {
-    uint32_t s[FUZZY_STAMP_NUMBERS];
+    struct fuzzy_stamp s;
     struct bytes t;
     uint64_t answer;
     (void)calls;
     if (!has_room(env, stamp, FUZZY_STAMP_NUMBERS) || !take_bytes(env, text, &t)) return 0;
-    answer = fuzzy_read_stamp(t.first, t.length, s);
+    answer = fuzzy_read_stamp(t.first, t.length, &s);
     free(t.first);
-    return give_numbers(env, answer, stamp, FUZZY_STAMP_NUMBERS, s);
+    return give_numbers(env, answer, stamp, FUZZY_STAMP_NUMBERS, &s);
 }
 
 JNIEXPORT jlong JNICALL Java_fuzzydate_Calls_writeStamp(JNIEnv *env, jclass calls, jintArray stamp, jbyteArray text) {
-    uint32_t s[FUZZY_STAMP_NUMBERS];
-    uint8_t t[FUZZY_STAMP_SIZE];
+    struct fuzzy_stamp s;
+    char t[FUZZY_STAMP_SIZE];
     uint64_t answer;
     (void)calls;
-    if (!take_numbers(env, stamp, FUZZY_STAMP_NUMBERS, s) || !has_room(env, text, 0)) return 0;
-    answer = fuzzy_write_stamp(SEVEN(s), s[7], s[8], t, room_of(env, text, sizeof t));
+    if (!take_numbers(env, stamp, FUZZY_STAMP_NUMBERS, &s) || !has_room(env, text, 0)) return 0;
+    answer = fuzzy_write_stamp(&s, t, room_of(env, text, sizeof t));
     return give_bytes(env, answer, text, t);
 }
 
@@ -186,22 +194,23 @@ JNIEXPORT jlong JNICALL Java_fuzzydate_Calls_findWord(JNIEnv *env, jclass calls,
 }
 
 JNIEXPORT jlong JNICALL Java_fuzzydate_Calls_writePhrase(JNIEnv *env, jclass calls, jintArray moment, jbyteArray text) {
-    uint32_t m[FUZZY_MOMENT_NUMBERS];
-    uint8_t t[FUZZY_PHRASE_SIZE];
+    struct fuzzy_moment m;
+    char t[FUZZY_PHRASE_SIZE];
     uint64_t answer;
     (void)calls;
-    if (!take_numbers(env, moment, FUZZY_MOMENT_NUMBERS, m) || !has_room(env, text, 0)) return 0;
-    answer = fuzzy_write_phrase(SEVEN(m), t, room_of(env, text, sizeof t));
+    if (!take_moment(env, moment, &m) || !has_room(env, text, 0)) return 0;
+    answer = fuzzy_write_phrase(&m, t, room_of(env, text, sizeof t));
     return give_bytes(env, answer, text, t);
 }
 
-JNIEXPORT jlong JNICALL Java_fuzzydate_Calls_list(JNIEnv *env, jclass calls, jbyteArray rule, jintArray start, jintArray moments) {
-    uint32_t s[FUZZY_MOMENT_NUMBERS], *m;
+JNIEXPORT jlong JNICALL Java_fuzzydate_Calls_listIn(JNIEnv *env, jclass calls, jbyteArray rule, jintArray start, jintArray moments) {
+    struct fuzzy_moment s;
+    uint32_t *m;
     struct bytes r;
     size_t room;
     uint64_t answer;
     (void)calls;
-    if (!take_numbers(env, start, FUZZY_MOMENT_NUMBERS, s) || !has_room(env, moments, 0) || !take_bytes(env, rule, &r)) return 0;
+    if (!take_moment(env, start, &s) || !has_room(env, moments, 0) || !take_bytes(env, rule, &r)) return 0;
     room = (size_t)(*env)->GetArrayLength(env, moments);
     m = calloc(room > 0 ? room : 1, sizeof *m);
     if (m == NULL) {
@@ -209,7 +218,7 @@ JNIEXPORT jlong JNICALL Java_fuzzydate_Calls_list(JNIEnv *env, jclass calls, jby
         raise_exception(env, "java/lang/OutOfMemoryError", "no memory for a copy of the moments");
         return 0;
     }
-    answer = fuzzy_list(r.first, r.length, SEVEN(s), m, room);
+    answer = fuzzy_list_in(r.first, r.length, &s, m, (uint64_t)room);
     free(r.first);
     give_numbers(env, answer, moments, (jsize)(FUZZY_MOMENT_NUMBERS * fuzzy_length(answer)), m);
     free(m);
@@ -217,51 +226,51 @@ JNIEXPORT jlong JNICALL Java_fuzzydate_Calls_list(JNIEnv *env, jclass calls, jby
 }
 
 JNIEXPORT jlong JNICALL Java_fuzzydate_Calls_next(JNIEnv *env, jclass calls, jbyteArray rule, jintArray start, jintArray asked, jintArray moment) {
-    uint32_t s[FUZZY_MOMENT_NUMBERS], a[FUZZY_MOMENT_NUMBERS], m[FUZZY_MOMENT_NUMBERS];
+    struct fuzzy_moment s, a, m;
     struct bytes r;
     uint64_t answer;
     (void)calls;
-    if (!take_numbers(env, start, FUZZY_MOMENT_NUMBERS, s) || !take_numbers(env, asked, FUZZY_MOMENT_NUMBERS, a)) return 0;
+    if (!take_moment(env, start, &s) || !take_moment(env, asked, &a)) return 0;
     if (!has_room(env, moment, FUZZY_MOMENT_NUMBERS) || !take_bytes(env, rule, &r)) return 0;
-    answer = fuzzy_next(r.first, r.length, SEVEN(s), SEVEN(a), m);
+    answer = fuzzy_next(r.first, r.length, &s, &a, &m);
     free(r.first);
-    return give_numbers(env, answer, moment, FUZZY_MOMENT_NUMBERS, m);
+    return give_moment(env, answer, moment, &m);
 }
 
 JNIEXPORT jlong JNICALL Java_fuzzydate_Calls_runInZone(JNIEnv *env, jclass calls, jbyteArray ready, jbyteArray zone, jlong second, jint millisecond,
-                                                       jlongArray due, jintArray moment) {
-    uint32_t m[FUZZY_LOCAL_NUMBERS];
+                                                       jlongArray due, jintArray local) {
+    struct fuzzy_local l;
     int64_t d = 0;
     struct bytes r, z;
     uint64_t answer;
     (void)calls;
-    if (!has_room(env, due, 1) || !has_room(env, moment, FUZZY_LOCAL_NUMBERS) || !take_both(env, ready, &r, zone, &z)) return 0;
-    answer = fuzzy_run_in_zone(r.first, r.length, z.first, z.length, (int64_t)second, (uint32_t)millisecond, &d, m);
+    if (!has_room(env, due, 1) || !has_room(env, local, FUZZY_LOCAL_NUMBERS) || !take_both(env, ready, &r, zone, &z)) return 0;
+    answer = fuzzy_run_in_zone(r.first, r.length, z.first, z.length, (int64_t)second, (uint32_t)millisecond, &d, &l);
     free(r.first);
     free(z.first);
-    return give_local(env, answer, due, d, moment, m);
+    return give_local(env, answer, due, d, local, &l);
 }
 
 JNIEXPORT jlong JNICALL Java_fuzzydate_Calls_readInZone(JNIEnv *env, jclass calls, jint reading, jbyteArray phrase, jbyteArray zone, jlong second,
-                                                        jint millisecond, jlongArray due, jintArray moment) {
-    uint32_t m[FUZZY_LOCAL_NUMBERS];
+                                                        jint millisecond, jlongArray due, jintArray local) {
+    struct fuzzy_local l;
     int64_t d = 0;
     struct bytes p, z;
     uint64_t answer;
     (void)calls;
-    if (!has_room(env, due, 1) || !has_room(env, moment, FUZZY_LOCAL_NUMBERS) || !take_both(env, phrase, &p, zone, &z)) return 0;
-    answer = fuzzy_read_in_zone((uint32_t)reading, p.first, p.length, z.first, z.length, (int64_t)second, (uint32_t)millisecond, &d, m);
+    if (!has_room(env, due, 1) || !has_room(env, local, FUZZY_LOCAL_NUMBERS) || !take_both(env, phrase, &p, zone, &z)) return 0;
+    answer = fuzzy_read_in_zone((uint32_t)reading, p.first, p.length, z.first, z.length, (int64_t)second, (uint32_t)millisecond, &d, &l);
     free(p.first);
     free(z.first);
-    return give_local(env, answer, due, d, moment, m);
+    return give_local(env, answer, due, d, local, &l);
 }
 
 JNIEXPORT jlong JNICALL Java_fuzzydate_Calls_boardMake(JNIEnv *env, jclass calls, jobject board, jintArray now) {
-    uint32_t n[FUZZY_MOMENT_NUMBERS];
+    struct fuzzy_moment n;
     struct fuzzy_board *b = take_board(env, board);
     (void)calls;
-    if (b == NULL || !take_numbers(env, now, FUZZY_MOMENT_NUMBERS, n)) return 0;
-    return (jlong)fuzzy_board_make(b, SEVEN(n));
+    if (b == NULL || !take_moment(env, now, &n)) return 0;
+    return (jlong)fuzzy_board_make(b, &n);
 }
 
 JNIEXPORT jlong JNICALL Java_fuzzydate_Calls_boardAdd(JNIEnv *env, jclass calls, jobject board, jint reading, jbyteArray phrase) {
@@ -282,19 +291,19 @@ JNIEXPORT jlong JNICALL Java_fuzzydate_Calls_boardRemove(JNIEnv *env, jclass cal
 }
 
 JNIEXPORT jlong JNICALL Java_fuzzydate_Calls_boardAgain(JNIEnv *env, jclass calls, jobject board, jintArray now) {
-    uint32_t n[FUZZY_MOMENT_NUMBERS];
+    struct fuzzy_moment n;
     struct fuzzy_board *b = take_board(env, board);
     (void)calls;
-    if (b == NULL || !take_numbers(env, now, FUZZY_MOMENT_NUMBERS, n)) return 0;
-    return (jlong)fuzzy_board_again(b, SEVEN(n));
+    if (b == NULL || !take_moment(env, now, &n)) return 0;
+    return (jlong)fuzzy_board_again(b, &n);
 }
 
 JNIEXPORT jlong JNICALL Java_fuzzydate_Calls_boardHead(JNIEnv *env, jclass calls, jobject board, jintArray moment) {
-    uint32_t m[FUZZY_MOMENT_NUMBERS];
+    struct fuzzy_moment m;
     struct fuzzy_board *b = take_board(env, board);
     (void)calls;
     if (b == NULL || !has_room(env, moment, FUZZY_MOMENT_NUMBERS)) return 0;
-    return give_numbers(env, fuzzy_board_head(b, m), moment, FUZZY_MOMENT_NUMBERS, m);
+    return give_moment(env, fuzzy_board_head(b, &m), moment, &m);
 }
 
 JNIEXPORT jlong JNICALL Java_fuzzydate_Calls_boardOrder(JNIEnv *env, jclass calls, jobject board, jintArray slots) {
@@ -325,7 +334,13 @@ JNIEXPORT jint JNICALL Java_fuzzydate_Calls_length(JNIEnv *env, jclass calls, jl
     return (jint)fuzzy_length((uint64_t)answer);
 }
 
-JNIEXPORT jstring JNICALL Java_fuzzydate_Calls_word(JNIEnv *env, jclass calls, jint number) {
+JNIEXPORT jstring JNICALL Java_fuzzydate_Calls_words(JNIEnv *env, jclass calls, jint number) {
     (void)calls;
-    return (*env)->NewStringUTF(env, fuzzy_word((unsigned)number));
+    return (*env)->NewStringUTF(env, fuzzy_words((uint32_t)number));
+}
+
+JNIEXPORT jint JNICALL Java_fuzzydate_Calls_version(JNIEnv *env, jclass calls) {
+    (void)env;
+    (void)calls;
+    return (jint)fuzzy_version();
 }

@@ -12,13 +12,13 @@ use chrono::{DateTime, Datelike, NaiveDate, TimeZone, Timelike, Utc};
 
 pub use error::Error;
 
-extern "C" {
-    fn fuzzy_read(reading: u32, phrase: *const u8, length: usize, y: u32, mo: u32, d: u32, h: u32, mi: u32, s: u32, ms: u32, moment: *mut u32) -> u64;
-    fn fuzzy_make_ready(reading: u32, phrase: *const u8, length: usize, ready: *mut u8) -> u64;
-    fn fuzzy_run(ready: *const u8, length: usize, y: u32, mo: u32, d: u32, h: u32, mi: u32, s: u32, ms: u32, moment: *mut u32) -> u64;
-}
-
 type Moment = [u32; 7];
+
+extern "C" {
+    fn fuzzy_read(reading: u32, phrase: *const u8, length: u64, now: *const Moment, moment: *mut Moment) -> u64;
+    fn fuzzy_make_ready(reading: u32, phrase: *const u8, length: u64, ready: *mut [u8; 384]) -> u64;
+    fn fuzzy_run(ready: *const u8, length: u64, now: *const Moment, moment: *mut Moment) -> u64;
+}
 
 /// 2026-02-11 09:30:15, without milliseconds
 const NOW: Moment = [2026, 2, 11, 9, 30, 15, 0];
@@ -33,28 +33,25 @@ fn by_rust(phrase: &str, now: DateTime<Utc>) -> Moment {
 }
 
 fn by_ours(phrase: &str) -> Moment {
-    let [y, mo, d, h, mi, s, ms] = NOW;
     let mut moment = [0; 7];
-    // SAFETY: the pointers are those of a slice and of an array of the size that the function writes
-    let answer = unsafe { fuzzy_read(1, phrase.as_ptr(), phrase.len(), y, mo, d, h, mi, s, ms, moment.as_mut_ptr()) };
+    // SAFETY: the pointers are those of a slice and of arrays of the sizes that the function reads and writes
+    let answer = unsafe { fuzzy_read(1, phrase.as_ptr(), phrase.len() as u64, &NOW, &mut moment) };
     assert!(answer == 0, "{phrase}");
     moment
 }
 
 fn made_ready(phrase: &str) -> Vec<u8> {
-    let mut bytes = vec![0; 384];
+    let mut bytes = [0; 384];
     // SAFETY: the pointers are those of a slice and of an array of the size that the function may write
-    let answer = unsafe { fuzzy_make_ready(1, phrase.as_ptr(), phrase.len(), bytes.as_mut_ptr()) };
+    let answer = unsafe { fuzzy_make_ready(1, phrase.as_ptr(), phrase.len() as u64, &mut bytes) };
     assert!(answer & 0xffff == 0, "{phrase}");
-    bytes.truncate((answer >> 32) as usize);
-    bytes
+    bytes[..(answer >> 32) as usize].to_vec()
 }
 
 fn by_ready(ready: &[u8]) -> Moment {
-    let [y, mo, d, h, mi, s, ms] = NOW;
     let mut moment = [0; 7];
-    // SAFETY: the pointers are those of a slice and of an array of the size that the function writes
-    let answer = unsafe { fuzzy_run(ready.as_ptr(), ready.len(), y, mo, d, h, mi, s, ms, moment.as_mut_ptr()) };
+    // SAFETY: the pointers are those of a slice and of arrays of the sizes that the function reads and writes
+    let answer = unsafe { fuzzy_run(ready.as_ptr(), ready.len() as u64, &NOW, &mut moment) };
     assert!(answer == 0);
     moment
 }

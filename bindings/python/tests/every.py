@@ -1,4 +1,4 @@
-"""Every function with good, damaged and empty input, each refusal once, in eight threads too: every.py FUZZY_H ZONE."""
+"""Every function with good, damaged and empty input, each refusal once, in eight threads too: every.py FUZZY_H ZONE VERSION."""
 
 import ctypes
 import math
@@ -42,6 +42,11 @@ def refused(reason, call, *arguments):
     return refusal
 
 
+def lent(*numbers):
+    """Numbers as the library takes them."""
+    return (ctypes.c_uint32 * len(numbers))(*numbers)
+
+
 def moments():
     cases = [
         ("next friday", datetime(2026, 2, 20, 9, 30, 15, 250_000), datetime(2026, 2, 20, 9, 30, 15, 250_000)),
@@ -69,7 +74,7 @@ def refusals():
         (b"", Reason.NOTHING, 0, b"", "no date or time in it"),
         (b"five billion days ago", Reason.LARGE_SUM, 0, b"", "number in words too large"),
         (b"5/2", Reason.LEFT_OVER, 1, b"/2", "not part of the date or time: b'/2' at byte 1"),
-        (b"this month", Reason.NO_SENSE, 0, b"", "has no sense"),
+        (b"this month", Reason.NO_SENSE, 0, b"", "makes no sense"),
         (b"1000/1/1", Reason.NO_DATE, 0, b"", "no such month or day"),
         (b"january 1, 99", Reason.NO_TIME, 0, b"", "no such time of day"),
         (b"four billion days ago", Reason.OUTSIDE, 0, b"", "outside the years 1 to 9999"),
@@ -90,16 +95,19 @@ def refusals():
 
 
 def below():
-    """What datetime, Reading and the rooms of this binding keep from arising."""
+    """What datetime, Reading and the buffers of this binding keep from arising."""
     moment, text = (ctypes.c_uint32 * 7)(), ctypes.create_string_buffer(29)
     answers = {
-        Reason.NO_NOW: fuzzydate._read(1, b"today", 5, 2026, 2, 30, 0, 0, 0, 0, moment),
-        Reason.NO_READING: fuzzydate._read(3, b"today", 5, 2026, 2, 11, 0, 0, 0, 0, moment),
-        Reason.NO_ROOM: fuzzydate._write_phrase(2026, 3, 4, 9, 5, 0, 0, text, 19),
+        Reason.INVALID_MOMENT: fuzzydate._read(1, b"today", 5, lent(2026, 2, 30, 0, 0, 0, 0), moment),
+        Reason.NO_READING: fuzzydate._read(3, b"today", 5, lent(2026, 2, 11, 0, 0, 0, 0), moment),
+        Reason.NO_ROOM: fuzzydate._write_phrase(lent(2026, 3, 4, 9, 5, 0, 0), text, 19),
+        Reason.NO_STAMP: fuzzydate._write_stamp(lent(2026, 3, 4, 9, 5, 0, 0, 2, 0), text, 29),
     }
     for reason, answer in answers.items():
         refused(reason, fuzzydate._checked, answer)
     expect(list(moment) == [0] * 7 and text.raw == bytes(29), "nothing written")
+    newer = refused(None, fuzzydate._checked, 2 << 32 | 1 << 16 | 999, b"next")
+    expect((newer.number, newer.place, newer.part, newer.words) == (999, 1, b"ex", "a refusal of a newer library"), "a newer library")
 
 
 def stamps():
@@ -128,7 +136,10 @@ def phrases():
     expect(fuzzydate.write_phrase(WHOLE) == "march 4 2026 at 9:05", "a phrase")
     for moment in (WHOLE, LEAP_DAY, datetime(9999, 9, 30, 23, 59)):
         for reading in Reading:
-            expect(fuzzydate.read(reading, fuzzydate.write_phrase(moment), NOW) == moment, "a phrase that was shown")
+            expect(fuzzydate.read(reading, fuzzydate.write_phrase(moment), NOW) == moment, "a phrase that was written")
+    early = fuzzydate.write_phrase(datetime(26, 3, 4, 9, 5))
+    expect(fuzzydate.read(1, early, NOW) == datetime(26, 3, 4, 9, 5), "a phrase of the year 26")
+    expect(refused(Reason.LEFT_OVER, fuzzydate.read, 2, early, NOW).part == b"at 9:05", "a phrase of the year 26 in the second reading")
 
 
 def rules():
@@ -174,7 +185,7 @@ def refused_rules():
 
 
 def rows():
-    """What is lent to listing and asking: rows at the front, all else as before, and nothing on a refusal."""
+    """The buffers of listing and asking: rows at the front, all else unchanged, and nothing on a refusal."""
     start, daily, once, mondays = (2026, 2, 10, 9, 30, 15, 250), b"FREQ=DAILY", b"FREQ=DAILY;COUNT=1", b"FREQ=WEEKLY;BYDAY=MO"
     later, no_day = (2026, 2, 11, 9, 30, 15, 250), (2026, 2, 29, 9, 30, 15, 250)
     kept = [0xA5] * 20
@@ -183,22 +194,22 @@ def rows():
         (once, start, 1 << 32, [*start]),
         (b"FREQ=YEARLY", start, Reason.NO_RULE, []),
         (mondays, start, Reason.NO_START, []),
-        (b"FREQ=YEARLY", no_day, Reason.NO_NOW, []),
+        (b"FREQ=YEARLY", no_day, Reason.INVALID_MOMENT, []),
     ]:
-        lent = (ctypes.c_uint32 * 20)(*kept)
-        expect(fuzzydate._list(rule, len(rule), *given, lent, 20) == answer, rule)
-        expect(list(lent) == written + kept[len(written) :], rule)
+        listed = lent(*kept)
+        expect(fuzzydate._list_in(rule, len(rule), lent(*given), listed, 20) == answer, rule)
+        expect(list(listed) == written + kept[len(written) :], rule)
     for rule, given, asked, answer, written in [
         (daily, start, later, 0, [*later]),
         (once, start, later, Reason.NO_NEXT, []),
         (b"FREQ=YEARLY", start, later, Reason.NO_RULE, []),
         (mondays, start, later, Reason.NO_START, []),
-        (mondays, no_day, later, Reason.NO_NOW, []),
-        (daily, start, no_day, Reason.NO_NOW, []),
+        (mondays, no_day, later, Reason.INVALID_MOMENT, []),
+        (daily, start, no_day, Reason.INVALID_MOMENT, []),
     ]:
-        lent = (ctypes.c_uint32 * 20)(*kept)
-        expect(fuzzydate._next(rule, len(rule), *given, *asked, lent) == answer, rule)
-        expect(list(lent) == written + kept[len(written) :], rule)
+        found = lent(*kept)
+        expect(fuzzydate._next(rule, len(rule), lent(*given), lent(*asked), found) == answer, rule)
+        expect(list(found) == written + kept[len(written) :], rule)
 
 
 def due(reading, phrase, zone, now):
@@ -241,7 +252,7 @@ def refused_in_zones():
         (Reason.PAST_LAST, "2 years from now", BEFORE_GAP),
         (Reason.PAST_LAST, "now", LAST),
         (Reason.PAST_LAST, "this month", datetime.max.replace(microsecond=0, tzinfo=timezone(-timedelta(hours=23)))),
-        (Reason.NO_NOW, "now", datetime.min.replace(tzinfo=timezone.utc)),
+        (Reason.INVALID_MOMENT, "now", datetime.min.replace(tzinfo=timezone.utc)),
         (Reason.NO_SENSE, "this month", BEFORE_GAP),
         (Reason.NO_DATE, "1000/1/1", BEFORE_GAP),
         (Reason.NO_TIME, "january 1, 99", BEFORE_GAP),
@@ -272,7 +283,7 @@ def zone_offsets():
 
 
 def zone_files():
-    """The file cut short, with each bit changed, and with as many bytes behind it as a zone may have, and one more."""
+    """The file cut short, with each bit changed, and with as many bytes after it as a zone may have, and one more."""
     for length in range(len(NEW_YORK)):
         undue(Reason.NO_ZONE, "now", NEW_YORK[:length], BEFORE_GAP)
     kept = 0
@@ -283,7 +294,8 @@ def zone_files():
             due(2, "tomorrow", zone, BEFORE_GAP)
             kept += 1
         except Refusal as refusal:
-            expect(refusal.reason in (Reason.NO_NOW, Reason.OUTSIDE, Reason.NO_ZONE, Reason.PAST_LAST, Reason.NO_INSTANT), f"bit {bit}: {refusal}")
+            others = (Reason.INVALID_MOMENT, Reason.OUTSIDE, Reason.NO_ZONE, Reason.PAST_LAST, Reason.NO_INSTANT)
+            expect(refusal.reason in others, f"bit {bit}: {refusal}")
     expect(kept > 0, "other zones")
     longest = NEW_YORK.ljust(65_536, b"\0")
     expect(due(1, "now", longest, BEFORE_GAP) == due(1, "now", NEW_YORK, BEFORE_GAP), "the longest file")
@@ -291,20 +303,20 @@ def zone_files():
 
 
 def lent_in_zones():
-    """What is lent to both calls: written with 0, and as before on a refusal."""
+    """The buffers of both calls: written on success, and unchanged on a refusal."""
     ready = fuzzydate.make_ready(1, "now")
     for zone, second, millisecond, answer in [
         (NEW_YORK, 1772951400, 999, 0),
-        (NEW_YORK, 1772951400, 1000, Reason.NO_NOW),
-        (NEW_YORK, -(2**63), 0, Reason.NO_NOW),
+        (NEW_YORK, 1772951400, 1000, Reason.INVALID_MOMENT),
+        (NEW_YORK, -(2**63), 0, Reason.INVALID_MOMENT),
         (NEW_YORK, 2**63 - 1, 0, Reason.PAST_LAST),
         (b"TZif2", 1772951400, 1000, Reason.NO_ZONE),
     ]:
         for call, given in [(fuzzydate._read_in_zone, (1, b"now", 3)), (fuzzydate._run_in_zone, (ready, len(ready)))]:
-            second_lent, lent = ctypes.c_int64(0xA5), (ctypes.c_uint32 * 10)(*[0xA5] * 10)
-            expect(call(*given, zone, len(zone), second, millisecond, second_lent, lent) == answer, second)
+            due, local = ctypes.c_int64(0xA5), lent(*[0xA5] * 10)
+            expect(call(*given, zone, len(zone), second, millisecond, due, local) == answer, second)
             written = [2026, 3, 8, 1, 30, 0, 999, 1, 18000] if answer == 0 else [0xA5] * 9
-            expect(second_lent.value == (second if answer == 0 else 0xA5) and list(lent) == [*written, 0xA5], second)
+            expect(due.value == (second if answer == 0 else 0xA5) and list(local) == [*written, 0xA5], second)
 
 
 def memory(board):
@@ -316,13 +328,13 @@ def left(board, reason, call, *arguments):
     """A call that is refused leaves every byte of its board."""
     before = memory(board)
     refusal = refused(reason, call, *arguments)
-    expect(memory(board) == before, f"a board behind {call.__name__}{arguments}")
+    expect(memory(board) == before, f"a board after {call.__name__}{arguments}")
     return refusal
 
 
 def boards():
     board = Board(NOW)
-    left(board, Reason.NO_MOMENT, board.head)
+    left(board, Reason.NOTHING_DUE, board.head)
     expect(board.order() == [], "an empty order")
     reminders = ["next friday", b"tuesday in two weeks", "noon", "an hour ago", "60 minutes ago", "this month"]
     expect([board.add(1, phrase) for phrase in reminders] == [0, 1, 2, 3, 4, 5], "slots")
@@ -337,7 +349,7 @@ def boards():
 def refused_boards():
     board = Board(LEAP_DAY)
     expect(board.add(1, "a year from now") == 0, "a phrase that refuses at the board's now")
-    left(board, Reason.NO_MOMENT, board.head)
+    left(board, Reason.NOTHING_DUE, board.head)
     expect(board.again(NOW) is None and board.head() == Due(0, NOW.replace(year=2027)), "which has a moment at another")
     for slot in (1, 255, 256, 2**32, 2**70, -1, -(2**32)):
         left(board, Reason.EMPTY_SLOT, board.remove, slot)
@@ -348,15 +360,15 @@ def refused_boards():
     expect(board.order() == [*range(1, 256), 0], "the order of a full board")
     expect(board.remove(77) is None and board.add(1, "now") == 77 and board.head() == Due(77, NOW), "a slot of a full board")
     # what datetime and Reading keep from arising
-    before = memory(board)
+    before, no_day = memory(board), lent(2026, 2, 30, 0, 0, 0, 0)
     answers = {
-        Reason.NO_NOW: fuzzydate._board_again(board._ready, board._lengths, board._keys, board._state, 2026, 2, 30, 0, 0, 0, 0),
+        Reason.INVALID_MOMENT: fuzzydate._board_again(board._ready, board._lengths, board._keys, board._state, no_day),
         Reason.NO_READING: fuzzydate._board_add(board._ready, board._lengths, board._keys, board._state, 3, b"now", 3),
     }
     for reason, answer in answers.items():
         refused(reason, fuzzydate._checked, answer)
-    refused(Reason.NO_NOW, fuzzydate._checked, fuzzydate._board_make(board._lengths, board._state, 2026, 2, 30, 0, 0, 0, 0))
-    expect(memory(board) == before, "a board behind what is refused")
+    refused(Reason.INVALID_MOMENT, fuzzydate._checked, fuzzydate._board_make(board._lengths, board._state, no_day))
+    expect(memory(board) == before, "a board after what is refused")
 
 
 def any_memory(seed):
@@ -365,12 +377,12 @@ def any_memory(seed):
     for part in (board._ready, board._lengths, board._keys, board._state):
         ctypes.memmove(part, chosen.randbytes(ctypes.sizeof(part)), ctypes.sizeof(part))
     for call, arguments, reasons in [
-        (board.head, (), {Reason.NO_MOMENT}),
+        (board.head, (), {Reason.NOTHING_DUE}),
         (board.order, (), set()),
         (board.remove, (chosen.randrange(258),), {Reason.EMPTY_SLOT}),
         (board.add, (1, "noon"), {Reason.FULL_BOARD}),
         (board.again, (NOW,), set()),
-        (board.head, (), {Reason.NO_MOMENT}),
+        (board.head, (), {Reason.NOTHING_DUE}),
     ]:
         try:
             call(*arguments)
@@ -458,9 +470,18 @@ def as_the_header(header):
     """The names, numbers and words of the refusals, and the sizes, are those of fuzzy.h."""
     numbers = dict(re.findall(r"^ *FUZZY_(\w+) = (\d+),? +/\*", header, re.M))
     said = dict(re.findall(r"case FUZZY_(\w+): return \"(.*)\";", header))
-    expect({r.name: (str(r.value), r.words) for r in Reason} == {name: (numbers[name], said[name]) for name in numbers}, "refusals of the header")
-    sizes = re.findall(r"^#define FUZZY_(\w+) (\d+)$", header, re.M)
+    wanted = {name: (numbers[name], said[name]) for name in numbers}
+    expect({reason.name: (str(reason.value), reason.words) for reason in Reason} == wanted, "refusals of the header")
+    sizes = re.findall(r"^#define FUZZY_(?!VERSION)(\w+) (\d+)$", header, re.M)
     expect(sizes != [] and all(getattr(fuzzydate, "_" + name) == int(size) for name, size in sizes), "sizes of the header")
+    newer = re.search(r"default: return \"(.*)\";", header)[1]
+    expect(Refusal(999, 0, b"").words == newer, "words of a newer library")
+
+
+def versions(version):
+    """The version of the binding is that of the repository, and the library says the same of itself."""
+    expect(fuzzydate.__version__ == version, f"version {version} of the binding")
+    expect(fuzzydate.version() == version, f"version {version} of the library")
 
 
 def every(seed):
@@ -476,6 +497,8 @@ with open(sys.argv[1]) as header:
     as_the_header(header.read())
 with open(sys.argv[2], "rb") as file:
     NEW_YORK = file.read()
+with open(sys.argv[3]) as version:
+    versions(version.read().strip())
 every(0)
 longest()
 one_board()

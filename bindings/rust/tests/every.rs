@@ -1,10 +1,10 @@
 //! Every function with good, damaged and empty input.
-use fuzzydate::{find_word, read, read_in_zone};
-use fuzzydate::{Board, FoundWord, Instant, Local, Moment, Offset, Reading, Ready, Reason, Rule, Stamp, Zone};
+use fuzzydate::{find_word, make_ready, read, read_in_zone, read_stamp, version, write_phrase, write_stamp, VERSION};
+use fuzzydate::{Board, FoundWord, Instant, Local, Moment, Offset, Reading, Ready, Reason, Refusal, Rule, Stamp, Zone};
 
 const NOW: Moment = Moment { year: 2026, month: 2, day: 11, hour: 9, minute: 30, second: 15, millisecond: 0 };
 const LEAP_DAY: Moment = Moment { year: 2024, month: 2, day: 29, hour: 12, minute: 0, second: 0, millisecond: 0 };
-const NO_NOW: Moment = Moment { year: 2026, month: 2, day: 30, hour: 0, minute: 0, second: 0, millisecond: 0 };
+const INVALID: Moment = Moment { year: 2026, month: 2, day: 30, hour: 0, minute: 0, second: 0, millisecond: 0 };
 
 #[test]
 fn gives_moments() {
@@ -20,7 +20,7 @@ fn gives_moments() {
     ];
     for (phrase, moment) in cases {
         assert_eq!(read(Reading::First, phrase, NOW).unwrap().to_string(), moment, "{phrase}");
-        assert_eq!(Ready::new(Reading::First, phrase).unwrap().run(NOW).unwrap().to_string(), moment, "{phrase}, made ready");
+        assert_eq!(make_ready(Reading::First, phrase).unwrap().run(NOW).unwrap().to_string(), moment, "{phrase}, made ready");
     }
 }
 
@@ -38,7 +38,7 @@ fn keeps_milliseconds_unless_a_time_is_stated() {
     for (phrase, moment) in cases {
         for reading in [Reading::First, Reading::Second] {
             assert_eq!(read(reading, phrase, now).unwrap().to_string(), moment, "{phrase}");
-            assert_eq!(Ready::new(reading, phrase).unwrap().run(now).unwrap().to_string(), moment, "{phrase}, made ready");
+            assert_eq!(make_ready(reading, phrase).unwrap().run(now).unwrap().to_string(), moment, "{phrase}, made ready");
         }
     }
 }
@@ -46,13 +46,13 @@ fn keeps_milliseconds_unless_a_time_is_stated() {
 #[test]
 fn takes_999_milliseconds_and_no_more() {
     let last = Moment { millisecond: 999, ..NOW };
-    let ready = Ready::new(Reading::First, "today").unwrap();
+    let ready = make_ready(Reading::First, "today").unwrap();
     assert_eq!((read(Reading::First, "today", last), ready.run(last)), (Ok(last), Ok(last)));
     for millisecond in [1000, u32::MAX] {
         let now = Moment { millisecond, ..NOW };
-        assert_eq!(read(Reading::First, "today", now).unwrap_err().reason(), Reason::NoNow);
-        assert_eq!(ready.run(now).unwrap_err().reason(), Reason::NoNow);
-        assert_eq!(Stamp { moment: now, offset: Offset::East(0) }.text().unwrap_err().reason(), Reason::NoNow);
+        assert_eq!(read(Reading::First, "today", now).unwrap_err().reason(), Reason::InvalidMoment);
+        assert_eq!(ready.run(now).unwrap_err().reason(), Reason::InvalidMoment);
+        assert_eq!(write_stamp(Stamp { moment: now, offset: Offset::East(0) }).unwrap_err().reason(), Reason::InvalidMoment);
     }
 }
 
@@ -69,7 +69,7 @@ fn reads_in_two_readings() {
         for (reading, moment) in [(Reading::First, first), (Reading::Second, second)] {
             let shown = |answer: Result<Moment, _>| answer.map(|m| m.to_string()).unwrap_or_default();
             assert_eq!(shown(read(reading, phrase, NOW)), moment, "{phrase}");
-            let made = Ready::new(reading, phrase).map_or_else(|_| String::new(), |ready| shown(ready.run(NOW)));
+            let made = make_ready(reading, phrase).map_or_else(|_| String::new(), |ready| shown(ready.run(NOW)));
             assert_eq!(made, moment, "{phrase}, made ready");
         }
     }
@@ -95,9 +95,9 @@ fn refuses_with_reason_place_and_part() {
         let refusal = read(Reading::First, phrase, NOW).unwrap_err();
         assert_eq!((refusal.reason(), refusal.place(), refusal.part()), (reason, place, part), "{refusal}");
         if reason <= Reason::LeftOver {
-            assert_eq!(Ready::new(Reading::First, phrase).unwrap_err(), refusal);
+            assert_eq!(make_ready(Reading::First, phrase).unwrap_err(), refusal);
         } else {
-            assert_eq!(Ready::new(Reading::First, phrase).unwrap().run(NOW).unwrap_err().reason(), reason);
+            assert_eq!(make_ready(Reading::First, phrase).unwrap().run(NOW).unwrap_err().reason(), reason);
         }
     }
 }
@@ -113,15 +113,15 @@ fn counts_to_64_lexemes() {
 
 #[test]
 fn refuses_an_invalid_now_after_reading() {
-    assert_eq!(read(Reading::First, "today", NO_NOW).unwrap_err().reason(), Reason::NoNow);
-    assert_eq!(read(Reading::First, "forty", NO_NOW).unwrap_err().reason(), Reason::Unknown);
-    assert_eq!(Ready::new(Reading::First, "today").unwrap().run(NO_NOW).unwrap_err().reason(), Reason::NoNow);
+    assert_eq!(read(Reading::First, "today", INVALID).unwrap_err().reason(), Reason::InvalidMoment);
+    assert_eq!(read(Reading::First, "forty", INVALID).unwrap_err().reason(), Reason::Unknown);
+    assert_eq!(make_ready(Reading::First, "today").unwrap().run(INVALID).unwrap_err().reason(), Reason::InvalidMoment);
     assert_eq!(read(Reading::First, "a year from now", LEAP_DAY).unwrap_err().reason(), Reason::NoLeapDay);
 }
 
 #[test]
 fn stores_ready_phrases() {
-    let ready = Ready::new(Reading::First, "2 months before 3 weeks after tomorrow at 5:00").unwrap();
+    let ready = make_ready(Reading::First, "2 months before 3 weeks after tomorrow at 5:00").unwrap();
     let again = Ready::from_bytes(ready.as_bytes()).unwrap();
     assert_eq!(ready, again);
     assert_eq!(again.run(NOW), read(Reading::First, "2 months before 3 weeks after tomorrow at 5:00", NOW));
@@ -134,9 +134,70 @@ fn stores_ready_phrases() {
 
 #[test]
 fn says_what_is_wrong() {
-    assert_eq!(read(Reading::First, "next forty", NOW).unwrap_err().to_string(), "\"forty\" at byte 5 is not understood");
-    assert_eq!(read(Reading::First, "at \u{e9}", NOW).unwrap_err().to_string(), "\"\\xc3\" at byte 3 is not understood");
-    assert_eq!(read(Reading::First, "", NOW).unwrap_err().to_string(), "there is no date or time in the phrase");
+    let cases: [(&[u8], &str); 7] = [
+        (b"next forty", "not understood\n  next forty\n       ^^^^^"),
+        (b"forty days ago", "not understood\n  forty days ago\n  ^^^^^"),
+        ("at \u{e9} \u{1f552}".as_bytes(), "not understood\n  at \u{e9} \u{1f552}\n     ^"),
+        (b"at \xff\xc3", "not understood\n  at \\xff\\xc3\n     ^^^^"),
+        (b"\tat\n\0 \xc2\x85", "not understood\n  \\x09at\\x0a\\x00 \\xc2\\x85\n        ^^^^"),
+        (b"5/2", "not part of the date or time\n  5/2\n   ^^"),
+        (b"", "no date or time in it"),
+    ];
+    for (phrase, text) in cases {
+        assert_eq!(read(Reading::First, phrase, NOW).unwrap_err().to_string(), text);
+    }
+    let shown = |phrase: &str| format!("{:?}", read(Reading::First, phrase, NOW).unwrap_err());
+    assert_eq!(shown("at \u{e9}"), r#"Refusal { reason: Unknown, phrase: "at \xc3\xa9", place: 3, part: "\xc3" }"#);
+    assert_eq!(shown("this month"), "Refusal { reason: NoSense }");
+}
+
+#[test]
+fn goes_up_as_an_error() {
+    fn due(day: u32) -> Result<Moment, Box<dyn std::error::Error + Send + Sync>> {
+        let phrase = format!("march {day}th");
+        Ok(read(Reading::First, &phrase, NOW)?)
+    }
+    assert_eq!(due(4).unwrap(), Moment { month: 3, day: 4, ..NOW });
+    let error = due(24).unwrap_err();
+    assert_eq!(error.downcast_ref::<Refusal>().map(|refusal| (refusal.number(), refusal.part())), Some((7, &b"th"[..])));
+}
+
+/// The header, and what stands in it between two texts.
+const HEADER: &str = include_str!("../../../include/fuzzy.h");
+
+fn in_header<'a>(before: &'a str, after: &'a str) -> impl Iterator<Item = &'a str> {
+    HEADER.lines().filter_map(move |line| Some(line.trim().strip_prefix(before)?.split_once(after)?.0))
+}
+
+#[test]
+fn says_its_version() {
+    assert_eq!(include_str!("../../../VERSION").trim(), VERSION);
+    assert_eq!(in_header("#define FUZZY_VERSION \"", "\"").collect::<Vec<_>>(), [VERSION]);
+    let numbers: Vec<u32> = VERSION.split('.').map(|number| number.parse().unwrap()).collect();
+    assert_eq!(version(), 1_000_000 * numbers[0] + 1000 * numbers[1] + numbers[2]);
+}
+
+/// A name of the header's as this crate's: `FUZZY_NO_DATE` is `NoDate`.
+fn own_name(name: &str) -> String {
+    let words = name.split('_').skip(1);
+    words.map(|word| word[..1].to_owned() + &word[1..].to_lowercase()).collect()
+}
+
+#[test]
+fn has_the_reasons_of_the_header() {
+    let enumerated = HEADER.split_once("enum fuzzy_refusal {").unwrap().1.split_once("};").unwrap().0;
+    let mut count = 0;
+    for line in enumerated.lines().filter(|line| line.contains(" = ")) {
+        let (name, rest) = line.trim().split_once(" = ").unwrap();
+        let number: u32 = rest.split([',', ' ']).next().unwrap().parse().unwrap();
+        let reason = Reason::from_number(number).unwrap();
+        assert_eq!((format!("{reason:?}"), reason.number()), (own_name(name), number));
+        assert_eq!(in_header(&format!("case {name}: return \""), "\";").collect::<Vec<_>>(), [reason.words()]);
+        count = number;
+    }
+    let newer = Reason::from_number(count + 1).unwrap();
+    assert_eq!((newer, newer.number()), (Reason::Other(count + 1), count + 1));
+    assert_eq!(in_header("default: return \"", "\";").collect::<Vec<_>>(), [newer.words()]);
 }
 
 #[test]
@@ -150,7 +211,8 @@ fn reads_and_writes_stamps() {
         ("2026-02-11T09:30:15-05:00", Offset::West(300), "2026-02-11T09:30:15-05:00"),
     ];
     for (text, offset, written) in cases {
-        let stamp: Stamp = text.parse().unwrap();
+        let stamp = read_stamp(text).unwrap();
+        assert_eq!(text.parse(), Ok(stamp), "{text}");
         assert_eq!(stamp, Stamp { moment: NOW, offset }, "{text}");
         assert_eq!(stamp.to_string(), written);
     }
@@ -168,7 +230,8 @@ fn reads_and_writes_fractions() {
         ("2026-02-11T09:30:15.999-23:59", 999, "2026-02-11T09:30:15.999-23:59"),
     ];
     for (text, millisecond, written) in cases {
-        let stamp: Stamp = text.parse().unwrap();
+        let stamp = read_stamp(text).unwrap();
+        assert_eq!(text.parse(), Ok(stamp), "{text}");
         assert_eq!(stamp.moment, Moment { millisecond, ..NOW }, "{text}");
         assert_eq!(stamp.to_string(), written);
     }
@@ -189,11 +252,12 @@ fn refuses_what_is_no_stamp() {
         ("0000-02-29T00:00:00Z", Reason::Outside),
     ];
     for (text, reason) in cases {
-        assert_eq!(text.parse::<Stamp>().unwrap_err().reason(), reason, "{text}");
+        assert_eq!(read_stamp(text).unwrap_err().reason(), reason, "{text}");
+        assert_eq!(text.parse::<Stamp>().unwrap_err(), read_stamp(text).unwrap_err(), "{text}");
     }
-    assert_eq!(Stamp { moment: NO_NOW, offset: Offset::East(1440) }.text().unwrap_err().reason(), Reason::NoNow);
-    assert_eq!(Stamp { moment: NOW, offset: Offset::West(1440) }.text().unwrap_err().reason(), Reason::NoStamp);
-    assert_eq!(Stamp { moment: NO_NOW, offset: Offset::East(0) }.to_string(), "the moment given is no date and time of the years 1 to 9999");
+    assert_eq!(write_stamp(Stamp { moment: INVALID, offset: Offset::East(1440) }).unwrap_err().reason(), Reason::InvalidMoment);
+    assert_eq!(write_stamp(Stamp { moment: NOW, offset: Offset::West(1440) }).unwrap_err().reason(), Reason::NoStamp);
+    assert_eq!(Stamp { moment: INVALID, offset: Offset::East(0) }.to_string(), "the given moment is not a valid date and time");
 }
 
 #[test]
@@ -226,14 +290,14 @@ fn shows_moments_as_phrases() {
         (whole(1000, 1, 1, 0, 1), "january 1 1000 at 0:01"),
     ];
     for (moment, phrase) in cases {
-        assert_eq!(moment.to_phrase().unwrap(), phrase);
+        assert_eq!(write_phrase(moment).unwrap(), phrase);
         assert_eq!(read(Reading::First, phrase, NOW), Ok(moment), "{phrase}");
         assert_eq!(read(Reading::Second, phrase, NOW) == Ok(moment), moment.year >= 1000, "{phrase}");
     }
-    assert_eq!(NO_NOW.to_phrase().unwrap_err().reason(), Reason::NoNow);
-    assert_eq!(Moment { millisecond: 1000, ..whole(2026, 3, 4, 9, 5) }.to_phrase().unwrap_err().reason(), Reason::NoNow);
-    assert_eq!(Moment { millisecond: 1, ..whole(2026, 3, 4, 9, 5) }.to_phrase().unwrap_err().reason(), Reason::NotWhole);
-    assert_eq!(Moment { second: 1, ..whole(2026, 3, 4, 9, 5) }.to_phrase().unwrap_err().reason(), Reason::NotWhole);
+    assert_eq!(write_phrase(INVALID).unwrap_err().reason(), Reason::InvalidMoment);
+    assert_eq!(write_phrase(Moment { millisecond: 1000, ..whole(2026, 3, 4, 9, 5) }).unwrap_err().reason(), Reason::InvalidMoment);
+    assert_eq!(write_phrase(Moment { millisecond: 1, ..whole(2026, 3, 4, 9, 5) }).unwrap_err().reason(), Reason::NotWhole);
+    assert_eq!(write_phrase(Moment { second: 1, ..whole(2026, 3, 4, 9, 5) }).unwrap_err().reason(), Reason::NotWhole);
 }
 
 #[test]
@@ -263,14 +327,16 @@ fn lists_rules() {
 
 #[test]
 fn refuses_rules_and_starts() {
-    for text in ["", "FREQ=YEARLY", "FREQ=DAILY;", "FREQ=DAILY;COUNT=0", "FREQ=DAILY;BYDAY=MO", "FREQ=DAILY;UNTIL=20260229", "FREQ=DAILY\u{e9}"] {
+    for text in
+        ["", "FREQ=YEARLY", "FREQ=DAILY;", "FREQ=DAILY;COUNT=0", "FREQ=DAILY;BYDAY=MO", "FREQ=DAILY;UNTIL=20260229", "FREQ=DAILY\u{e9}"]
+    {
         assert_eq!(Rule::parse(text).unwrap_err().reason(), Reason::NoRule, "{text}");
     }
     // the first two do not match the start that parsing takes either, Monday, 0001-01-01
     for text in ["FREQ=WEEKLY;BYDAY=TU", "FREQ=MONTHLY;BYMONTHDAY=31", "FREQ=DAILY;UNTIL=00010101"] {
         let rule = Rule::parse(text).unwrap();
         assert_eq!(rule.occurrences(NOW, 9).unwrap_err().reason(), Reason::NoStart, "{text}");
-        assert_eq!(rule.occurrences(NO_NOW, 9).unwrap_err().reason(), Reason::NoNow, "{text}");
+        assert_eq!(rule.occurrences(INVALID, 9).unwrap_err().reason(), Reason::InvalidMoment, "{text}");
     }
 }
 
@@ -313,13 +379,13 @@ fn says_what_comes_next() {
 
     let mondays = Rule::parse("FREQ=WEEKLY;BYDAY=MO").unwrap();
     assert_eq!(mondays.next(tuesday, last).unwrap_err().reason(), Reason::NoStart);
-    assert_eq!(mondays.next(tuesday, NO_NOW).unwrap_err().reason(), Reason::NoNow);
-    assert_eq!(mondays.next(NO_NOW, last).unwrap_err().reason(), Reason::NoNow);
+    assert_eq!(mondays.next(tuesday, INVALID).unwrap_err().reason(), Reason::InvalidMoment);
+    assert_eq!(mondays.next(INVALID, last).unwrap_err().reason(), Reason::InvalidMoment);
 }
 
 const NEW_YORK: &[u8] = include_bytes!("../../zones/New_York");
 
-/// 01:30:00 on 8 March 2026 in New York, half an hour before clocks go forward; the last transition of the file.
+/// 01:30:00 on 8 March 2026 in New York, half an hour before the clocks go forward; the last transition of the file.
 const BEFORE_GAP: i64 = 1772951400;
 const LAST: i64 = 1805007600;
 
@@ -327,7 +393,7 @@ const LAST: i64 = 1805007600;
 fn due(reading: Reading, phrase: &str, zone: &Zone, second: i64, millisecond: u32) -> Result<Local, Reason> {
     let now = Instant { second, millisecond };
     let answer = read_in_zone(reading, phrase, zone, now).map_err(|refusal| refusal.reason());
-    let run = Ready::new(reading, phrase).and_then(|ready| ready.run_in_zone(zone, now)).map_err(|refusal| refusal.reason());
+    let run = make_ready(reading, phrase).and_then(|ready| ready.run_in_zone(zone, now)).map_err(|refusal| refusal.reason());
     assert_eq!(answer, run, "{phrase}, made ready");
     answer
 }
@@ -358,7 +424,8 @@ fn gives_instants_in_a_zone() {
 
 #[test]
 fn shows_offsets_of_both_signs_and_with_seconds() {
-    let cases = [(0, "+00:00"), (19_800, "+05:30"), (93_599, "+25:59:59"), (-17_762, "-04:56:02"), (-89_999, "-24:59:59"), (-1, "-00:00:01")];
+    let cases =
+        [(0, "+00:00"), (19_800, "+05:30"), (93_599, "+25:59:59"), (-17_762, "-04:56:02"), (-89_999, "-24:59:59"), (-1, "-00:00:01")];
     for (offset, shown) in cases {
         let mut file = NEW_YORK.to_vec();
         file[131..135].copy_from_slice(&i32::to_be_bytes(offset)); // the first type's
@@ -389,8 +456,8 @@ fn refuses_in_a_zone() {
         ("january 1, 99", BEFORE_GAP, 0, Reason::NoTime),
         ("1000/1/1", BEFORE_GAP, 0, Reason::NoDate),
         ("this month", BEFORE_GAP, 0, Reason::NoSense),
-        ("now", LAST, 1000, Reason::NoNow),
-        ("now", i64::MIN, 0, Reason::NoNow),
+        ("now", LAST, 1000, Reason::InvalidMoment),
+        ("now", i64::MIN, 0, Reason::InvalidMoment),
         ("5/2", LAST, 1000, Reason::LeftOver),
     ];
     for (phrase, second, millisecond, reason) in cases {
@@ -423,7 +490,10 @@ fn answers_in_damaged_zones() {
         let Ok(zone) = Zone::parse(&file) else { continue };
         zones += 1;
         if let Err(reason) = due(Reading::First, "tomorrow", &zone, BEFORE_GAP, 0) {
-            assert!(matches!(reason, Reason::NoNow | Reason::Outside | Reason::PastLast | Reason::NoInstant), "bit {bit}: {reason:?}");
+            assert!(
+                matches!(reason, Reason::InvalidMoment | Reason::Outside | Reason::PastLast | Reason::NoInstant),
+                "bit {bit}: {reason:?}"
+            );
         }
     }
     assert!(zones > 0 && zones < 8 * NEW_YORK.len());
@@ -432,8 +502,8 @@ fn answers_in_damaged_zones() {
 #[test]
 fn keeps_a_board() {
     let mut board = Board::new(NOW).unwrap();
-    assert_eq!((board.head().unwrap_err().reason(), board.order()), (Reason::NoMoment, vec![]));
-    assert_eq!(Board::new(NO_NOW).unwrap_err().reason(), Reason::NoNow);
+    assert_eq!((board.head().unwrap_err().reason(), board.order()), (Reason::NothingDue, vec![]));
+    assert_eq!(Board::new(INVALID).unwrap_err().reason(), Reason::InvalidMoment);
     let reminders = ["next friday", "tuesday in two weeks", "noon", "an hour ago", "60 minutes ago", "this month"];
     for (slot, phrase) in (0..).zip(reminders) {
         assert_eq!(board.add(Reading::First, phrase), Ok(slot), "{phrase}");
@@ -447,14 +517,14 @@ fn keeps_a_board() {
     assert_eq!(board.add(Reading::Second, "tuesday in two weeks"), Ok(1));
     assert_eq!(board.order(), [3, 4, 2, 0, 1, 5]);
 
-    // an older now is taken
+    // an earlier now is accepted
     board.again(LEAP_DAY).unwrap();
     assert_eq!(board.order(), [3, 4, 2, 0, 1, 5]);
     assert_eq!(board.head(), Ok((3, Moment { hour: 11, ..LEAP_DAY })));
 }
 
 #[test]
-fn leaves_a_board_as_before_on_a_refusal() {
+fn leaves_a_board_unchanged_on_a_refusal() {
     let mut board = Board::new(NOW).unwrap();
     board.add(Reading::First, "tomorrow").unwrap();
     let seen = |board: &Board| (board.order(), board.head());
@@ -462,7 +532,7 @@ fn leaves_a_board_as_before_on_a_refusal() {
     for slot in [1, 255, 256, 257, u32::MAX] {
         assert_eq!(board.remove(slot).unwrap_err().reason(), Reason::EmptySlot);
     }
-    assert_eq!(board.again(NO_NOW).unwrap_err().reason(), Reason::NoNow);
+    assert_eq!(board.again(INVALID).unwrap_err().reason(), Reason::InvalidMoment);
     let refusal = board.add(Reading::First, "next forty").unwrap_err();
     assert_eq!((refusal.reason(), refusal.place(), refusal.part()), (Reason::Unknown, 5, &b"forty"[..]));
     assert_eq!(seen(&board), before);

@@ -1,4 +1,4 @@
-// Every function with good, damaged and empty input, each refusal that can arise here, and all of it in eight threads: every ZONE.
+// Every function with good, damaged and empty input, each refusal that can arise here, and all of it in eight threads: every ZONE VERSION.
 import CFuzzydate
 import Dispatch
 import Foundation
@@ -6,7 +6,7 @@ import Foundation
 let now = Moment(year: 2026, month: 2, day: 11, hour: 9, minute: 30, second: 15, millisecond: 250)
 let leapDay = Moment(year: 2024, month: 2, day: 29, hour: 12, minute: 0, second: 0, millisecond: 0)
 let whole = Moment(year: 2026, month: 3, day: 4, hour: 9, minute: 5, second: 0, millisecond: 0)
-let noNow = Moment(year: 2026, month: 2, day: 30, hour: 0, minute: 0, second: 0, millisecond: 0)
+let noDay = Moment(year: 2026, month: 2, day: 30, hour: 0, minute: 0, second: 0, millisecond: 0)
 
 func expect(_ holds: Bool, _ what: String) {
     if !holds {
@@ -58,21 +58,23 @@ func refusals() throws {
         (Array("four billion days ago".utf8), .outside, 0, []),
     ]
     for (phrase, reason, place, part) in cases {
-        let wanted = Refusal(reason: reason, place: place, part: part)
+        let wanted = Refusal(number: reason.rawValue, place: place, part: part)
         expect(refusal(reason, "\(reason)") { try Fuzzydate.read(.first, phrase, now: now) } == wanted, "\(wanted)")
         if reason.rawValue <= Reason.leftOver.rawValue {
             expect(refusal(reason, "\(reason)") { try Fuzzydate.makeReady(.first, phrase) } == wanted, "\(wanted), made ready")
         }
     }
     _ = refusal(.noLeapDay, "29 February") { try Fuzzydate.read(.first, "a year from now", now: leapDay) }
-    _ = refusal(.noNow, "30 February") { try Fuzzydate.read(.first, "today", now: noNow) }
-    _ = refusal(.noNow, "30 February shown") { try Fuzzydate.writePhrase(noNow) }
+    _ = refusal(.invalidMoment, "30 February") { try Fuzzydate.read(.first, "today", now: noDay) }
+    _ = refusal(.invalidMoment, "30 February shown") { try Fuzzydate.writePhrase(noDay) }
     _ = refusal(.notWhole, "seconds shown") { try Fuzzydate.writePhrase(now) }
     expect(Reason.unknown.words == "not understood" && Reason.noInstant.words == "the zone's clocks skip that time", "words")
-    expect(Reason.noMoment.words == "nothing has a moment", "words of the last reason")
-    let unsaid = String(cString: fuzzy_word(0xffff))
+    expect(Reason.nothingDue.words == "no reminder has a moment", "words of the last reason")
+    let newer = Refusal(number: 999, place: 0, part: [])
+    expect(newer.reason == nil && newer.words == "a refusal of a newer library", "a newer library")
+    let unsaid = String(cString: fuzzy_words(0xffff))
     for number: UInt32 in 1..<1000 {
-        expect((Reason(rawValue: number) == nil) == (String(cString: fuzzy_word(number)) == unsaid), "whether there is a reason \(number)")
+        expect((Reason(rawValue: number) == nil) == (String(cString: fuzzy_words(number)) == unsaid), "whether there is a reason \(number)")
     }
     expect(Reason(rawValue: 0) == nil, "no reason 0")
 }
@@ -91,7 +93,7 @@ func stamps() throws {
     }
     expect(try Fuzzydate.writeStamp(Stamp(moment: whole, offset: .west(0))) == "2026-03-04T09:05:00-00:00", "west by 0 minutes")
     _ = refusal(.noStamp, "an offset of 1440") { try Fuzzydate.writeStamp(Stamp(moment: whole, offset: .east(1440))) }
-    _ = refusal(.noNow, "a stamp of 30 February") { try Fuzzydate.writeStamp(Stamp(moment: noNow, offset: .unknown)) }
+    _ = refusal(.invalidMoment, "a stamp of 30 February") { try Fuzzydate.writeStamp(Stamp(moment: noDay, offset: .unknown)) }
     _ = refusal(.outside, "year 0") { try Fuzzydate.readStamp("0000-02-29T00:00:00Z") }
 }
 
@@ -101,7 +103,7 @@ func wordsAndPhrases() throws {
     expect(Fuzzydate.findWord(.first, "") == FoundWord(code: nil, comparisons: 7), "an empty word")
     expect(try Fuzzydate.writePhrase(whole) == "march 4 2026 at 9:05", "a phrase")
     for reading in [Reading.first, .second] {
-        expect(try Fuzzydate.read(reading, Fuzzydate.writePhrase(whole), now: now) == whole, "a phrase that was shown")
+        expect(try Fuzzydate.read(reading, Fuzzydate.writePhrase(whole), now: now) == whole, "a phrase that was written")
     }
 }
 
@@ -129,7 +131,7 @@ func rules() throws {
             var after = moment
             after.millisecond += 1
             if i + 1 < wanted.count {
-                expect(try Fuzzydate.next(rule, from: tuesday, asked: after) == wanted[i + 1], rule + ", asked a millisecond after an occurrence")
+                expect(try Fuzzydate.next(rule, from: tuesday, asked: after) == wanted[i + 1], rule + ", asked a millisecond later")
             } else if wanted.count < most {
                 _ = refusal(.noNext, rule) { try Fuzzydate.next(rule, from: tuesday, asked: after) }
             }
@@ -137,14 +139,15 @@ func rules() throws {
     }
     expect(try Fuzzydate.next(tuesdays, from: tuesday, asked: on(1, 1, 1)) == tuesday, "asked before the start")
     expect(try Fuzzydate.next(tuesdays, from: tuesday, asked: on(2026, 2, 10, 249)) == tuesday, "asked a millisecond before the start")
-    expect(try Fuzzydate.occurrences("FREQ=DAILY", from: on(9999, 12, 30), most: 9) == [on(9999, 12, 30), on(9999, 12, 31)], "the last days")
-    expect(try Fuzzydate.next("FREQ=DAILY", from: tuesday, asked: on(9999, 12, 31)) == on(9999, 12, 31), "the last day")
-    _ = refusal(.noNext, "behind the last day") { try Fuzzydate.next("FREQ=DAILY", from: tuesday, asked: on(9999, 12, 31, 251)) }
+    let lastDays = [on(9999, 12, 30), on(9999, 12, 31)]
+    expect(try Fuzzydate.occurrences("FREQ=DAILY", from: lastDays[0], most: 9) == lastDays, "the last days")
+    expect(try Fuzzydate.next("FREQ=DAILY", from: tuesday, asked: lastDays[1]) == lastDays[1], "the last day")
+    _ = refusal(.noNext, "after the last day") { try Fuzzydate.next("FREQ=DAILY", from: tuesday, asked: on(9999, 12, 31, 251)) }
 }
 
 /// A rule or a start that both calls refuse alike, with room and without.
 func unlisted(_ rule: [UInt8], _ start: Moment, _ reason: Reason) {
-    let wanted = Refusal(reason: reason, place: 0, part: [])
+    let wanted = Refusal(number: reason.rawValue, place: 0, part: [])
     for most: UInt in [0, 2] {
         expect(refusal(reason, "\(rule)") { try Fuzzydate.occurrences(rule, from: start, most: most) } == wanted, "\(rule)")
     }
@@ -158,21 +161,35 @@ func refusedRules() {
     for rule in ["FREQ=WEEKLY;BYDAY=MO", "FREQ=MONTHLY;BYMONTHDAY=31", "FREQ=DAILY;UNTIL=20260210T093015"] {
         unlisted(Array(rule.utf8), tuesday, .noStart)
     }
-    unlisted(Array("FREQ=YEARLY".utf8), noNow, .noNow)
-    unlisted(Array(tuesdays.utf8), on(2026, 2, 10, 1000), .noNow)
-    _ = refusal(.noNow, "asked on 30 February") { try Fuzzydate.next(tuesdays, from: tuesday, asked: noNow) }
+    unlisted(Array("FREQ=YEARLY".utf8), noDay, .invalidMoment)
+    unlisted(Array(tuesdays.utf8), on(2026, 2, 10, 1000), .invalidMoment)
+    _ = refusal(.invalidMoment, "asked on 30 February") { try Fuzzydate.next(tuesdays, from: tuesday, asked: noDay) }
 }
 
-/// What is lent to listing and asking: rows at the front, all else as before, and nothing on a refusal.
+/// 09:30:15.250 on a day of February 2026, as the library takes it.
+func lent(_ day: UInt32) -> fuzzy_moment {
+    fuzzy_moment(year: 2026, month: 2, day: day, hour: 9, minute: 30, second: 15, millisecond: 250)
+}
+
+/// A call on the bytes of a text, which C takes as characters.
+func characters(_ text: [UInt8], _ call: (UnsafePointer<CChar>?, UInt64) -> UInt64) -> UInt64 {
+    text.withUnsafeBytes { call($0.bindMemory(to: CChar.self).baseAddress, UInt64(text.count)) }
+}
+
+/// The buffers of listing and asking: rows at the front, all else unchanged, and nothing on a refusal.
 func rows() {
-    let cases: [(String, Int, UInt32)] = [("FREQ=DAILY", 2, 0), ("FREQ=DAILY;COUNT=1", 1, 20), ("FREQ=YEARLY", 0, 18), ("FREQ=WEEKLY;BYDAY=MO", 0, 19)]
+    let cases: [(String, Int, UInt32)] = [
+        ("FREQ=DAILY", 2, 0), ("FREQ=DAILY;COUNT=1", 1, 20), ("FREQ=YEARLY", 0, 18), ("FREQ=WEEKLY;BYDAY=MO", 0, 19),
+    ]
     for (rule, count, refused) in cases {
         let text = Array(rule.utf8), untouched = [UInt32](repeating: 0xa5, count: 20)
-        var listed = untouched, next = untouched
-        let answer = fuzzy_list(text, text.count, 2026, 2, 10, 9, 30, 15, 250, &listed, 20)
+        var listed = untouched, next = fuzzy_moment()
+        next.year = 0xa5
+        var start = lent(10), asked = lent(11)
+        let answer = characters(text) { fuzzy_list_in($0, $1, &start, &listed, 20) }
         expect(fuzzy_length(answer) == count && Array(listed[(7 * count)...]) == Array(untouched[(7 * count)...]), rule + ", listed")
-        let asked = fuzzy_next(text, text.count, 2026, 2, 10, 9, 30, 15, 250, 2026, 2, 11, 9, 30, 15, 250, &next)
-        expect(fuzzy_number(asked) == refused && (refused == 0 || next == untouched), rule + ", asked")
+        let found = characters(text) { fuzzy_next($0, $1, &start, &asked, &next) }
+        expect(fuzzy_number(found) == refused && (refused == 0 || next.year == 0xa5), rule + ", asked")
     }
 }
 
@@ -220,7 +237,7 @@ func zones() throws {
 
 /// A phrase that both calls refuse alike.
 func undue(_ reason: Reason, _ phrase: String, _ zone: [UInt8], _ now: Instant) {
-    let wanted = Refusal(reason: reason, place: 0, part: [])
+    let wanted = Refusal(number: reason.rawValue, place: 0, part: [])
     expect(refusal(reason, phrase) { try Fuzzydate.readInZone(.first, phrase, zone: zone, now: now) } == wanted, phrase)
     let run = refusal(reason, phrase) { try Fuzzydate.runInZone(Fuzzydate.makeReady(.first, phrase), zone: zone, now: now) }
     expect(run == wanted, phrase + ", made ready")
@@ -233,8 +250,8 @@ func refusedInZones() {
         (.pastLast, "2 years from now", beforeGap),
         (.pastLast, "now", last),
         (.pastLast, "this month", Instant(second: Int64.max, millisecond: 0)),
-        (.noNow, "now", Instant(second: Int64.min, millisecond: 0)),
-        (.noNow, "now", Instant(second: last.second, millisecond: 1000)),
+        (.invalidMoment, "now", Instant(second: Int64.min, millisecond: 0)),
+        (.invalidMoment, "now", Instant(second: last.second, millisecond: 1000)),
         (.noSense, "this month", beforeGap),
         (.noDate, "1000/1/1", beforeGap),
         (.noTime, "january 1, 99", beforeGap),
@@ -249,7 +266,7 @@ func refusedInZones() {
     expect(unknown.place == 5 && unknown.part == Array("forty".utf8), "a word before the zone")
 }
 
-/// The file cut short, with each bit changed, and with as many bytes behind it as a zone may have, and one more.
+/// The file cut short, with each bit changed, and with as many bytes after it as a zone may have, and one more.
 func zoneFiles() throws {
     for length in 0..<newYork.count {
         undue(.noZone, "now", Array(newYork.prefix(length)), beforeGap)
@@ -262,7 +279,8 @@ func zoneFiles() throws {
             _ = try due(.second, "tomorrow", zone, beforeGap)
             kept += 1
         } catch let refusal as Refusal {
-            expect([.noNow, .outside, .noZone, .pastLast, .noInstant].contains(refusal.reason), "bit \(bit): \(refusal)")
+            let others: [Reason?] = [.invalidMoment, .outside, .noZone, .pastLast, .noInstant]
+            expect(others.contains(refusal.reason), "bit \(bit): \(refusal)")
         }
     }
     expect(kept > 0, "other zones")
@@ -277,15 +295,17 @@ func zoneFiles() throws {
     }
 }
 
-/// What is lent to both calls stays on a refusal.
+/// The buffers of both calls are unchanged on a refusal.
 func lentInZones() throws {
-    let ready = try Fuzzydate.makeReady(.first, "now"), untouched = [UInt32](repeating: 0xa5, count: 9)
+    let ready = try Fuzzydate.makeReady(.first, "now")
     for (zone, number) in [(newYork, 22), ([], 21)] as [([UInt8], UInt32)] {
-        var due: Int64 = 0xa5, local = untouched
-        let read = fuzzy_read_in_zone(1, Array("now".utf8), 3, zone, zone.count, last.second, 0, &due, &local)
-        let run = fuzzy_run_in_zone(ready, ready.count, zone, zone.count, last.second, 0, &due, &local)
+        var due: Int64 = 0xa5, local = fuzzy_local(moment: lent(10), west: 0xa5, offset: 0xa5)
+        let read = characters(Array("now".utf8)) {
+            fuzzy_read_in_zone(1, $0, $1, zone, UInt64(zone.count), last.second, 0, &due, &local)
+        }
+        let run = fuzzy_run_in_zone(ready, UInt64(ready.count), zone, UInt64(zone.count), last.second, 0, &due, &local)
         expect(fuzzy_number(read) == number && fuzzy_number(run) == number, "a refusal in a zone")
-        expect(due == 0xa5 && local == untouched, "nothing written for what is refused in a zone")
+        expect(due == 0xa5 && local.west == 0xa5 && local.moment.day == 10, "nothing written for what is refused in a zone")
     }
 }
 
@@ -315,29 +335,30 @@ func boards() throws {
 func left(_ board: inout Board, _ reason: Reason, _ call: (inout Board) throws -> Any) -> Refusal {
     let before = board
     let refused = refusal(reason, "\(reason) of a board") { try call(&board) }
-    expect(before.ready == board.ready && before.lengths == board.lengths && before.keys == board.keys && before.state == board.state, "\(reason)")
+    let same = before.ready == board.ready && before.lengths == board.lengths && before.keys == board.keys
+    expect(same && before.state == board.state, "\(reason)")
     return refused
 }
 
 func refusedBoards() throws {
     var board = try Board(now: leapDay)
-    _ = left(&board, .noMoment) { try $0.head() }
+    _ = left(&board, .nothingDue) { try $0.head() }
     expect(try board.add(.first, "a year from now") == 0, "a phrase that refuses at the board's now")
-    _ = left(&board, .noMoment) { try $0.head() }
+    _ = left(&board, .nothingDue) { try $0.head() }
     try board.again(now: now)
     expect(try board.head().moment.year == 2027, "which has a moment at another")
     for slot: UInt32 in [1, 255, 256, UInt32.max] {
         _ = left(&board, .emptySlot) { try $0.remove(slot) }
     }
-    _ = refusal(.noNow, "a board on 30 February") { try Board(now: noNow) }
-    _ = left(&board, .noNow) { try $0.again(now: noNow) }
+    _ = refusal(.invalidMoment, "a board on 30 February") { try Board(now: noDay) }
+    _ = left(&board, .invalidMoment) { try $0.again(now: noDay) }
     expect(left(&board, .unknown) { try $0.add(.first, "next forty") }.part == Array("forty".utf8), "the part of a refused phrase")
     for slot: UInt32 in 1..<256 {
         expect(try board.add(.second, "tomorrow") == slot, "a board filled")
     }
     _ = left(&board, .fullBoard) { try $0.add(.first, "now") }
     _ = left(&board, .leftOver) { try $0.add(.first, "5/2") }
-    let answer = fuzzy_board_add_in(&board.ready, &board.lengths, &board.keys, &board.state, 3, [], 0)
+    let answer = fuzzy_board_add_in(&board.ready, &board.lengths, &board.keys, &board.state, 3, nil, 0)
     expect(fuzzy_number(answer) == Reason.noReading.rawValue, "no reading on a full board")
     try board.remove(77)
     expect(try board.add(.first, "now") == 77 && board.head() == Due(slot: 77, moment: now), "a slot of a full board")
@@ -361,12 +382,12 @@ func anyMemory() throws {
     board.lengths = board.lengths.map { _ in UInt32.random(in: 0...UInt32.max) }
     board.keys = board.keys.map { _ in UInt64.random(in: 0...UInt64.max) }
     board.state = board.state.map { _ in UInt32.random(in: 0...UInt32.max) }
-    answers(.noMoment) { _ = try board.head() }
+    answers(.nothingDue) { _ = try board.head() }
     answers(.emptySlot) { try board.remove(UInt32.random(in: 0...257)) }
     answers(.fullBoard) { _ = try board.add(.first, "noon") }
     expect(board.order().allSatisfy { $0 < 256 }, "an order of any memory")
     try board.again(now: now)
-    answers(.noMoment) { _ = try board.head() }
+    answers(.nothingDue) { _ = try board.head() }
 }
 
 func garbage() {
@@ -379,6 +400,12 @@ func garbage() {
         unlisted(bytes, tuesday, .noRule)
         expect(Fuzzydate.findWord(.second, bytes).comparisons <= 8, "comparisons")
     }
+}
+
+/// The version of the binding is that of the repository, and the library says the same of itself.
+func versions() throws {
+    let version = try String(contentsOfFile: CommandLine.arguments[2], encoding: .utf8).trimmingCharacters(in: .newlines)
+    expect(Fuzzydate.version == version && Fuzzydate.libraryVersion == version, "version \(version)")
 }
 
 func every() throws {
@@ -399,6 +426,7 @@ func every() throws {
     try anyMemory()
 }
 
+try versions()
 try every()
 try longest()
 DispatchQueue.concurrentPerform(iterations: 8) { _ in try! every() }

@@ -20,20 +20,19 @@ use Rattle.ready.proofs.Settles.{run-settled}
 use Rattle.records.specs.Records.{decodeOf}
 use Rattle.fuzzydate.proofs.Readings.{settled-in, ready-in-answers, made-in, no-reading}
 use Rattle.fuzzydate.specs.Called.{answerIn, readyIn, codeOf, momentAfter, foundIn, foundAfter}
-use Rattle.agreed.specs.Calls.{IsReading, first, second, MakeReady, readSeen, runSeen, Read, Run, number, size}
+use Rattle.agreed.specs.Calls.{IsReading, first, second, MakeReady, Read, Run, number, size}
 use Rattle.agreed.specs.Calls.{Alike, Agree, Usual, Answered}
 use Rattle.agreed.specs.Calls.{FindWord, Counted, counted}
-use Rattle.agreed.proofs.AnyNow.{Says, says, Makes, make-says, handed, not-zero, none-ready, Answering, answered, agreed, reads-alike, no-reads}
+use Rattle.agreed.proofs.AnyNow.{tells, Says, Makes, make-says, handed, not-zero, none-ready, Answering, answered, agreed, reads-alike, no-reads}
 
 module _ {bytes : List ℕ} {n : Moment} {array : List ℕ} {k : ℕ} {array′ : List ℕ} where
   pub read-says : (reading : ℕ) → Read reading bytes n array k array′ → Says momentAfter (answerIn reading bytes n) array k array′
   read-says reading =
-      says momentAfter (readSeen reading) (answerIn reading)
-      (λ c. record { number-is = rw (← (c .reading-is)) (c .call .promised .0); array′-is = rw (← (c .reading-is)) (c .call .promised .1) })
+      tells codeOf momentAfter (λ g l. answerIn (g .0) (g .1) (g .2)) (λ κs a e k g l h p. record { number-is = p .0; array′-is = p .1 })
 
   pub run-says : Run bytes n array k array′ → Says momentAfter (placed (runOf (decodeOf bytes) n)) array k array′
   run-says =
-      says momentAfter runSeen (λ bytes n. placed (runOf (decodeOf bytes) n)) (λ c. record { number-is = c .promised .0; array′-is = c .promised .1 })
+      tells codeOf momentAfter (λ g l. placed (runOf (decodeOf (g .0)) (g .1))) (λ κs a e k g l h p. record { number-is = p .0; array′-is = p .1 })
 
 -- what is answered at a now of seven numbers
 abbrev atOffset : Answering Moment Read Run
@@ -106,18 +105,9 @@ pub run-answers :
     (ready : List ℕ) (n : Moment) {array array′ : List ℕ} {k : ℕ} → Run ready n array k array′ → Answered 8 0 array k array′
 run-answers ready n c = answered atOffset (usual (omega arith)) (run-settled (decodeOf ready) n) (run-says c)
 
--- what is found of a word by the definitions becomes this in a call
-record Finds (w : Answer Looked) (array : List ℕ) (k : ℕ) (array′ : List ℕ) : Type 0 where
-  number-is : k ≡ codeOf w
-  array′-is : array′ ≡ foundAfter w array
-
-find-says : {reading : ℕ} {word array array′ : List ℕ} {k : ℕ} → FindWord reading word array k array′ → Finds (foundIn reading word) array k array′
-find-says c =
-    let p = c .call .promised in
-    record {
-      number-is = rw (← (c .reading-is), ← (c .word-is), ← (c .answer-is)) (p .0);
-      array′-is = rw (← (c .reading-is), ← (c .word-is), ← (c .array-is), ← (c .array′-is)) (p .1);
-    }
+find-says :
+    {reading : ℕ} {word array array′ : List ℕ} {k : ℕ} → FindWord reading word array k array′ → Says foundAfter (foundIn reading word) array k array′
+find-says = tells codeOf foundAfter (λ g l. foundIn (g .0) (g .1)) (λ κs a e k g l h p. record { number-is = p .0; array′-is = p .1 })
 
 -- "Finding a word, or that it is absent, takes at most 8 comparisons with table words in either reading": for every byte string, in what is answered
 pub find-answers :

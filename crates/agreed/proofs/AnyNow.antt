@@ -14,38 +14,36 @@ use Rattle.records.specs.Records.{encodeOf, decodeOf}
 use Rattle.fuzzydate.specs.Called.{readyIn, code, codeOf, readyCode, readyAfter}
 use Rattle.fuzzydate.proofs.Readings.{made-in, read-back, no-reading}
 use Rattle.fuzzydate.proofs.HandedOn.{cut-off}
-use Rattle.agreed.specs.Calls.{IsReading, first, second, MakeReady, Seen, AtNow, number, place, size, Alike, Agree, Answers, moment, refusal}
+use Rattle.agreed.specs.Calls.{IsReading, first, second, MakeReady, Called, number, place, size, Alike, Agree, Answers, moment, refusal}
 
--- a promise that gives the answer of a definition, and leaves what an answer leaves in lent arrays
-module _ {A L : Type 0} (after : Answer A → L → L) where
-  -- what an answer of the definitions becomes in a call
-  pub record Says (w : Answer A) (array : L) (k : ℕ) (array′ : L) : Type 0 where
-    pub number-is : k ≡ codeOf w
-    pub array′-is : array′ ≡ after w array
+-- what an answer of the definitions becomes in a call: a number, and what is left in lent memory
+pub record Tells {W L : Type 0} (told : W → ℕ) (after : W → L → L) (w : W) (array : L) (k : ℕ) (array′ : L) : Type 0 where
+  pub number-is : k ≡ told w
+  pub array′-is : array′ ≡ after w array
 
-  pub says :
-      {N C : Type 0} (seen : Seen N L C) (defined : List ℕ → N → Answer A) →
-      ((c : C) → Says (defined (seen .bytesOf c) (seen .nowOf c)) (seen .arrayOf c) (seen .resultOf c) (seen .arrayAfter c)) →
-      {bytes : List ℕ} {n : N} {array : L} {k : ℕ} {array′ : L} → AtNow seen bytes n array k array′ → Says (defined bytes n) array k array′
-  says seen defined promised c =
-      record {
-        number-is = rw (← (c .bytes-are), ← (c .now-is), ← (c .answer-is)) (promised (c .call) .number-is);
-        array′-is = rw (← (c .bytes-are), ← (c .now-is), ← (c .array-is), ← (c .array′-is)) (promised (c .call) .array′-is);
-      }
+-- a promise that gives the answer of a definition, and leaves what an answer leaves, gives it in every call
+pub tells :
+    {K : Type 0} {A E : K → Type 0} {Post : (κs : K) → A κs → ℕ → E κs → Type 0} {G L W : Type 0}
+    {givenIn : (κs : K) → A κs → G → G} {lentIn : (κs : K) → A κs → L → L} {leftIn : (κs : K) → E κs → L → L}
+    (told : W → ℕ) (after : W → L → L) (defined : G → L → W) →
+    ((κs : K) (a : A κs) (e : E κs) (k : ℕ) (g : G) (l : L) → lentIn κs a l ≡ l → Post κs a k e →
+    Tells told after (defined (givenIn κs a g) (lentIn κs a l)) (lentIn κs a l) k (leftIn κs e l)) →
+    {g : G} {l : L} {k : ℕ} {l′ : L} → Called Post G L givenIn lentIn leftIn g l k l′ → Tells told after (defined g l) l k l′
+tells told after defined promised {g} {l} {k} {l′} c =
+    rw (c .given-is, c .lent-is, c .left-is) at (promised (c .κs) (c .args) (c .exit) k g l (c .lent-is) (c .promised))
 
--- what a ready phrase of the definitions becomes in a call
-pub record Makes (w : ReadyPhrase) (array : List ℕ) (k : ℕ) (array′ : List ℕ) : Type 0 where
-  pub number-is : k ≡ readyCode w
-  pub array′-is : array′ ≡ readyAfter w array
+-- of what is answered as 0 or a refusal
+abbrev pub Says : {A L : Type 0} → (Answer A → L → L) → Answer A → L → ℕ → L → Type 0
+Says after w array k array′ = Tells codeOf after w array k array′
+
+-- of a ready phrase
+abbrev pub Makes : ReadyPhrase → List ℕ → ℕ → List ℕ → Type 0
+Makes w array k array′ = Tells readyCode readyAfter w array k array′
 
 pub make-says :
     {reading : ℕ} {phrase array array′ : List ℕ} {k : ℕ} → MakeReady reading phrase array k array′ → Makes (readyIn reading phrase) array k array′
 make-says c =
-    let p = c .call .promised in
-    record {
-      number-is = rw (← (c .reading-is), ← (c .phrase-is), ← (c .answer-is)) (p .0);
-      array′-is = rw (← (c .reading-is), ← (c .phrase-is), ← (c .array-is), ← (c .array′-is)) (p .1);
-    }
+    tells readyCode readyAfter (λ g l. readyIn (g .0) (g .1)) (λ κs a e k g l h p. record { number-is = p .0; array′-is = p .1 }) (c .call)
 
 -- the bytes that an app hands on are those of the steps, whatever the array held
 pub handed :

@@ -8,7 +8,7 @@ use lib.Dec.{ltb}
 use lib.ListN.{length, replicate}
 use lib.Seq.{sets}
 use borrow.Author.Tests.{lt-ltb}
-use Rattle.refusals.specs.Table.{NoNow, EmptySlot}
+use Rattle.refusals.specs.Table.{InvalidMoment, EmptySlot}
 use Rattle.refusals.specs.Answers.{Answer, given, refused, refuse, andThen}
 use Rattle.calendar.specs.Moments.{isMoment}
 use Rattle.calendar.specs.declared.moments.Moment.{Moment}
@@ -33,7 +33,7 @@ make-makes {n} {m} {m′} {k} c = go (isMoment n) refl (make-says c)
     board : Memory
     board = memory (m .ready) (replicate 256 0) (m .keys) (stateOf n 0)
 
-    go : (b : Bool) → isMoment n ≡ b → let w = cond b (done 0 board) (refuse NoNow 0 0) in (k ≡ codeOf w) × (m′ ≡ memoryAfter m w) → Makes n m k m′
+    go : (b : Bool) → isMoment n ≡ b → let w = cond b (done 0 board) (refuse InvalidMoment 0 0) in (k ≡ codeOf w) × (m′ ≡ memoryAfter m w) → Makes n m k m′
     go true e says = rw (says .0, says .1) (empty {m′ = board} e (make-empties m n {d = record { number = 0; after = board }} (rw e)))
     go false e says = rw (says .0, says .1) (unmade e)
 
@@ -45,7 +45,7 @@ again-moves-all {n} {m} {m′} {k} c = go (isMoment n) refl (again-says c)
     board : Memory
     board = memory (m .ready) (m .lengths) (sets (m .keys) 0 (orderAt m n)) (stateOf n (length (orderAt m n)))
 
-    go : (b : Bool) → isMoment n ≡ b → let w = cond b (done 0 board) (refuse NoNow 0 0) in (k ≡ codeOf w) × (m′ ≡ memoryAfter m w) → Moves n m k m′
+    go : (b : Bool) → isMoment n ≡ b → let w = cond b (done 0 board) (refuse InvalidMoment 0 0) in (k ≡ codeOf w) × (m′ ≡ memoryAfter m w) → Moves n m k m′
     go true e says = rw (says .0, says .1) (moved {m′ = board} e (again-moves m n {d = record { number = 0; after = board }} (rw e)))
     go false e says = rw (says .0, says .1) (unmoved e)
 

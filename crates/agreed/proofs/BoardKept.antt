@@ -8,16 +8,16 @@ use mathlib.Core.List.{List}
 use lib.ListN.{length, getD, take, replicate}
 use lib.Seq.{sets}
 use Rattle.digits.proofs.Stores.{sets-taken}
-use Rattle.refusals.specs.Table.{NoNow}
+use Rattle.refusals.specs.Table.{InvalidMoment}
 use Rattle.refusals.specs.Answers.{Answer, given, refused, refuse, andThen}
-use Rattle.calendar.specs.Moments.{isMoment}
+use Rattle.calendar.specs.Moments.{isMoment, momentIn}
 use Rattle.calendar.specs.declared.moments.Moment.{Moment}
 use Rattle.lexer.specs.Keywords.{wordsIn}
 use Rattle.lexer.specs.declared.reading.Reading.{Reading}
 use Rattle.numbers.specs.Slices.{oneIf}
 use Rattle.answer.specs.Answer.{placed, answerOf}
 use Rattle.ready.specs.Ready.{ReadyPhrase, readyOf}
-use Rattle.board.specs.Boards.{Memory, memory, Done, done, memoryAfter, nowIn, stateOf, isFilled, outcomeAt, makeOf, addOf, removeOf, againOf, headOf, orderOf}
+use Rattle.board.specs.Boards.{Memory, memory, Done, done, memoryAfter, stateOf, isFilled, outcomeAt, makeOf, addOf, removeOf, againOf, headOf, orderOf}
 use Rattle.board.specs.Scans.{Sized, IsBoard, scanOf, timesIn, Before}
 use Rattle.board.proofs.Heads.{head-scan}
 use Rattle.board.proofs.Kept.{held-answers, make-keeps, again-keeps, remove-keeps, add-keeps, order-once}
@@ -26,34 +26,43 @@ use Rattle.fuzzydate.specs.Called.{readingOf, readyIn, codeOf, addedCode, headC
 use Rattle.fuzzydate.proofs.BoardNumbers.{order-few}
 use Rattle.agreed.specs.Calls.{number, size}
 use Rattle.agreed.specs.Boards.{Make, Add, Remove, Again, Changed, by-make, by-add, by-remove, by-again, Made, new, then, Head, Order}
+use Rattle.agreed.proofs.AnyNow.{Tells, tells}
 
 -- a call answers and leaves what a definition says of the memory before it
 abbrev pub Says : (Answer Done → ℕ) → (Memory → Answer Done) → Memory → ℕ → Memory → Type 0
 Says code f m k m′ = (k ≡ code (f m)) × (m′ ≡ memoryAfter m (f m))
 
 pub make-says : {n : Moment} {m m′ : Memory} {k : ℕ} → Make n m k m′ → Says codeOf (λ x. makeOf x n) m k m′
-make-says {n} {m} {m′} {k} c =
-    let p = c .call .promised in
-    subst (λ (x : Memory). Says codeOf (λ y. makeOf y n) x k m′) (c .before)
-    (rw (← (c .now-is), ← (c .answer-is), ← (c .behind)) (p .0 (m .ready) (m .keys), p .1 (m .ready) (m .keys)))
+make-says c =
+    let s =
+    tells codeOf (λ w l. memoryAfter l w) (λ g l. makeOf l g)
+    (λ κs a e k g l h p. record { number-is = p .0 (l .ready) (l .keys); array′-is = p .1 (l .ready) (l .keys) }) c in
+    (s .number-is, s .array′-is)
 
 pub add-says : {reading : ℕ} {phrase : List ℕ} {m m′ : Memory} {k : ℕ} → Add reading phrase m k m′ → Says addedCode (λ x. addOf x (readyIn reading phrase)) m k m′
-add-says {reading} {phrase} {m} {m′} {k} c =
-    let p = c .call .promised in
-    subst (λ (x : Memory). Says addedCode (λ y. addOf y (readyIn reading phrase)) x k m′) (c .before)
-    (rw (← (c .reading-is), ← (c .phrase-is), ← (c .answer-is), ← (c .behind)) (p .0, p .1))
+add-says c =
+    let s =
+    tells addedCode (λ w l. memoryAfter l w) (λ g l. addOf l (readyIn (g .0) (g .1)))
+    (λ κs a e k g l h p. record { number-is = p .0; array′-is = p .1 }) c in
+    (s .number-is, s .array′-is)
 
 pub remove-says : {s : ℕ} {m m′ : Memory} {k : ℕ} → Remove s m k m′ → Says codeOf (λ x. removeOf x s) m k m′
-remove-says {s} {m} {m′} {k} c =
-    let p = c .call .promised in
-    subst (λ (x : Memory). Says codeOf (λ y. removeOf y s) x k m′) (c .before)
-    (rw (← (c .slot-is), ← (c .answer-is), ← (c .behind)) (p .0 (m .ready), p .1 (m .ready)))
+remove-says c =
+    let s =
+    tells codeOf (λ w l. memoryAfter l w) (λ g l. removeOf l g)
+    (λ κs a e k g l h p. record { number-is = p .0 (l .ready); array′-is = p .1 (l .ready) }) c in
+    (s .number-is, s .array′-is)
 
 pub again-says : {n : Moment} {m m′ : Memory} {k : ℕ} → Again n m k m′ → Says codeOf (λ x. againOf x n) m k m′
-again-says {n} {m} {m′} {k} c =
-    let p = c .call .promised in
-    subst (λ (x : Memory). Says codeOf (λ y. againOf y n) x k m′) (c .before)
-    (rw (← (c .now-is), ← (c .answer-is), ← (c .behind)) (p .0, p .1))
+again-says c =
+    let s =
+    tells codeOf (λ w l. memoryAfter l w) (λ g l. againOf l g)
+    (λ κs a e k g l h p.
+    record {
+      number-is = p .0;
+      array′-is = rw (← (ap (λ (x : Memory). x .ready) h), ← (ap (λ (x : Memory). x .lengths) h)) (p .1);
+    }) c in
+    (s .number-is, s .array′-is)
 
 -- what is answered of a refusal is not 0, and the memory stays
 leaves :
@@ -103,7 +112,7 @@ new-board {n} {m} {m′} sized c = go (isMoment n) refl (make-says c)
     empty : Memory
     empty = memory (m .ready) (replicate 256 0) (m .keys) (stateOf n 0)
 
-    go : (b : Bool) → isMoment n ≡ b → let w = cond b (done 0 empty) (refuse NoNow 0 0) in (0 ≡ codeOf w) × (m′ ≡ memoryAfter m w) → IsBoard m′
+    go : (b : Bool) → isMoment n ≡ b → let w = cond b (done 0 empty) (refuse InvalidMoment 0 0) in (0 ≡ codeOf w) × (m′ ≡ memoryAfter m w) → IsBoard m′
     go true e says = subst IsBoard (sym (says .1)) (make-keeps m n {d = record { number = 0; after = empty }} sized (rw e))
     go false e says = absurd (omega (arith, says .0))
 
@@ -115,21 +124,20 @@ made-board (then made c) = changed-board (made-board made) c
 -- "The head of the order equals what a scan of all reminders would give, ties by lower slot"
 pub head-scanned :
     {m : Memory} {array array′ : List ℕ} {k : ℕ} → Made m → Head m array k array′ → (k ≡ headCode (scanOf m)) × (array′ ≡ headAfter (scanOf m) array)
-head-scanned {m} {array} {array′} {k} made c =
-    let p = c .call .promised in
-    rw (← (head-scan m (made-board made)))
-    (subst (λ (x : Memory). (k ≡ headCode (headOf x)) × (array′ ≡ headAfter (headOf x) array)) (c .before)
-    (rw (← (c .array-is), ← (c .answer-is), ← (c .array′-is)) (p .0 (m .ready) (m .lengths), p .1 (m .ready) (m .lengths))))
+head-scanned {m} made c =
+    let s =
+    tells headCode headAfter (λ g l. headOf g)
+    (λ κs a e k g l h p. record { number-is = p .0 (g .ready) (g .lengths); array′-is = p .1 (g .ready) (g .lengths) }) c in
+    rw (← (head-scan m (made-board made))) (s .number-is, s .array′-is)
 
 -- the slots that asking for the order wrote
 order-read : {m : Memory} {slots slots′ : List ℕ} {k : ℕ} → Order m slots k slots′ → take (size k) slots′ ≡ orderOf m
 order-read {m} {slots} {slots′} {k} c =
-    let p = c .call .promised in
-    let says : (k ≡ 4294967296 * length (orderOf m)) × (slots′ ≡ sets slots 0 (orderOf m)) =
-    subst (λ (x : Memory). (k ≡ 4294967296 * length (orderOf x)) × (slots′ ≡ sets slots 0 (orderOf x))) (c .before)
-    (rw (← (c .slots-are), ← (c .answer-is), ← (c .slots′-are)) (p .0 (m .ready) (m .lengths), p .1 (m .ready) (m .lengths))) in
-    let count : length (orderOf m) ≡ size k = omega (arith, says .0) in
-    rw (says .1) (sets-taken (orderOf m) slots (omega (arith, order-few m, c .numbers)) (size k) count)
+    let says =
+    tells (λ (w : List ℕ). 4294967296 * length w) (λ w l. sets l 0 w) (λ g l. orderOf g)
+    (λ κs a e k g l h p. record { number-is = p .0 (g .ready) (g .lengths); array′-is = p .1 (g .ready) (g .lengths) }) (c .call) in
+    let count : length (orderOf m) ≡ size k = omega (arith, says .number-is) in
+    rw (says .array′-is) (sets-taken (orderOf m) slots (omega (arith, order-few m, c .numbers)) (size k) count)
 
 -- "the whole order holds each filled slot once"
 pub ordered-once :
@@ -145,6 +153,6 @@ ordered-before {m} made c i h = rw (order-read c) (order-before m (made-board ma
 
 -- "Moments are those of demand 2 at the board's now."
 pub made-answers :
-    {m : Memory} (made : Made m) (s : ℕ) (filled : isFilled m s ≡ true) → let held = made-board made .held s filled in let n = nowIn (m .state) in
+    {m : Memory} (made : Made m) (s : ℕ) (filled : isFilled m s ≡ true) → let held = made-board made .held s filled in let n = momentIn (m .state) in
     placed (outcomeAt m n s) ≡ answerOf (held .reading) (wordsIn (held .reading)) (held .phrase) n
-made-answers {m} made s filled = held-answers (made-board made .held s filled) (nowIn (m .state))
+made-answers {m} made s filled = held-answers (made-board made .held s filled) (momentIn (m .state))

@@ -13,11 +13,11 @@ use Rattle.records.specs.Records.{decodeOf}
 use Rattle.zoned.specs.Local.{runInZone}
 use Rattle.zoned.specs.declared.local.Local.{Local}
 use Rattle.zoned.proofs.Settles.{Stops, run-in-zone-settled, zone-settled}
-use Rattle.fuzzydate.specs.Called.{readInZone}
+use Rattle.fuzzydate.specs.Called.{codeOf, readInZone}
 use Rattle.fuzzydate.proofs.Readings.{settled-in-zone, ready-in-zone}
-use Rattle.agreed.specs.Calls.{IsReading, first, second, ZoneNow, ZoneArrays, zoneAfter, readZoneSeen, runZoneSeen, ReadZone, RunZone}
+use Rattle.agreed.specs.Calls.{IsReading, first, second, ZoneNow, ZoneArrays, zoneAfter, ReadZone, RunZone}
 use Rattle.agreed.specs.Calls.{Alike, Agree, UsualInZone, AnsweredZone}
-use Rattle.agreed.proofs.AnyNow.{Says, says, Answering, answered, agreed, reads-alike, no-reads}
+use Rattle.agreed.proofs.AnyNow.{tells, Says, Answering, answered, agreed, reads-alike, no-reads}
 
 -- a phrase there
 abbrev readThere : ℕ → List ℕ → ZoneNow → Answer Local
@@ -26,15 +26,13 @@ readThere reading phrase n = readInZone reading phrase (n .file) (n .at)
 module _ {bytes : List ℕ} {n : ZoneNow} {arrays : ZoneArrays} {k : ℕ} {arrays′ : ZoneArrays} where
   zone-read-says : (reading : ℕ) → ReadZone reading bytes n arrays k arrays′ → Says zoneAfter (readThere reading bytes n) arrays k arrays′
   zone-read-says reading =
-      says zoneAfter (readZoneSeen reading) (readThere reading)
-      (λ c.
-      let p = c .call .promised in
-      record { number-is = rw (← (c .reading-is)) (p .0); array′-is = rw (← (c .reading-is), p .1 .0, p .1 .1) })
+      tells codeOf zoneAfter (λ g l. readThere (g .0) (g .1) (g .2))
+      (λ κs a e k g l h p. record { number-is = p .0; array′-is = rw (p .1 .0, p .1 .1) })
 
   zone-run-says : RunZone bytes n arrays k arrays′ → Says zoneAfter (runInZone (decodeOf bytes) (n .file) (n .at)) arrays k arrays′
   zone-run-says =
-      says zoneAfter runZoneSeen (λ bytes n. runInZone (decodeOf bytes) (n .file) (n .at))
-      (λ c. record { number-is = c .promised .0; array′-is = rw (c .promised .1 .0, c .promised .1 .1) })
+      tells codeOf zoneAfter (λ g l. runInZone (decodeOf (g .0)) (g .1 .file) (g .1 .at))
+      (λ κs a e k g l h p. record { number-is = p .0; array′-is = rw (p .1 .0, p .1 .1) })
 
 -- what is answered there
 abbrev inZones : Answering Local ReadZone RunZone

@@ -8,7 +8,7 @@ use lib.Dec.{leb}
 use lib.ListN.{length, drop, take, length-take}
 use lib.Seq.{take-all}
 use borrow.Author.Tests.{leb-true, leb-false}
-use Rattle.refusals.specs.Table.{NoNow}
+use Rattle.refusals.specs.Table.{InvalidMoment}
 use Rattle.refusals.specs.Answers.{Answer, given, refused, refusalAt, refuse, andThen}
 use Rattle.refusals.specs.declared.Refusal.{Refusal}
 use Rattle.refusals.proofs.Holds.{Holds, Bounded, refusal-holds, given-holds}
@@ -25,6 +25,7 @@ use Rattle.repeats.proofs.Laws.{list-bounded, rows-front}
 use Rattle.coming.specs.Next.{firstAfter, nextOf}
 use Rattle.fuzzydate.specs.Called.{codeOf, momentAfter, writtenCode, listIn, nextIn}
 use Rattle.agreed.specs.Calls.{ListRule, NextRule, rowAt, Earlier, FirstRow, row, none, number, size}
+use Rattle.agreed.proofs.AnyNow.{Tells, tells, Says}
 
 -- a row behind the first is a row of what is behind it
 row-behind : (u : Moment) (rest : List ℕ) (i : ℕ) → rowAt (seven u ++ rest) (suc i) ≡ rowAt rest i
@@ -59,30 +60,20 @@ first-row t asked (n ∷ l) rest array = go (first-row t asked l rest array) (le
     go later false e = behind (atDay n t) asked (rows t l ++ rest) array (length l) (leb-false _ _ e) later
 
 -- what a listing of the definitions becomes in a call
-record Lists (w : Answer (List ℕ)) (t : Moment) (lent : List ℕ) (k : ℕ) (left : List ℕ) : Type 0 where
-  number-is : k ≡ writtenCode w
-  rows-are : left ≡ rowsAfter t lent w
+abbrev Lists : Answer (List ℕ) → Moment → List ℕ → ℕ → List ℕ → Type 0
+Lists w t lent k left = Tells (λ (x : Answer (List ℕ) × Moment). writtenCode (x .0)) (λ x l. rowsAfter (x .1) l (x .0)) (w, t) lent k left
 
 -- and what comes next
-record Nexts (w : Answer Moment) (array : List ℕ) (k : ℕ) (array′ : List ℕ) : Type 0 where
-  number-is : k ≡ codeOf w
-  array′-is : array′ ≡ momentAfter w array
+abbrev Nexts : Answer Moment → List ℕ → ℕ → List ℕ → Type 0
+Nexts w array k array′ = Says momentAfter w array k array′
 
 list-says : {s lent left : List ℕ} {t : Moment} {k : ℕ} → ListRule s t lent k left → Lists (listIn s t (length lent)) t lent k left
-list-says c =
-    let p = c .call .promised in
-    record {
-      number-is = rw (← (c .rule-is), ← (c .start-is), ← (c .rows-are), ← (c .answer-is)) (p .0);
-      rows-are = rw (← (c .rule-is), ← (c .start-is), ← (c .rows-are), ← (c .rows′-are)) (p .1);
-    }
+list-says =
+    tells (λ (x : Answer (List ℕ) × Moment). writtenCode (x .0)) (λ x l. rowsAfter (x .1) l (x .0)) (λ g l. (listIn (g .0) (g .1) (length l), g .1))
+    (λ κs a e k g l h p. record { number-is = p .0; array′-is = p .1 })
 
 next-says : {s array array′ : List ℕ} {t asked : Moment} {k : ℕ} → NextRule s t asked array k array′ → Nexts (nextIn s t asked) array k array′
-next-says c =
-    let p = c .call .promised in
-    record {
-      number-is = rw (← (c .rule-is), ← (c .start-is), ← (c .asked-is), ← (c .answer-is)) (p .0);
-      array′-is = rw (← (c .rule-is), ← (c .start-is), ← (c .asked-is), ← (c .array-is), ← (c .array′-is)) (p .1);
-    }
+next-says = tells codeOf momentAfter (λ g l. nextIn (g .0) (g .1) (g .2)) (λ κs a e k g l h p. record { number-is = p .0; array′-is = p .1 })
 
 -- a rule that is listed and asked from one start: where the listing did not fill its room, the first of its rows at or after the asked moment, or
 -- 20 where there is none; and where it is refused, asking is refused alike, and nothing is written
@@ -103,7 +94,7 @@ given-agrees t asked l lent left array array′ k r m n =
           let whole : take (length lent / 7) l ≡ l = take-all (length lent / 7) l short in
           let count : size k ≡ length l = omega (arith, rw whole at told) in
           let fits : 7 * length l ≤ length lent = omega arith in
-          rw (m .rows-are, whole, rows-front t l lent fits, count, n .number-is, n .array′-is)
+          rw (m .array′-is, whole, rows-front t l lent fits, count, n .number-is, n .array′-is)
           (first-row t asked l (drop (7 * length l) lent) array);
       refused-alike = λ other. absurd (other (omega arith));
     }
@@ -141,10 +132,10 @@ next-listed s t asked lent left array array′ k r v list next =
         (record { least = omega (arith, b); most = omega (arith, b); start = b .start; within = b .within }) m n
 
     by-start : (valid : Bool) (w : Answer Rule) → Holds IsRule (Bounded 18 18 0) w →
-        Lists (cond valid (andThen w (λ rule. listOf rule t (length lent))) (refuse NoNow 0 0)) t lent k left →
-        Nexts (cond (valid && true) (andThen w (λ rule. nextOf rule t asked)) (refuse NoNow 0 0)) array r array′ →
+        Lists (cond valid (andThen w (λ rule. listOf rule t (length lent))) (refuse InvalidMoment 0 0)) t lent k left →
+        Nexts (cond (valid && true) (andThen w (λ rule. nextOf rule t asked)) (refuse InvalidMoment 0 0)) array r array′ →
         Agrees lent left k asked array r array′
     by-start true w h m n = by-rule w h m n
     by-start false w h m n =
-        none-agrees t asked (refusalAt NoNow 0 0) lent left array array′ k r
+        none-agrees t asked (refusalAt InvalidMoment 0 0) lent left array array′ k r
         (record { least = omega arith; most = omega arith; start = omega arith; within = omega arith }) m n

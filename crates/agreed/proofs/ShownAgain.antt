@@ -15,21 +15,17 @@ use Rattle.shown.specs.Phrases.{shownOf}
 use Rattle.shown.proofs.Writings.{writing, written-reads}
 use Rattle.fuzzydate.specs.Called.{answerIn, writtenCode}
 use Rattle.agreed.specs.Calls.{WritePhrase, Shows, in-first, in-second, Read, number, size}
+use Rattle.agreed.proofs.AnyNow.{Tells, tells}
 use Rattle.agreed.proofs.Agreed.{read-says}
 
 -- what a writing of the definitions becomes in a call
-record Writes (w : Answer (List ℕ)) (text : List ℕ) (k : ℕ) (text′ : List ℕ) : Type 0 where
-  number-is : k ≡ writtenCode w
-  text′-is : text′ ≡ bufferOf text w
+abbrev Writes : Answer (List ℕ) → List ℕ → ℕ → List ℕ → Type 0
+Writes w text k text′ = Tells writtenCode (λ x l. bufferOf l x) w text k text′
 
 write-says :
     (t : Moment) {text text′ : List ℕ} {k : ℕ} → WritePhrase t text k text′ → Writes (shownOf t (length text)) text k text′
-write-says t c =
-    let p = c .call .promised in
-    record {
-      number-is = rw (← (c .moment-is), ← (c .text-is), ← (c .answer-is)) (p .0);
-      text′-is = rw (← (c .moment-is), ← (c .text-is), ← (c .text′-is)) (p .1);
-    }
+write-says t =
+    tells writtenCode (λ x l. bufferOf l x) (λ g l. shownOf g (length l)) (λ κs a e k g l h p. record { number-is = p .0; array′-is = p .1 })
 
 -- a phrase that was written, in each reading that gives its moment back
 read-shown :
@@ -54,7 +50,7 @@ shown-again t text text′ k call = go (shownOf t (length text)) refl (write-say
     go (given s) e m =
         let fits = given-holds (writing t (length text)) e .fits in
         let cut : size k ≡ length s = omega (arith, m .number-is) in
-        let bytes : take (size k) text′ ≡ s = rw (cut, m .text′-is) (sets-taken s text fits (length s) refl) in (
+        let bytes : take (size k) text′ ≡ s = rw (cut, m .array′-is) (sets-taken s text fits (length s) refl) in (
           λ z reading shows n v array array′ r read.
               let says = rw (bytes, read-shown t n (length text) s reading e v shows) at (read-says reading read) in
               (says .number-is, says .array′-is),
@@ -62,4 +58,4 @@ shown-again t text text′ k call = go (shownOf t (length text)) refl (write-say
         )
     go (refused q) e m =
         let bounds = refusal-holds (writing t (length text)) e in
-        (λ z. absurd (omega (arith, m .number-is)), λ other. m .text′-is)
+        (λ z. absurd (omega (arith, m .number-is)), λ other. m .array′-is)

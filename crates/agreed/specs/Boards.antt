@@ -4,13 +4,13 @@ use mathlib.Core.Path.{_≡_}
 use mathlib.Core.Bool.{true, false}
 use mathlib.Core.List.{List}
 use lib.ListN.{length}
-use Rattle.refusals.specs.Table.{NoNow, FullBoard, EmptySlot}
+use Rattle.refusals.specs.Table.{InvalidMoment, FullBoard, EmptySlot}
 use Rattle.refusals.specs.Answers.{given, refused}
 use Rattle.refusals.specs.declared.Refusal.{Refusal}
-use Rattle.calendar.specs.Moments.{momentOf, isMoment}
+use Rattle.calendar.specs.Moments.{isMoment, momentIn}
 use Rattle.calendar.specs.declared.moments.Moment.{Moment}
 use Rattle.steps.specs.declared.plan.Step.{Step}
-use Rattle.board.specs.Boards.{Memory, memory, isFilled}
+use Rattle.board.specs.Boards.{boardSlots, Memory, memory, isFilled}
 use Rattle.board.specs.Scans.{Sized, Empty, MovedTo, Put, TakenOut}
 use Rattle.fuzzydate.specs.Called.{readyIn, answerIn, code}
 use Rattle.fuzzydate.proofs.fuzzy_board_make_in.Reads as make'
@@ -19,44 +19,41 @@ use Rattle.fuzzydate.proofs.fuzzy_board_remove_in.Reads as remove'
 use Rattle.fuzzydate.proofs.fuzzy_board_again_in.Reads as again'
 use Rattle.fuzzydate.proofs.fuzzy_board_head_in.Reads as head'
 use Rattle.fuzzydate.proofs.fuzzy_board_order_in.Reads as order'
-use Rattle.agreed.specs.Calls.{Call, number, size}
+use Rattle.agreed.specs.Calls.{Called, number, size}
 
 -- `fuzzy_board_make_in` at a now
-pub record Make (n : Moment) (m : Memory) (k : ℕ) (m′ : Memory) : Type 0 where
-  pub call : Call make'.Post
-  pub now-is :
-      let a = call .given .1 .1 in
-      momentOf (a .0) (a .1 .0) (a .1 .1 .0) (a .1 .1 .1 .0) (a .1 .1 .1 .1 .0) (a .1 .1 .1 .1 .1 .0) (a .1 .1 .1 .1 .1 .1 .0) ≡ n
-  pub before : memory (m .ready) (call .given .0 .now) (m .keys) (call .given .1 .0 .now) ≡ m
-  pub answer-is : call .result ≡ k
-  pub behind : memory (m .ready) (call .exit .0 .now) (m .keys) (call .exit .1 .0 .now) ≡ m′
+abbrev pub Make : Moment → Memory → ℕ → Memory → Type 0
+Make n m k m′ =
+    Called make'.Post Moment Memory
+    (λ κs a g. momentIn (a .1 .1 .0 .now))
+    (λ κs a l. memory (l .ready) (a .0 .now) (l .keys) (a .1 .0 .now)) (λ κs e l. memory (l .ready) (e .0 .now) (l .keys) (e .1 .0 .now))
+    n m k m′
 
 -- `fuzzy_board_add_in` of a phrase in a reading
-pub record Add (reading : ℕ) (phrase : List ℕ) (m : Memory) (k : ℕ) (m′ : Memory) : Type 0 where
-  pub call : Call add'.Post
-  pub reading-is : call .given .1 .1 .1 .1 .0 ≡ reading
-  pub phrase-is : call .given .1 .1 .1 .1 .1 .0 .now ≡ phrase
-  pub before : memory (call .given .0 .now) (call .given .1 .0 .now) (call .given .1 .1 .0 .now) (call .given .1 .1 .1 .0 .now) ≡ m
-  pub answer-is : call .result ≡ k
-  pub behind : memory (call .exit .0 .now) (call .exit .1 .0 .now) (call .exit .1 .1 .0 .now) (call .exit .1 .1 .1 .0 .now) ≡ m′
+abbrev pub Add : ℕ → List ℕ → Memory → ℕ → Memory → Type 0
+Add reading phrase m k m′ =
+    Called add'.Post (ℕ × List ℕ) Memory
+    (λ κs a g. let b = a .1 .1 .1 .1 in (b .0, b .1 .0 .now))
+    (λ κs a l. memory (a .0 .now) (a .1 .0 .now) (a .1 .1 .0 .now) (a .1 .1 .1 .0 .now))
+    (λ κs e l. memory (e .0 .now) (e .1 .0 .now) (e .1 .1 .0 .now) (e .1 .1 .1 .0 .now))
+    (reading, phrase) m k m′
 
 -- `fuzzy_board_remove_in` of a slot
-pub record Remove (s : ℕ) (m : Memory) (k : ℕ) (m′ : Memory) : Type 0 where
-  pub call : Call remove'.Post
-  pub slot-is : call .given .1 .1 .1 .0 ≡ s
-  pub before : memory (m .ready) (call .given .0 .now) (call .given .1 .0 .now) (call .given .1 .1 .0 .now) ≡ m
-  pub answer-is : call .result ≡ k
-  pub behind : memory (m .ready) (call .exit .0 .now) (call .exit .1 .0 .now) (call .exit .1 .1 .0 .now) ≡ m′
+abbrev pub Remove : ℕ → Memory → ℕ → Memory → Type 0
+Remove s m k m′ =
+    Called remove'.Post ℕ Memory
+    (λ κs a g. a .1 .1 .1 .0)
+    (λ κs a l. memory (l .ready) (a .0 .now) (a .1 .0 .now) (a .1 .1 .0 .now)) (λ κs e l. memory (l .ready) (e .0 .now) (e .1 .0 .now) (e .1 .1 .0 .now))
+    s m k m′
 
 -- `fuzzy_board_again_in` at a now
-pub record Again (n : Moment) (m : Memory) (k : ℕ) (m′ : Memory) : Type 0 where
-  pub call : Call again'.Post
-  pub now-is :
-      let a = call .given .1 .1 .1 .1 in
-      momentOf (a .0) (a .1 .0) (a .1 .1 .0) (a .1 .1 .1 .0) (a .1 .1 .1 .1 .0) (a .1 .1 .1 .1 .1 .0) (a .1 .1 .1 .1 .1 .1 .0) ≡ n
-  pub before : memory (call .given .0 .now) (call .given .1 .0 .now) (call .given .1 .1 .0 .now) (call .given .1 .1 .1 .0 .now) ≡ m
-  pub answer-is : call .result ≡ k
-  pub behind : memory (call .given .0 .now) (call .given .1 .0 .now) (call .exit .1 .1 .0 .now) (call .exit .1 .1 .1 .0 .now) ≡ m′
+abbrev pub Again : Moment → Memory → ℕ → Memory → Type 0
+Again n m k m′ =
+    Called again'.Post Moment Memory
+    (λ κs a g. momentIn (a .1 .1 .1 .1 .0 .now))
+    (λ κs a l. memory (a .0 .now) (a .1 .0 .now) (a .1 .1 .0 .now) (a .1 .1 .1 .0 .now))
+    (λ κs e l. memory (l .ready) (l .lengths) (e .1 .1 .0 .now) (e .1 .1 .1 .0 .now))
+    n m k m′
 
 -- any of the four
 pub data Changed (m : Memory) (k : ℕ) (m′ : Memory) : Type 0 where
@@ -71,39 +68,37 @@ pub data Made : Memory → Type 0 where
   then : {m m′ : Memory} {k : ℕ} → Made m → Changed m k m′ → Made m′
 
 -- `fuzzy_board_head_in`, which leaves `array′` in an array that held `array`
-pub record Head (m : Memory) (array : List ℕ) (k : ℕ) (array′ : List ℕ) : Type 0 where
-  pub call : Call head'.Post
-  pub before : memory (m .ready) (m .lengths) (call .given .0 .now) (call .given .1 .0 .now) ≡ m
-  pub array-is : call .given .1 .1 .0 .now ≡ array
-  pub answer-is : call .result ≡ k
-  pub array′-is : call .exit .1 .1 .0 .now ≡ array′
+abbrev pub Head : Memory → List ℕ → ℕ → List ℕ → Type 0
+Head m array k array′ =
+    Called head'.Post Memory (List ℕ)
+    (λ κs a g. memory (g .ready) (g .lengths) (a .0 .now) (a .1 .0 .now)) (λ κs a l. a .1 .1 .0 .now) (λ κs e l. e .1 .1 .0 .now)
+    m array k array′
 
--- `fuzzy_board_order_in`, which leaves `slots′` in an array of 256 numbers that held `slots`
+-- `fuzzy_board_order_in`, which leaves `slots′` in an array of `boardSlots` numbers that held `slots`
 pub record Order (m : Memory) (slots : List ℕ) (k : ℕ) (slots′ : List ℕ) : Type 0 where
-  pub call : Call order'.Post
-  pub before : memory (m .ready) (m .lengths) (call .given .0 .now) (call .given .1 .0 .now) ≡ m
-  pub slots-are : call .given .1 .1 .0 .now ≡ slots
-  pub numbers : length slots ≡ 256
-  pub answer-is : call .result ≡ k
-  pub slots′-are : call .exit .1 .1 .0 .now ≡ slots′
+  pub numbers : length slots ≡ boardSlots
+  pub call :
+      Called order'.Post Memory (List ℕ)
+      (λ κs a g. memory (g .ready) (g .lengths) (a .0 .now) (a .1 .0 .now)) (λ κs a l. a .1 .1 .0 .now) (λ κs e l. e .1 .1 .0 .now)
+      m slots k slots′
 
 -- what making a board may answer and leave: 0 and an empty one, or 8
 pub data Makes (n : Moment) (m : Memory) : ℕ → Memory → Type 0 where
   empty : {m′ : Memory} → isMoment n ≡ true → Empty n m′ → Makes n m 0 m′
-  unmade : isMoment n ≡ false → Makes n m NoNow m
+  unmade : isMoment n ≡ false → Makes n m InvalidMoment m
 
 -- what adding may: the phrase in the lowest free slot, 24 where every slot is filled, or what making ready refuses, before 24
 pub data Adds (reading : ℕ) (phrase : List ℕ) (m : Memory) : ℕ → Memory → Type 0 where
   put : {k : ℕ} {m′ : Memory} → number k ≡ 0 → Put (answerIn reading phrase) (size k) m m′ → Adds reading phrase m k m′
-  full : {ss : List Step} → readyIn reading phrase ≡ given ss → ((s : ℕ) → s < 256 → isFilled m s ≡ true) → Adds reading phrase m FullBoard m
+  full : {ss : List Step} → readyIn reading phrase ≡ given ss → ((s : ℕ) → s < boardSlots → isFilled m s ≡ true) → Adds reading phrase m FullBoard m
   unready : {r : Refusal} → readyIn reading phrase ≡ refused r → Adds reading phrase m (code r) m
 
 -- what removing may: the slot is free, or 25 where it held nothing
 pub data Removes (s : ℕ) (m : Memory) : ℕ → Memory → Type 0 where
   out : {m′ : Memory} → TakenOut s m m′ → Removes s m 0 m′
-  nothing : (s < 256 → isFilled m s ≡ false) → Removes s m EmptySlot m
+  nothing : (s < boardSlots → isFilled m s ≡ false) → Removes s m EmptySlot m
 
 -- what running again may: the same reminders at the now, or 8
 pub data Moves (n : Moment) (m : Memory) : ℕ → Memory → Type 0 where
   moved : {m′ : Memory} → isMoment n ≡ true → MovedTo n m m′ → Moves n m 0 m′
-  unmoved : isMoment n ≡ false → Moves n m NoNow m
+  unmoved : isMoment n ≡ false → Moves n m InvalidMoment m

@@ -5,7 +5,7 @@ use mathlib.Core.Path.{_≡_, refl, sym, _∙_}
 use mathlib.Core.Bool.{Bool, true, false, cond}
 use mathlib.Core.List.{List}
 use lib.ListN.{length}
-use Rattle.refusals.specs.Table.{NoNow}
+use Rattle.refusals.specs.Table.{InvalidMoment}
 use Rattle.refusals.specs.Answers.{Answer, given, refused, refusalAt, refuse, andThen}
 use Rattle.refusals.specs.declared.Refusal.{Refusal}
 use Rattle.refusals.proofs.Holds.{Holds, of-given, of-refusal, Bounded, given-holds, refusal-holds}
@@ -33,7 +33,7 @@ module _ (reading : Reading) (s : List ℕ) {x : TreeRead} (read : readOf readin
   at-now n h = by-reading n ∙ rw h
 
   -- and at any other now it is refused 8
-  pub at-no-now : (n : Moment) → isMoment n ≡ false → answerOf reading (wordsIn reading) s n ≡ refuse NoNow 0 0
+  pub at-no-now : (n : Moment) → isMoment n ≡ false → answerOf reading (wordsIn reading) s n ≡ refuse InvalidMoment 0 0
   at-no-now n h = by-reading n ∙ rw h
 
 -- a phrase that reading refuses is refused so at every now
@@ -58,9 +58,9 @@ reading-holds :
     Holds M (Bounded 8 13 m) (readingAt n x)
 reading-holds {M} {m} x n leading = go (isMoment n) refl
   where
-    go : (b : Bool) → isMoment n ≡ b → Holds M (Bounded 8 13 m) (placed (cond b (evaluate (x .tree) n) (unreached NoNow)))
+    go : (b : Bool) → isMoment n ≡ b → Holds M (Bounded 8 13 m) (placed (cond b (evaluate (x .tree) n) (unreached InvalidMoment)))
     go true e = lowered (omega arith) (placed-holds (leading (test-moment n e)))
-    go false e = of-refusal {r = refusalAt NoNow 0 0} (omega arith)
+    go false e = of-refusal {r = refusalAt InvalidMoment 0 0} (omega arith)
 
 -- a reading leads to a moment of the calendar or to a refusal of 8 to 13
 reading-settled : {m : ℕ} (x : TreeRead) (n : Moment) → Holds IsMoment (Bounded 8 13 m) (readingAt n x)
@@ -94,7 +94,7 @@ pub record ReadAtNoNow (reading : Reading) (s : List ℕ) (n : Moment) : Type 0 
   pub read : readOf reading (wordsIn reading) s ≡ given tree-read
 
 -- refusal 8 is given only there; `at-no-now` says that it is given wherever that holds
-pub eight-only : (reading : Reading) (s : List ℕ) (n : Moment) {r : Refusal} → answerOf reading (wordsIn reading) s n ≡ refused r → r .number ≡ NoNow → ReadAtNoNow reading s n
+pub eight-only : (reading : Reading) (s : List ℕ) (n : Moment) {r : Refusal} → answerOf reading (wordsIn reading) s n ≡ refused r → r .number ≡ InvalidMoment → ReadAtNoNow reading s n
 eight-only reading s n {r} answer eight = go (readOf reading (wordsIn reading) s) (isMoment n) refl refl
   where
     go : (w : ReadPhrase) (b : Bool) → readOf reading (wordsIn reading) s ≡ w → isMoment n ≡ b → ReadAtNoNow reading s n

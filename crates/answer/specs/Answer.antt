@@ -14,7 +14,7 @@ use Rattle.dates.specs.declared.time.Time.the-variants.{Empty}
 use Rattle.expressions.specs.Tree.{unitRelative}
 use Rattle.phrase.specs.Tree.{dateTime, now}
 use Rattle.phrase.specs.Read.{TreeRead, ReadPhrase, reads, readOf}
-use Rattle.refusals.specs.Table.{NoNow}
+use Rattle.refusals.specs.Table.{InvalidMoment}
 use Rattle.refusals.specs.Answers.{Answer, given, refused, refuse, andThen}
 use Rattle.evaluation.specs.Evaluate.{evaluateIn, evaluate}
 use Rattle.evaluation.specs.Cases.{A}
@@ -28,7 +28,7 @@ placed (unreached k) = refuse k 0 0
 
 -- a reading at a now; 8: "now is no date and time in years 1 to 9999"
 abbrev pub readingAt : Moment → TreeRead → Answer Moment
-readingAt n x = placed (cond (isMoment n) (evaluate (x .tree) n) (unreached NoNow))
+readingAt n x = placed (cond (isMoment n) (evaluate (x .tree) n) (unreached InvalidMoment))
 
 -- the code's answer
 abbrev pub answerFrom : Answered → Answer Moment

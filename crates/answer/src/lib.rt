@@ -4,7 +4,7 @@ use calendar::moments::Reached;
 use evaluation::chain::evaluate;
 use lexer::reading::Reading;
 use phrase::read::read;
-use refusals::NO_NOW;
+use refusals::INVALID_MOMENT;
 use refusals::Refusal;
 ghost use mathlib.Core.Path.{_≡_};
 ghost use Rattle.lexer.specs.Keywords.{wordsIn};
@@ -42,7 +42,7 @@ pub fn answer(reading: Reading, phrase: &[u8], at: Moment) -> Answered
             let chain = read.chain;
             return place(evaluate(chain, at));
         }
-        return place(Reached::Refused(NO_NOW));
+        return place(Reached::Refused(INVALID_MOMENT));
     }
     Answered::Refused(refusal)
 }

@@ -10,7 +10,8 @@ use lib.Dec.{eqb, ltb}
 use lib.ListN.{length, getD, drop, drop-of-length-le}
 use lib.Seq.{drop-cons}
 use borrow.Author.Tests.{eq-eqb, ne-eqb, eqb-true, ltb-true, ltb-false}
-use Rattle.board.specs.Boards.{Memory, nowIn, countIn, isFilled, lowestFree, freeSlot}
+use Rattle.calendar.specs.Moments.{momentIn}
+use Rattle.board.specs.Boards.{Memory, countIn, isFilled, lowestFree, freeSlot}
 use Rattle.board.specs.Scans.{Sized, IsBoard}
 use Rattle.board.proofs.Orders.{order-full}
 
@@ -74,4 +75,4 @@ full-filled m board h s g = go (ltb (countIn (m .state)) 256) refl h
   where
     go : (b : Bool) → ltb (countIn (m .state)) 256 ≡ b → 256 ≤ cond b (lowestFree (m .lengths)) 256 → isFilled m s ≡ true
     go true e f = rw (ne-eqb _ 0 (lower-filled (m .lengths) s (omega arith)))
-    go false e f = order-full m (nowIn (m .state)) (omega (arith, board .count, ltb-false (countIn (m .state)) 256 e)) s g
+    go false e f = order-full m (momentIn (m .state)) (omega (arith, board .count, ltb-false (countIn (m .state)) 256 e)) s g

@@ -12,7 +12,7 @@ use Rattle.refusals.specs.Table as refusal
 use Rattle.refusals.specs.Answers.{Answer, given, refuse}
 use Rattle.refusals.proofs.Holds.{given-holds}
 use Rattle.calendar.specs.Gregorian.{days}
-use Rattle.calendar.specs.Moments.{Outcome, moment, refused as unreached, IsMoment, Valid, dayOfMoment, onDay, instantOf}
+use Rattle.calendar.specs.Moments.{Outcome, moment, refused as unreached, IsMoment, Valid, dayOfMoment, onDay, instantOf, momentIn}
 use Rattle.calendar.specs.declared.moments.Moment.{Moment}
 use Rattle.calendar.proofs.Dates.{in-days}
 use Rattle.calendar.proofs.Places.{at-own-day, minute-below}
@@ -22,7 +22,7 @@ use Rattle.steps.specs.declared.plan.Step.{Step}
 use Rattle.ready.proofs.Settles.{run-settled}
 use Rattle.records.specs.Records.{decodeOf}
 use Rattle.board.specs.Rows.{insert, sorted, slotOf}
-use Rattle.board.specs.Boards.{Memory, Due, nowIn, countIn, isFilled, phraseAt, outcomeAt, instants, keyOf, atInstant, keyAt, keysFrom, orderAt, dueAt, headOf}
+use Rattle.board.specs.Boards.{Memory, Due, countIn, isFilled, phraseAt, outcomeAt, instants, keyOf, atInstant, keyAt, keysFrom, orderAt, dueAt, headOf}
 use Rattle.board.specs.Scans.{earlier, scanFrom, scanOf, IsBoard}
 
 -- every moment has an instant
@@ -59,8 +59,8 @@ run-valid ss n = record { valid = λ t e. given-holds (run-settled ss n) (ap pla
 
 -- what the first key of a row says, of slots from s₀ on
 data Heads (s₀ : ℕ) : List ℕ → Answer Due → Type 0 where
-  none : Heads s₀ [] (refuse refusal.NoMoment 0 0)
-  late : {h : ℕ} {l : List ℕ} → 256 * instants ≤ h → Heads s₀ (h ∷ l) (refuse refusal.NoMoment 0 0)
+  none : Heads s₀ [] (refuse refusal.NothingDue 0 0)
+  late : {h : ℕ} {l : List ℕ} → 256 * instants ≤ h → Heads s₀ (h ∷ l) (refuse refusal.NothingDue 0 0)
   first :
       {h : ℕ} {l : List ℕ} (s : ℕ) (t : Moment) → h ≡ 256 * instantOf t + s → IsMoment t → s₀ ≤ s → s < 256 →
       Heads s₀ (h ∷ l) (given (record { slot = s; moment = t }))
@@ -98,26 +98,26 @@ heads-insert {s₀} (moment t) v h (first {h = k} {l = l} s u e w g j) = go (ltb
         let least : min (256 * instantOf t + s₀) k ≡ 256 * instantOf t + s₀ = omega arith in
         first s₀ t least (v .valid t refl) (le-refl s₀) h
 
-heads-from : (m : Memory) (k i : ℕ) → i + k ≤ 256 → Heads i (sorted (keysFrom m (nowIn (m .state)) k i)) (scanFrom m k i)
+heads-from : (m : Memory) (k i : ℕ) → i + k ≤ 256 → Heads i (sorted (keysFrom m (momentIn (m .state)) k i)) (scanFrom m k i)
 unfolding keyAt keysFrom scanFrom
 heads-from m zero i h = none
 heads-from m (suc k) i h = go (isFilled m i) (heads-from m k (suc i) (omega arith))
   where
-    go : (b : Bool) → Heads (suc i) (sorted (keysFrom m (nowIn (m .state)) k (suc i))) (scanFrom m k (suc i)) →
-        let o = outcomeAt m (nowIn (m .state)) i in
-        Heads i (sorted (cond b (keyOf o i ∷ keysFrom m (nowIn (m .state)) k (suc i)) (keysFrom m (nowIn (m .state)) k (suc i))))
+    go : (b : Bool) → Heads (suc i) (sorted (keysFrom m (momentIn (m .state)) k (suc i))) (scanFrom m k (suc i)) →
+        let o = outcomeAt m (momentIn (m .state)) i in
+        Heads i (sorted (cond b (keyOf o i ∷ keysFrom m (momentIn (m .state)) k (suc i)) (keysFrom m (momentIn (m .state)) k (suc i))))
         (cond b (earlier i o (scanFrom m k (suc i))) (scanFrom m k (suc i)))
-    go true r = heads-insert (outcomeAt m (nowIn (m .state)) i) (run-valid (decodeOf (phraseAt m i)) (nowIn (m .state))) (omega arith) r
+    go true r = heads-insert (outcomeAt m (momentIn (m .state)) i) (run-valid (decodeOf (phraseAt m i)) (momentIn (m .state))) (omega arith) r
     go false r = lower r
 
-order-heads : (m : Memory) → Heads 0 (orderAt m (nowIn (m .state))) (scanOf m)
+order-heads : (m : Memory) → Heads 0 (orderAt m (momentIn (m .state))) (scanOf m)
 unfolding orderAt scanOf
 order-heads m = heads-from m 256 0 (omega arith)
 
 -- the first key is read
 heads-read :
     (keys : List ℕ) (c : ℕ) {b : Answer Due} → c ≤ length keys → Heads 0 (take c keys) b →
-    cond (eqb c 0) (refuse refusal.NoMoment 0 0) (dueAt (slotOf (getD keys 0 0)) (atInstant (getD keys 0 0 / 256))) ≡ b
+    cond (eqb c 0) (refuse refusal.NothingDue 0 0) (dueAt (slotOf (getD keys 0 0)) (atInstant (getD keys 0 0 / 256))) ≡ b
 heads-read keys zero h none = refl
 heads-read [] (suc c) h r = absurd (not-suc-le-zero h)
 heads-read (k ∷ keys) (suc c) h r = rw (ne-eqb (suc c) 0 (λ z. omega arith)) (go r)

@@ -14,7 +14,7 @@ use Rattle.refusals.specs.declared.Refusal.{Refusal}
 use Rattle.refusals.proofs.Holds.{given-holds}
 use Rattle.digits.proofs.Order.{Tri, tri, below, equal, above}
 use Rattle.digits.proofs.Stores.{sets-taken}
-use Rattle.calendar.specs.Moments.{isMoment}
+use Rattle.calendar.specs.Moments.{isMoment, momentIn}
 use Rattle.calendar.specs.declared.moments.Moment.{Moment}
 use Rattle.lexer.specs.Keywords.{wordsIn}
 use Rattle.lexer.specs.declared.reading.Reading.{Reading}
@@ -28,7 +28,7 @@ use Rattle.records.specs.Records.{encodeOf}
 use Rattle.records.proofs.Lists.{length-encoded, decoded-back}
 use Rattle.numbers.specs.Slices.{oneIf}
 use Rattle.board.specs.Rows.{insert, slotOf, without}
-use Rattle.board.specs.Boards.{Memory, memory, Done, done, nowIn, countIn, stateOf, rowIn, isFilled, phraseAt, outcomeAt, keyAt, keysFrom, orderAt}
+use Rattle.board.specs.Boards.{Memory, memory, Done, done, countIn, stateOf, rowIn, isFilled, phraseAt, outcomeAt, keyAt, keysFrom, orderAt}
 use Rattle.board.specs.Boards.{makeOf, freeSlot, slotFor, filled, entered, addOf, removed, removeOf, againOf, orderOf}
 use Rattle.board.specs.Scans.{timesIn, Held, Sized, IsBoard, Empty, MovedTo, Others, Put, TakenOut}
 use Rattle.board.proofs.Keys.{length-insert, length-without}
@@ -130,7 +130,7 @@ again-keeps m n board e =
     rw (← (ok .1)) board′
 
 -- another count leaves the now
-count-now : (l : List ℕ) (k : ℕ) → nowIn (set l 7 k) ≡ nowIn l
+count-now : (l : List ℕ) (k : ℕ) → momentIn (set l 7 k) ≡ momentIn l
 count-now l k =
     rw (
       getD-set-other l 7 0 k 0 (λ e. omega arith),
@@ -164,7 +164,7 @@ module _ {m m′ : Memory} {s : ℕ} (change : Others m m′ s) where
   -- a right board again, where the row that is stored is the order
   change-board :
       {keys row : List ℕ} → IsBoard m → Sized m′ → (isFilled m′ s ≡ true → Held m′ s) → m′ .keys ≡ sets keys 0 row →
-      Stored keys row (getD (m′ .state) 7 0) → row ≡ orderAt m′ (nowIn (m .state)) → IsBoard m′
+      Stored keys row (getD (m′ .state) 7 0) → row ≡ orderAt m′ (momentIn (m .state)) → IsBoard m′
   change-board board sized own stored kept order =
       let same = change .now in
       record {
@@ -193,7 +193,7 @@ removed-board m s board out =
     let size = board .sized in
     let row = without s (rowIn m) in
     let few : length row ≤ 256 =
-    omega (arith, length-without s (rowIn m), ap (λ (l : List ℕ). length l) (board .row), order-few m (nowIn (m .state))) in
+    omega (arith, length-without s (rowIn m), ap (λ (l : List ℕ). length l) (board .row), order-few m (momentIn (m .state))) in
     change-board (out .others) board
     (record {
       ready = size .ready;
@@ -204,7 +204,7 @@ removed-board m s board out =
     (λ f. absurd (differ (sym f ∙ out .free)))
     refl
     (record { few = few; sized = size .keys; count = getD-set-same (m .state) 7 (length row) 0 (omega (arith, size .state)) })
-    (ap (without s) (board .row) ∙ order-emptied (change-alike (out .others) (nowIn (m .state))) (out .free))
+    (ap (without s) (board .row) ∙ order-emptied (change-alike (out .others) (momentIn (m .state))) (out .free))
 
 -- one reminder less
 pub remove-takes : (m : Memory) (s : ℕ) {d : Done} → Sized m → removeOf m s ≡ given d → TakenOut s m (d .after)
@@ -274,7 +274,7 @@ module _ (m : Memory) (reading : Reading) (phrase : List ℕ) (ss : List Step) (
   added-board s board free =
       let size = board .sized in
       let p = encodeOf ss in
-      let n = nowIn (m .state) in
+      let n = momentIn (m .state) in
       let m₁ = filled m s p in
       let row = insert (keyAt m₁ n s) (rowIn m) in
       let put = put-in s size free in
@@ -332,4 +332,4 @@ add-full m ss {r} board e = go (ltb (freeSlot m) 256) refl e
 -- "the whole order holds each filled slot once"
 pub order-once : (m : Memory) → IsBoard m → (s : ℕ) → s < 256 → timesIn s (orderOf m) ≡ oneIf (isFilled m s)
 unfolding orderOf
-order-once m board s h = ap (λ (l : List ℕ). timesIn s (map slotOf l)) (board .row) ∙ each-once m (nowIn (m .state)) s h
+order-once m board s h = ap (λ (l : List ℕ). timesIn s (map slotOf l)) (board .row) ∙ each-once m (momentIn (m .state)) s h

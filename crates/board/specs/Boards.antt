@@ -5,21 +5,31 @@ use mathlib.Core.List.{List, [], _∷_, map}
 use lib.Dec.{eqb, ltb}
 use lib.ListN.{length, getD, take, drop, set, replicate}
 use lib.Seq.{sets}
-use Rattle.refusals.specs.Table.{NoNow, FullBoard, EmptySlot, NoMoment}
+use denote.Ref.{RefT, now}
+use denote.Triple.Both.{Both}
+use Rattle.refusals.specs.Table.{InvalidMoment, FullBoard, EmptySlot, NothingDue}
 use Rattle.refusals.specs.Answers.{Answer, given, refused, refuse, andThen, refusalOf}
 use Rattle.calendar.specs.Gregorian.{days}
-use Rattle.calendar.specs.Moments.{Outcome, moment, refused as unreached, momentOf, firstMoment, withTime, isMoment, onDay, instantOf}
+use Rattle.calendar.specs.Moments.{Outcome, moment, refused as unreached, momentIn, firstMoment, withTime, isMoment, onDay, instantOf}
 use Rattle.calendar.specs.declared.moments.Moment.{Moment}
 use Rattle.steps.specs.Running.{runOf}
 use Rattle.ready.specs.Ready.{ReadyPhrase}
-use Rattle.records.specs.Records.{encodeOf, decodeOf}
+use Rattle.records.specs.Records.{readySize, encodeOf, decodeOf}
 use Rattle.board.specs.declared.Earliest.{Earliest}
 use Rattle.board.specs.declared.Earliest.the-variants.{Next, Nothing}
 use Rattle.board.specs.declared.Added.{Added}
 use Rattle.board.specs.Rows.{insert, sorted, slotOf, without}
 
--- "The board's memory is the caller's": 256 slots of 384 bytes, how many bytes each one's ready phrase has (0: it holds nothing), the keys, and
--- the now's seven numbers with the count of keys behind them
+-- "up to 256"
+abbrev pub boardSlots : ℕ
+boardSlots = 256
+
+-- the bytes of their ready phrases
+abbrev pub boardReadySize : ℕ
+boardReadySize = 98304
+
+-- "The board's memory is the caller's": slots of `readySize` bytes, how many bytes each one's ready phrase has (0: it holds nothing), the keys, and
+-- "the board's now" as seven numbers with the count of keys behind them
 pub record Memory : Type 0 where
   pub ready : List ℕ
   pub lengths : List ℕ
@@ -29,13 +39,17 @@ pub record Memory : Type 0 where
 abbrev pub memory : List ℕ → List ℕ → List ℕ → List ℕ → Memory
 memory ready lengths keys state = record { ready = ready; lengths = lengths; keys = keys; state = state }
 
--- "the board's now"
-abbrev pub nowIn : List ℕ → Moment
-nowIn state = momentOf (getD state 0 0) (getD state 1 0) (getD state 2 0) (getD state 3 0) (getD state 4 0) (getD state 5 0) (getD state 6 0)
+-- what a call finds in the four arrays that it is lent
+abbrev pub atEntry : {A B C D : Type 0} → Both (RefT (List ℕ)) A → Both (RefT (List ℕ)) B → Both (RefT (List ℕ)) C → Both (RefT (List ℕ)) D → Memory
+atEntry ready lengths keys state = memory (now (ready .entry)) (now (lengths .entry)) (now (keys .entry)) (now (state .entry))
 
--- how many keys there are: "up to 256", whatever the memory says
+-- and what it leaves there
+abbrev pub atExit : {A B C D : Type 0} → Both A (RefT (List ℕ)) → Both B (RefT (List ℕ)) → Both C (RefT (List ℕ)) → Both D (RefT (List ℕ)) → Memory
+atExit ready lengths keys state = memory (now (ready .exit)) (now (lengths .exit)) (now (keys .exit)) (now (state .exit))
+
+-- how many keys there are, whatever the memory says
 abbrev pub countIn : List ℕ → ℕ
-countIn state = min (getD state 7 0) 256
+countIn state = min (getD state 7 0) boardSlots
 
 -- a now's seven numbers, and the count
 abbrev pub stateOf : Moment → ℕ → List ℕ
@@ -49,9 +63,9 @@ rowIn m = take (countIn (m .state)) (m .keys)
 abbrev pub isFilled : Memory → ℕ → Bool
 isFilled m s = not (eqb (getD (m .lengths) s 0) 0)
 
--- the ready phrase of a slot, of at most 384 bytes
+-- the ready phrase of a slot, of at most `readySize` bytes
 abbrev pub phraseAt : Memory → ℕ → List ℕ
-phraseAt m s = take (min (getD (m .lengths) s 0) 384) (drop (384 * s) (m .ready))
+phraseAt m s = take (min (getD (m .lengths) s 0) readySize) (drop (readySize * s) (m .ready))
 
 -- what it gives at a now
 abbrev pub outcomeAt : Memory → Moment → ℕ → Outcome
@@ -85,7 +99,7 @@ keysFrom m n (suc k) s = cond (isFilled m s) (keyAt m n s ∷ keysFrom m n k (su
 
 -- the order at a now
 unfoldable pub orderAt : Memory → Moment → List ℕ
-orderAt m n = sorted (keysFrom m n 256 0)
+orderAt m n = sorted (keysFrom m n boardSlots 0)
 
 -- what a call that isn't refused answers, a slot or 0, and the memory behind it
 pub record Done : Type 0 where
@@ -102,29 +116,29 @@ memoryAfter m (refused r) = m
 
 -- "A board is made empty at a valid now, else 8."
 unfoldable pub makeOf : Memory → Moment → Answer Done
-makeOf m n = cond (isMoment n) (done 0 (memory (m .ready) (replicate 256 0) (m .keys) (stateOf n 0))) (refuse NoNow 0 0)
+makeOf m n = cond (isMoment n) (done 0 (memory (m .ready) (replicate boardSlots 0) (m .keys) (stateOf n 0))) (refuse InvalidMoment 0 0)
 
 -- the first place of a 0, or the length
 abbrev pub lowestFree : List ℕ → ℕ
 lowestFree [] = 0
 lowestFree (k ∷ ks) = cond (eqb k 0) 0 (suc (lowestFree ks))
 
--- "A removed slot is used again, lowest first"; 256 for a full board. A row of 256 keys is full too: on a board made by the calls no slot is free then.
+-- "A removed slot is used again, lowest first"; `boardSlots` for a full board. A row of as many keys is full too: on a board made by the calls no slot is free then.
 abbrev pub freeSlot : Memory → ℕ
-freeSlot m = cond (ltb (countIn (m .state)) 256) (lowestFree (m .lengths)) 256
+freeSlot m = cond (ltb (countIn (m .state)) boardSlots) (lowestFree (m .lengths)) boardSlots
 
 -- "24 for a full board"
 unfoldable pub slotFor : Memory → Answer ℕ
-slotFor m = cond (ltb (freeSlot m) 256) (given (freeSlot m)) (refuse FullBoard 0 0)
+slotFor m = cond (ltb (freeSlot m) boardSlots) (given (freeSlot m)) (refuse FullBoard 0 0)
 
 -- a ready phrase put into a slot
 abbrev pub filled : Memory → ℕ → List ℕ → Memory
-filled m s p = memory (sets (m .ready) (384 * s) p) (set (m .lengths) s (length p)) (m .keys) (m .state)
+filled m s p = memory (sets (m .ready) (readySize * s) p) (set (m .lengths) s (length p)) (m .keys) (m .state)
 
 -- and its key into the row
 abbrev pub entered : Memory → ℕ → Memory
 entered m s =
-    memory (m .ready) (m .lengths) (sets (m .keys) 0 (insert (keyAt m (nowIn (m .state)) s) (rowIn m))) (set (m .state) 7 (countIn (m .state) + 1))
+    memory (m .ready) (m .lengths) (sets (m .keys) 0 (insert (keyAt m (momentIn (m .state)) s) (rowIn m))) (set (m .state) 7 (countIn (m .state) + 1))
 
 -- one reminder more: "24 for a full board, after a phrase's own 1 to 7"
 unfoldable pub addOf : Memory → ReadyPhrase → Answer Done
@@ -137,13 +151,13 @@ removed m s =
 
 -- one reminder less: "25 for a slot that holds nothing"
 unfoldable pub removeOf : Memory → ℕ → Answer Done
-removeOf m s = cond (ltb s 256 && isFilled m s) (done s (removed m s)) (refuse EmptySlot 0 0)
+removeOf m s = cond (ltb s boardSlots && isFilled m s) (done s (removed m s)) (refuse EmptySlot 0 0)
 
 -- "running all again at a new now": "a refused new now (8)" leaves everything
 unfoldable pub againOf : Memory → Moment → Answer Done
 againOf m n =
     cond (isMoment n) (done 0 (memory (m .ready) (m .lengths) (sets (m .keys) 0 (orderAt m n)) (stateOf n (length (orderAt m n)))))
-    (refuse NoNow 0 0)
+    (refuse InvalidMoment 0 0)
 
 -- a slot and its moment
 pub record Due : Type 0 where
@@ -153,12 +167,12 @@ pub record Due : Type 0 where
 -- "26 when no entry has a moment"
 abbrev pub dueAt : ℕ → Outcome → Answer Due
 dueAt s (moment t) = given (record { slot = s; moment = t })
-dueAt s (unreached k) = refuse NoMoment 0 0
+dueAt s (unreached k) = refuse NothingDue 0 0
 
 -- "the head is read without a search": from the first key
 unfoldable pub headOf : Memory → Answer Due
 headOf m =
-    cond (eqb (countIn (m .state)) 0) (refuse NoMoment 0 0) (dueAt (slotOf (getD (m .keys) 0 0)) (atInstant (getD (m .keys) 0 0 / 256)))
+    cond (eqb (countIn (m .state)) 0) (refuse NothingDue 0 0) (dueAt (slotOf (getD (m .keys) 0 0)) (atInstant (getD (m .keys) 0 0 / 256)))
 
 -- "the whole order": the slots of the keys
 unfoldable pub orderOf : Memory → List ℕ
@@ -167,7 +181,7 @@ orderOf m = map slotOf (rowIn m)
 -- the code's answers
 abbrev pub headFrom : Earliest → Answer Due
 headFrom (Next s t) = given (record { slot = s; moment = t })
-headFrom Nothing = refuse NoMoment 0 0
+headFrom Nothing = refuse NothingDue 0 0
 
 abbrev pub numberOf : Answer Done → ℕ
 numberOf (given d) = d .number

@@ -1,18 +1,19 @@
 // The slots, the now and the count in the caller's memory.
+use super::BOARD_READY_SIZE;
+use super::BOARD_SLOTS;
 use super::instants::due;
 use calendar::moments::Moment;
+use records::record::READY_SIZE;
 use records::run::run_ready;
 ghost use mathlib.Core.Path.{_≡_};
 ghost use mathlib.Core.List.{List};
 ghost use Prim.Native.Nat.{ℕ, _≤_, _<_, min};
-ghost use Rattle.board.specs.Boards.{memory, nowIn, countIn, stateOf, keyAt, lowestFree, freeSlot};
-
-// The bytes of one slot.
-pub(crate) const SLOT: usize = 384;
+ghost use Rattle.calendar.specs.Moments.{momentIn};
+ghost use Rattle.board.specs.Boards.{boardSlots, memory, countIn, stateOf, keyAt, lowestFree, freeSlot};
 
 // The now.
 pub(crate) fn now_of(state: &[u32; 8]) -> Moment
-    ensures { λ r. ⌜ r ≡ nowIn (now (state .entry)) ⌝ }
+    ensures { λ r. ⌜ r ≡ momentIn (now (state .entry)) ⌝ }
 {
     Moment {
         year: state[0],
@@ -35,9 +36,9 @@ fn at_most(n: u32, limit: usize) -> usize
 
 // How many keys there are.
 pub(crate) fn count(state: &[u32; 8]) -> usize
-    ensures { λ r. ⌜ (r ≡ countIn (now (state .entry))) × (r ≤ 256) ⌝ }
+    ensures { λ r. ⌜ (r ≡ countIn (now (state .entry))) × (r ≤ boardSlots) ⌝ }
 {
-    at_most(state[7], 256)
+    at_most(state[7], BOARD_SLOTS)
 }
 
 // A now and a count.
@@ -71,23 +72,28 @@ fn lowest_free(lengths: &[u32]) -> usize
 }
 
 // The slot for one reminder more, 256 for a full board.
-pub(crate) fn free_slot(lengths: &[u32; 256], state: &[u32; 8]) -> usize
+pub(crate) fn free_slot(lengths: &[u32; BOARD_SLOTS], state: &[u32; 8]) -> usize
     ensures { λ r. ⌜ ((ready keys : List ℕ) → r ≡ freeSlot (memory ready (now (lengths .entry)) keys (now (state .entry)))) ⌝ }
-    ensures { λ r. ⌜ (r < 256 → countIn (now (state .entry)) < 256) ⌝ }
+    ensures { λ r. ⌜ (r < boardSlots → countIn (now (state .entry)) < boardSlots) ⌝ }
 {
-    if count(state) < 256 {
+    if count(state) < BOARD_SLOTS {
         return lowest_free(lengths);
     }
-    256
+    BOARD_SLOTS
 }
 
 // The key of a slot at a now.
-pub(crate) fn key_at(ready: &[u8; 98304], lengths: &[u32; 256], slot: usize, at: Moment) -> u64
-    requires { ⌜ slot < 256 ⌝ }
+pub(crate) fn key_at(
+    ready: &[u8; BOARD_READY_SIZE],
+    lengths: &[u32; BOARD_SLOTS],
+    slot: usize,
+    at: Moment,
+) -> u64
+    requires { ⌜ slot < boardSlots ⌝ }
     ensures { λ r. ⌜ ((keys state : List ℕ) → r ≡ keyAt (memory (now (ready .entry)) (now (lengths .entry)) keys state) at slot) ⌝ }
 {
-    let start = SLOT * slot;
-    let end = start + at_most(lengths[slot], SLOT);
+    let start = READY_SIZE * slot;
+    let end = start + at_most(lengths[slot], READY_SIZE);
     let all = &ready[..];
     256 * due(run_ready(&all[start..end], at)) + (slot as u64)
 }

@@ -18,6 +18,9 @@ ghost use Rattle.calendar.specs.Moments.{movedWithin, minuteNumber, minu
 ghost use Rattle.calendar.specs.Moments.{secondNumber, seconds, momentAt};
 ghost use Rattle.calendar.specs.Moments.{monthNumber, months, inMonth, monthsStep, years, inYear, yearsStep};
 
+// How many numbers a moment has, in the array of a caller.
+pub const MOMENT_NUMBERS: usize = 7;
+
 // A date and a time of day.
 pub struct Moment {
     pub year: u32,

@@ -8,7 +8,7 @@ use lib.Dec.{ltb}
 use lib.ListN.{length, take, length-map, length-take, replicate}
 use lib.Seq.{sets}
 use borrow.Author.Tests.{ltb-true}
-use Rattle.refusals.specs.Table.{NoNow, FullBoard, EmptySlot}
+use Rattle.refusals.specs.Table.{InvalidMoment, FullBoard, EmptySlot}
 use Rattle.refusals.specs.Answers.{given, refusalAt, refuse, andThen, refusalOf}
 use Rattle.refusals.proofs.Holds.{Holds, of-given, of-refusal, Bounded}
 use Rattle.calendar.specs.Moments.{isMoment}
@@ -28,7 +28,7 @@ plain k false d = omega arith
 
 pub make-code : (m : Memory) (n : Moment) → refusalOf (makeOf m n) .number ≡ codeOf (makeOf m n)
 unfolding makeOf
-make-code m n = plain NoNow (isMoment n) (record { number = 0; after = memory (m .ready) (replicate 256 0) (m .keys) (stateOf n 0) })
+make-code m n = plain InvalidMoment (isMoment n) (record { number = 0; after = memory (m .ready) (replicate 256 0) (m .keys) (stateOf n 0) })
 
 pub remove-code : (m : Memory) (s : ℕ) → refusalOf (removeOf m s) .number ≡ codeOf (removeOf m s)
 unfolding removeOf
@@ -37,7 +37,7 @@ remove-code m s = plain EmptySlot (ltb s 256 && isFilled m s) (record { number =
 pub again-code : (m : Memory) (n : Moment) → refusalOf (againOf m n) .number ≡ codeOf (againOf m n)
 unfolding againOf
 again-code m n =
-    plain NoNow (isMoment n) (record { number = 0; after = memory (m .ready) (m .lengths) (sets (m .keys) 0 (orderAt m n)) (stateOf n (length (orderAt m n))) })
+    plain InvalidMoment (isMoment n) (record { number = 0; after = memory (m .ready) (m .lengths) (sets (m .keys) 0 (orderAt m n)) (stateOf n (length (orderAt m n))) })
 
 -- the slot of a reminder that is added is one of 256, and what is refused has its part within the phrase
 abbrev pub OneOf256 : Done → Type 0

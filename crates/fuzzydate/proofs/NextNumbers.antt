@@ -5,7 +5,7 @@ use mathlib.Core.Path.{_≡_, refl}
 use mathlib.Core.Bool.{Bool, true, false, cond, _&&_}
 use mathlib.Core.List.{List, [], _∷_}
 use lib.Dec.{leb}
-use Rattle.refusals.specs.Table.{NoNow, NoStart, NoNext}
+use Rattle.refusals.specs.Table.{InvalidMoment, NoStart, NoNext}
 use Rattle.refusals.specs.Answers.{Answer, given, refusalAt, refuse, andThen}
 use Rattle.refusals.proofs.Holds.{Holds, of-given, of-refusal, Bounded}
 use Rattle.calendar.specs.Moments.{isMoment, atDay, instantOf, reachedOf}
@@ -50,8 +50,8 @@ told : (s : List ℕ) (t asked : Moment) → Told (nextIn s t asked)
 told s t asked = go (isMoment t && isMoment asked) (readRule s) (rule-read s)
   where
     go : (b : Bool) (w : Answer Rule) → Holds IsRule (Bounded 18 18 0) w →
-        Told (cond b (andThen w (λ r. nextOf r t asked)) (refuse NoNow 0 0))
-    go false w h = plain NoNow (omega arith) (omega arith)
+        Told (cond b (andThen w (λ r. nextOf r t asked)) (refuse InvalidMoment 0 0))
+    go false w h = plain InvalidMoment (omega arith) (omega arith)
     go true w (of-given {x} v) = next-told x t asked
     go true w (of-refusal {r} b) =
         of-refusal {r = r} (record { least = omega (arith, b); most = omega (arith, b); start = b .start; within = b .within })

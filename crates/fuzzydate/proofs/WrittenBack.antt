@@ -17,7 +17,7 @@ use Rattle.fuzzydate.specs.Called.{codeOf, nine, stampAfter}
 pub written-back :
     (st : Stamp) (lent array : List ℕ) {text : List ℕ} → writtenOf st (length lent) ≡ given text →
     let read = stampOf (take (length text) (bufferOf lent (writtenOf st (length lent)))) in
-    (codeOf read ≡ 0) × (stampAfter read array ≡ nine st)
+    (codeOf read ≡ 0) × (stampAfter read array ≡ nine (st .moment) (st .offset .west) (st .offset .minutes))
 written-back st lent array {text} e =
     let fits = given-holds (writing st (length lent)) e .fits in
     rw (e, sets-taken text lent fits (length text) refl, written-reads st (length lent) text e) (refl, refl)

@@ -3,12 +3,12 @@ use Prim.Native.Nat.{ℕ, _+_, _-_, _*_}
 use mathlib.Core.Bool.{cond, _&&_}
 use mathlib.Core.List.{List, [], _∷_, _++_}
 use lib.Dec.{eqb}
-use lib.ListN.{length}
+use lib.ListN.{length, getD}
 use lib.Seq.{sets}
-use Rattle.refusals.specs.Table.{NoReading, NoNow}
+use Rattle.refusals.specs.Table.{NoReading, InvalidMoment}
 use Rattle.refusals.specs.Answers.{Answer, given, refused, refuse, andThen}
 use Rattle.refusals.specs.declared.Refusal.{Refusal}
-use Rattle.calendar.specs.Moments.{momentOf, seven, isMoment}
+use Rattle.calendar.specs.Moments.{seven, momentIn, isMoment}
 use Rattle.calendar.specs.declared.moments.Moment.{Moment}
 use Rattle.lexer.specs.Keywords.{wordsIn}
 use Rattle.lexer.specs.Words.{folded}
@@ -34,6 +34,20 @@ use Rattle.zoned.specs.declared.local.Local.{Local}
 use Rattle.board.specs.Boards.{Done, Due}
 use Rattle.fuzzydate.specs.declared.Chosen.{Chosen}
 use Rattle.fuzzydate.specs.declared.Chosen.the-variants.{As, Neither}
+
+-- the version of what apps call, which the file VERSION says
+abbrev pub major : ℕ
+major = 1
+
+abbrev pub minor : ℕ
+minor = 0
+
+abbrev pub patch : ℕ
+patch = 0
+
+-- as one number
+abbrev pub version : ℕ
+version = 1000000 * major + 1000 * minor + patch
 
 -- "chosen by the caller as 1 or 2": "15 for any other reading number, before 1"
 abbrev pub readingOf : ℕ → Answer Reading
@@ -76,18 +90,18 @@ abbrev pub readyAfter : ReadyPhrase → List ℕ → List ℕ
 readyAfter (given ss) lent = sets lent 0 (encodeOf ss)
 readyAfter (refused r) lent = lent
 
--- the nine numbers of a stamp
-abbrev pub nine : Stamp → List ℕ
-nine st = seven (st .moment) ++ (st .offset .west ∷ st .offset .minutes ∷ [])
+-- these seven and an offset's two
+abbrev pub nine : Moment → ℕ → ℕ → List ℕ
+nine t west offset = seven t ++ (west ∷ offset ∷ [])
 
 -- what they are written over; on a refusal it stays
 abbrev pub stampAfter : Answer Stamp → List ℕ → List ℕ
-stampAfter (given st) lent = nine st
+stampAfter (given st) lent = nine (st .moment) (st .offset .west) (st .offset .minutes)
 stampAfter (refused r) lent = lent
 
 -- the stamp of nine numbers
-abbrev pub numbersStamp : ℕ → ℕ → ℕ → ℕ → ℕ → ℕ → ℕ → ℕ → ℕ → Stamp
-numbersStamp y mo d h mi s ms west offset = record { moment = momentOf y mo d h mi s ms; offset = record { west = west; minutes = offset } }
+abbrev pub stampIn : List ℕ → Stamp
+stampIn l = record { moment = momentIn l; offset = record { west = getD l 7 0; minutes = getD l 8 0 } }
 
 -- of what is written: 0 for the number and the place, and the count of a text's bytes or of listed rows from bit 32 on
 abbrev pub writtenCode : Answer (List ℕ) → ℕ
@@ -111,11 +125,11 @@ foundAfter (refused r) lent = lent
 -- a rule's occurrences from a start on, as many as so many numbers have room for: "8 for a start that is no moment, 18 for a rule outside this,
 -- 19 for a start that doesn't match or lies past UNTIL"
 abbrev pub listIn : List ℕ → Moment → ℕ → Answer (List ℕ)
-listIn s t size = cond (isMoment t) (andThen (readRule s) (λ r. listOf r t size)) (refuse NoNow 0 0)
+listIn s t size = cond (isMoment t) (andThen (readRule s) (λ r. listOf r t size)) (refuse InvalidMoment 0 0)
 
 -- the first occurrence at or after an asked moment: "8 covers the asked moment too; after 18 and 19, 20"
 abbrev pub nextIn : List ℕ → Moment → Moment → Answer Moment
-nextIn s t asked = cond (isMoment t && isMoment asked) (andThen (readRule s) (λ r. nextOf r t asked)) (refuse NoNow 0 0)
+nextIn s t asked = cond (isMoment t && isMoment asked) (andThen (readRule s) (λ r. nextOf r t asked)) (refuse InvalidMoment 0 0)
 
 -- an instant by a caller's numbers: seconds since 1970 with a sign, in 64 bits, and a millisecond
 abbrev pub instantFrom : ℕ → ℕ → Instant
@@ -132,7 +146,7 @@ dueAfter (refused r) lent = lent
 
 -- and the civil moment's seven numbers, west, and the offset in seconds
 abbrev pub localAfter : Answer Local → List ℕ → List ℕ
-localAfter (given x) lent = seven (x .civil) ++ (x .west ∷ x .offset ∷ [])
+localAfter (given x) lent = nine (x .civil) (x .west) (x .offset)
 localAfter (refused r) lent = lent
 
 -- of a reminder that is added: 0 for the number and the place, and its slot from bit 32 on

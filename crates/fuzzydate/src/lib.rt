@@ -1,6 +1,8 @@
 // What apps call: phrases, nows, ready phrases, stamps and moments as numbers and byte slices.
 use answer::Answered;
 use answer::answer;
+use board::BOARD_READY_SIZE;
+use board::BOARD_SLOTS;
 use board::Earliest;
 use board::calls::add;
 use board::calls::again;
@@ -8,6 +10,7 @@ use board::calls::head;
 use board::calls::make;
 use board::calls::order;
 use board::calls::remove;
+use calendar::moments::MOMENT_NUMBERS;
 use calendar::moments::Moment;
 use calendar::moments::Reached;
 use coming::next;
@@ -15,12 +18,13 @@ use lexer::find::Found;
 use lexer::find::look_up;
 use lexer::reading::Reading;
 use ready::make_ready;
+use records::record::READY_SIZE;
 use records::record::encode;
 use records::run::run_ready;
-use refusals::NO_MOMENT;
-use refusals::NO_NOW;
+use refusals::INVALID_MOMENT;
 use refusals::NO_READING;
 use refusals::NO_RULE;
+use refusals::NOTHING_DUE;
 use refusals::Refusal;
 use refusals::Wrote;
 use repeats::listing::list;
@@ -42,19 +46,19 @@ ghost use Prim.Native.Nat.{ℕ, _+_, _*_, _≤_};
 ghost use lib.ListN.{length};
 ghost use lib.Seq.{sets};
 ghost use Rattle.calendar.specs.Gregorian.{days};
-ghost use Rattle.calendar.specs.Moments.{momentOf, reachedOf};
+ghost use Rattle.calendar.specs.Moments.{seven, reachedOf, momentIn};
 ghost use Rattle.answer.specs.Answer.{placed};
 ghost use Rattle.steps.specs.Running.{runOf};
 ghost use Rattle.records.specs.Records.{decodeOf};
 ghost use Rattle.refusals.specs.Writings.{bufferOf};
 ghost use Rattle.stamp.specs.Stamps.{stampOf, writtenOf};
 ghost use Rattle.shown.specs.Phrases.{shownOf};
-ghost use Rattle.fuzzydate.specs.Called.{readingOf, chosenFrom, answerIn, readyIn, code, codeOf, momentAfter, readyCode, readyAfter};
-ghost use Rattle.fuzzydate.specs.Called.{stampAfter, numbersStamp, writtenCode};
+ghost use Rattle.fuzzydate.specs.Called.{version, readingOf, chosenFrom, answerIn, readyIn, code, codeOf, momentAfter, readyCode, readyAfter};
+ghost use Rattle.fuzzydate.specs.Called.{stampIn, nine, stampAfter, writtenCode};
 ghost use Rattle.repeats.specs.Listing.{rowsAfter};
 ghost use Rattle.coming.specs.Next.{answered};
 ghost use Rattle.zoned.specs.Local.{locatedOf, runInZone};
-ghost use Rattle.board.specs.Boards.{memory, memoryAfter, makeOf, addOf, removeOf, againOf, headOf, orderOf};
+ghost use Rattle.board.specs.Boards.{memory, atEntry, atExit, memoryAfter, makeOf, addOf, removeOf, againOf, headOf, orderOf};
 ghost use Rattle.fuzzydate.specs.Called.{foundIn, foundAfter, listIn, nextIn, instantFrom, readInZone, dueAfter, localAfter};
 ghost use Rattle.fuzzydate.specs.Called.{addedCode, headCode, headAfter};
 
@@ -62,6 +66,16 @@ ghost use Rattle.fuzzydate.specs.Called.{addedCode, headCode, headAfter}
 const PLACE: u64 = 65536;
 
 const LENGTH: u64 = 4294967296;
+
+// How many numbers a stamp has, and what a zone's clocks show: a moment's, west and offset.
+const STAMP_NUMBERS: usize = MOMENT_NUMBERS + 2;
+
+// The version of what apps call, which the file VERSION says.
+const MAJOR: u32 = 1;
+
+const MINOR: u32 = 0;
+
+const PATCH: u32 = 0;
 
 // The reading that a caller asks for, or refusal 15.
 enum Chosen {
@@ -99,26 +113,93 @@ fn written(wrote: Wrote) -> u64
     (wrote.number as u64) + LENGTH * (wrote.count as u64)
 }
 
+// The moment of seven numbers.
+fn moment_in(at: &[u32; MOMENT_NUMBERS]) -> Moment
+    ensures { λ r. ⌜ r ≡ momentIn (now (at .entry)) ⌝ }
+{
+    Moment {
+        year: at[0],
+        month: at[1],
+        day: at[2],
+        hour: at[3],
+        minute: at[4],
+        second: at[5],
+        millisecond: at[6],
+    }
+}
+
+// The stamp of nine numbers.
+fn stamp_in(stamp: &[u32; STAMP_NUMBERS]) -> Stamp
+    ensures { λ r. ⌜ r ≡ stampIn (now (stamp .entry)) ⌝ }
+{
+    let moment = Moment {
+        year: stamp[0],
+        month: stamp[1],
+        day: stamp[2],
+        hour: stamp[3],
+        minute: stamp[4],
+        second: stamp[5],
+        millisecond: stamp[6],
+    };
+    let offset = Offset {
+        west: stamp[7],
+        minutes: stamp[8],
+    };
+    Stamp { moment, offset }
+}
+
+// A moment's seven numbers.
+fn put_moment(t: Moment, moment: &mut [u32; MOMENT_NUMBERS])
+    ensures { λ _. ⌜ now (moment .exit) ≡ seven t ⌝ }
+{
+    *moment = [
+        t.year,
+        t.month,
+        t.day,
+        t.hour,
+        t.minute,
+        t.second,
+        t.millisecond,
+    ];
+}
+
+// These seven and an offset's two.
+fn put_nine(civil: Moment, west: u32, offset: u32, numbers: &mut [u32; STAMP_NUMBERS])
+    ensures { λ _. ⌜ now (numbers .exit) ≡ nine civil west offset ⌝ }
+{
+    *numbers = [
+        civil.year,
+        civil.month,
+        civil.day,
+        civil.hour,
+        civil.minute,
+        civil.second,
+        civil.millisecond,
+        west,
+        offset,
+    ];
+}
+
 // What was reached as one number: 0 and the moment's seven numbers, or a refusal's number and nothing written.
-fn reached(at: Reached, moment: &mut [u32; 7]) -> u64
+fn reached(at: Reached, moment: &mut [u32; MOMENT_NUMBERS]) -> u64
     ensures { λ r. ⌜ r ≡ codeOf (placed (reachedOf at)) ⌝ }
     ensures { λ r. ⌜ now (moment .exit) ≡ momentAfter (placed (reachedOf at)) (now (moment .entry)) ⌝ }
 {
     match at {
         Reached::At(t) => {
-            *moment = [
-                t.year,
-                t.month,
-                t.day,
-                t.hour,
-                t.minute,
-                t.second,
-                t.millisecond,
-            ];
+            put_moment(t, moment);
             0
         }
         Reached::Refused(number) => number as u64,
     }
+}
+
+// The version as one number: 1000000 for 1.0.0.
+#[no_mangle]
+pub extern "C" fn fuzzy_version() -> u32
+    ensures { λ r. ⌜ r ≡ version ⌝ }
+{
+    1000000 * MAJOR + 1000 * MINOR + PATCH
 }
 
 // A phrase at a now, in reading 1 or 2: 0 and the moment's seven numbers, or a refusal and nothing written.
@@ -126,41 +207,18 @@ fn reached(at: Reached, moment: &mut [u32; 7]) -> u64
 pub extern "C" fn fuzzy_read(
     reading: u32,
     phrase: &[u8],
-    year: u32,
-    month: u32,
-    day: u32,
-    hour: u32,
-    minute: u32,
-    second: u32,
-    millisecond: u32,
-    moment: &mut [u32; 7],
+    at: &[u32; MOMENT_NUMBERS],
+    moment: &mut [u32; MOMENT_NUMBERS],
 ) -> u64
-    ensures { λ r. ⌜ r ≡ codeOf (answerIn reading (now (phrase .entry)) (momentOf year month day hour minute second millisecond)) ⌝ }
-    ensures { λ r. ⌜ now (moment .exit) ≡ momentAfter (answerIn reading (now (phrase .entry)) (momentOf year month day hour minute second millisecond)) (now (moment .entry)) ⌝ }
+    ensures { λ r. ⌜ r ≡ codeOf (answerIn reading (now (phrase .entry)) (momentIn (now (at .entry)))) ⌝ }
+    ensures { λ r. ⌜ now (moment .exit) ≡ momentAfter (answerIn reading (now (phrase .entry)) (momentIn (now (at .entry)))) (now (moment .entry)) ⌝ }
 {
     let Chosen::As(chosen) = choose(reading) else {
         return NO_READING as u64;
     };
-    let now = Moment {
-        year,
-        month,
-        day,
-        hour,
-        minute,
-        second,
-        millisecond,
-    };
-    match answer(chosen, phrase, now) {
+    match answer(chosen, phrase, moment_in(at)) {
         Answered::At(t) => {
-            *moment = [
-                t.year,
-                t.month,
-                t.day,
-                t.hour,
-                t.minute,
-                t.second,
-                t.millisecond,
-            ];
+            put_moment(t, moment);
             0
         }
         Answered::Refused(refusal) => code(refusal),
@@ -170,7 +228,7 @@ pub extern "C" fn fuzzy_read(
 // A phrase made ready in reading 1 or 2 without a now: the length of its records in bytes, and they from the start of the lent array on; or what reading
 // refuses, and nothing written.
 #[no_mangle]
-pub extern "C" fn fuzzy_make_ready(reading: u32, phrase: &[u8], ready: &mut [u8; 384]) -> u64
+pub extern "C" fn fuzzy_make_ready(reading: u32, phrase: &[u8], ready: &mut [u8; READY_SIZE]) -> u64
     ensures { λ r. ⌜ r ≡ readyCode (readyIn reading (now (phrase .entry))) ⌝ }
     ensures { λ r. ⌜ now (ready .exit) ≡ readyAfter (readyIn reading (now (phrase .entry))) (now (ready .entry)) ⌝ }
 {
@@ -191,51 +249,25 @@ pub extern "C" fn fuzzy_make_ready(reading: u32, phrase: &[u8], ready: &mut [u8;
 #[no_mangle]
 pub extern "C" fn fuzzy_run(
     ready: &[u8],
-    year: u32,
-    month: u32,
-    day: u32,
-    hour: u32,
-    minute: u32,
-    second: u32,
-    millisecond: u32,
-    moment: &mut [u32; 7],
+    at: &[u32; MOMENT_NUMBERS],
+    moment: &mut [u32; MOMENT_NUMBERS],
 ) -> u64
-    ensures { λ r. ⌜ r ≡ codeOf (placed (runOf (decodeOf (now (ready .entry))) (momentOf year month day hour minute second millisecond))) ⌝ }
-    ensures { λ r. ⌜ now (moment .exit) ≡ momentAfter (placed (runOf (decodeOf (now (ready .entry))) (momentOf year month day hour minute second millisecond))) (now (moment .entry)) ⌝ }
+    ensures { λ r. ⌜ r ≡ codeOf (placed (runOf (decodeOf (now (ready .entry))) (momentIn (now (at .entry))))) ⌝ }
+    ensures { λ r. ⌜ now (moment .exit) ≡ momentAfter (placed (runOf (decodeOf (now (ready .entry))) (momentIn (now (at .entry))))) (now (moment .entry)) ⌝ }
 {
-    let now = Moment {
-        year,
-        month,
-        day,
-        hour,
-        minute,
-        second,
-        millisecond,
-    };
-    reached(run_ready(ready, now), moment)
+    reached(run_ready(ready, moment_in(at)), moment)
 }
 
 // A text as an RFC 3339 stamp: 0 and the stamp's nine numbers, or 14 or 12 and nothing written.
 #[no_mangle]
-pub extern "C" fn fuzzy_read_stamp(text: &[u8], stamp: &mut [u32; 9]) -> u64
+pub extern "C" fn fuzzy_read_stamp(text: &[u8], stamp: &mut [u32; STAMP_NUMBERS]) -> u64
     ensures { λ r. ⌜ r ≡ codeOf (stampOf (now (text .entry))) ⌝ }
     ensures { λ r. ⌜ now (stamp .exit) ≡ stampAfter (stampOf (now (text .entry))) (now (stamp .entry)) ⌝ }
 {
     match read_stamp(text) {
         StampRead::Is(s) => {
-            let t = s.moment;
             let o = s.offset;
-            *stamp = [
-                t.year,
-                t.month,
-                t.day,
-                t.hour,
-                t.minute,
-                t.second,
-                t.millisecond,
-                o.west,
-                o.minutes,
-            ];
+            put_nine(s.moment, o.west, o.minutes, stamp);
             0
         }
         StampRead::Refused(number) => number as u64,
@@ -244,62 +276,20 @@ pub extern "C" fn fuzzy_read_stamp(text: &[u8], stamp: &mut [u32; 9]) -> u64
 
 // A stamp's nine numbers as text at the front of a lent one: its length in bytes, or 8, 14 or 17 and nothing written.
 #[no_mangle]
-pub extern "C" fn fuzzy_write_stamp(
-    year: u32,
-    month: u32,
-    day: u32,
-    hour: u32,
-    minute: u32,
-    second: u32,
-    millisecond: u32,
-    west: u32,
-    offset: u32,
-    text: &mut [u8],
-) -> u64
-    ensures { λ r. ⌜ r ≡ writtenCode (writtenOf (numbersStamp year month day hour minute second millisecond west offset) (length (now (text .entry)))) ⌝ }
-    ensures { λ _. ⌜ now (text .exit) ≡ bufferOf (now (text .entry)) (writtenOf (numbersStamp year month day hour minute second millisecond west offset) (length (now (text .entry)))) ⌝ }
+pub extern "C" fn fuzzy_write_stamp(stamp: &[u32; STAMP_NUMBERS], text: &mut [u8]) -> u64
+    ensures { λ r. ⌜ r ≡ writtenCode (writtenOf (stampIn (now (stamp .entry))) (length (now (text .entry)))) ⌝ }
+    ensures { λ _. ⌜ now (text .exit) ≡ bufferOf (now (text .entry)) (writtenOf (stampIn (now (stamp .entry))) (length (now (text .entry)))) ⌝ }
 {
-    let moment = Moment {
-        year,
-        month,
-        day,
-        hour,
-        minute,
-        second,
-        millisecond,
-    };
-    let offset = Offset {
-        west,
-        minutes: offset,
-    };
-    written(write_stamp(Stamp { moment, offset }, text))
+    written(write_stamp(stamp_in(stamp), text))
 }
 
 // A moment's seven numbers as a phrase at the front of a lent text: its length in bytes, or 8, 16 or 17 and nothing written.
 #[no_mangle]
-pub extern "C" fn fuzzy_write_phrase(
-    year: u32,
-    month: u32,
-    day: u32,
-    hour: u32,
-    minute: u32,
-    second: u32,
-    millisecond: u32,
-    text: &mut [u8],
-) -> u64
-    ensures { λ r. ⌜ r ≡ writtenCode (shownOf (momentOf year month day hour minute second millisecond) (length (now (text .entry)))) ⌝ }
-    ensures { λ _. ⌜ now (text .exit) ≡ bufferOf (now (text .entry)) (shownOf (momentOf year month day hour minute second millisecond) (length (now (text .entry)))) ⌝ }
+pub extern "C" fn fuzzy_write_phrase(moment: &[u32; MOMENT_NUMBERS], text: &mut [u8]) -> u64
+    ensures { λ r. ⌜ r ≡ writtenCode (shownOf (momentIn (now (moment .entry))) (length (now (text .entry)))) ⌝ }
+    ensures { λ _. ⌜ now (text .exit) ≡ bufferOf (now (text .entry)) (shownOf (momentIn (now (moment .entry))) (length (now (text .entry)))) ⌝ }
 {
-    let moment = Moment {
-        year,
-        month,
-        day,
-        hour,
-        minute,
-        second,
-        millisecond,
-    };
-    written(write_phrase(moment, text))
+    written(write_phrase(moment_in(moment), text))
 }
 
 // A word in reading 1 or 2: 0, and its lexeme's code or 0, and how many rows of the table it was compared with; or 15 and nothing written.
@@ -328,37 +318,25 @@ pub extern "C" fn fuzzy_find_word(reading: u32, word: &[u8], found: &mut [u32; 2
 // The occurrences of an RFC 5545 rule from a start on, rows of seven numbers from the front of a lent buffer on, as many as it has room for: their
 // count, or 8, 18 or 19 and nothing written.
 #[no_mangle]
-pub extern "C" fn fuzzy_list(
+pub extern "C" fn fuzzy_list_in(
     rule: &[u8],
-    year: u32,
-    month: u32,
-    day: u32,
-    hour: u32,
-    minute: u32,
-    second: u32,
-    millisecond: u32,
+    start: &[u32; MOMENT_NUMBERS],
     moments: &mut [u32],
 ) -> u64
-    ensures { λ r. ⌜ r ≡ writtenCode (listIn (now (rule .entry)) (momentOf year month day hour minute second millisecond) (length (now (moments .entry)))) ⌝ }
-    ensures { λ _. ⌜ now (moments .exit) ≡ rowsAfter (momentOf year month day hour minute second millisecond) (now (moments .entry)) (listIn (now (rule .entry)) (momentOf year month day hour minute second millisecond) (length (now (moments .entry)))) ⌝ }
+    ensures { λ r. ⌜ r ≡ writtenCode (listIn (now (rule .entry)) (momentIn (now (start .entry))) (length (now (moments .entry)))) ⌝ }
+    ensures { λ _.
+        ⌜ (let t = momentIn (now (start .entry)) in
+        now (moments .exit) ≡ rowsAfter t (now (moments .entry)) (listIn (now (rule .entry)) t (length (now (moments .entry))))) ⌝ }
 {
-    let start = Moment {
-        year,
-        month,
-        day,
-        hour,
-        minute,
-        second,
-        millisecond,
-    };
-    if start.valid() {
+    let first = moment_in(start);
+    if first.valid() {
         let read = read_rule(rule);
         let RuleRead::Is(said) = read else {
             return NO_RULE as u64;
         };
-        return written(list(said, start, moments));
+        return written(list(said, first, moments));
     }
-    NO_NOW as u64
+    INVALID_MOMENT as u64
 }
 
 // The first occurrence of a rule's text, from a start on, at or after an asked moment.
@@ -373,9 +351,9 @@ fn next_of(rule: &[u8], start: Moment, asked: Moment) -> Reached
             };
             return next(said, start, asked);
         }
-        return Reached::Refused(NO_NOW);
+        return Reached::Refused(INVALID_MOMENT);
     }
-    Reached::Refused(NO_NOW)
+    Reached::Refused(INVALID_MOMENT)
 }
 
 // The first occurrence of an RFC 5545 rule, from a start on, at or after an asked moment: 0 and its seven numbers, or 8, 18, 19 or 20 and nothing
@@ -383,67 +361,26 @@ fn next_of(rule: &[u8], start: Moment, asked: Moment) -> Reached
 #[no_mangle]
 pub extern "C" fn fuzzy_next(
     rule: &[u8],
-    year: u32,
-    month: u32,
-    day: u32,
-    hour: u32,
-    minute: u32,
-    second: u32,
-    millisecond: u32,
-    asked_year: u32,
-    asked_month: u32,
-    asked_day: u32,
-    asked_hour: u32,
-    asked_minute: u32,
-    asked_second: u32,
-    asked_millisecond: u32,
-    moment: &mut [u32; 7],
+    start: &[u32; MOMENT_NUMBERS],
+    asked: &[u32; MOMENT_NUMBERS],
+    moment: &mut [u32; MOMENT_NUMBERS],
 ) -> u64
-    ensures { λ r. ⌜ r ≡ codeOf (nextIn (now (rule .entry)) (momentOf year month day hour minute second millisecond) (momentOf «asked_year» «asked_month» «asked_day» «asked_hour» «asked_minute» «asked_second» «asked_millisecond»)) ⌝ }
-    ensures { λ r. ⌜ now (moment .exit) ≡ momentAfter (nextIn (now (rule .entry)) (momentOf year month day hour minute second millisecond) (momentOf «asked_year» «asked_month» «asked_day» «asked_hour» «asked_minute» «asked_second» «asked_millisecond»)) (now (moment .entry)) ⌝ }
+    ensures { λ r. ⌜ r ≡ codeOf (nextIn (now (rule .entry)) (momentIn (now (start .entry))) (momentIn (now (asked .entry)))) ⌝ }
+    ensures { λ r. ⌜ now (moment .exit) ≡ momentAfter (nextIn (now (rule .entry)) (momentIn (now (start .entry))) (momentIn (now (asked .entry)))) (now (moment .entry)) ⌝ }
 {
-    let start = Moment {
-        year,
-        month,
-        day,
-        hour,
-        minute,
-        second,
-        millisecond,
-    };
-    let asked = Moment {
-        year: asked_year,
-        month: asked_month,
-        day: asked_day,
-        hour: asked_hour,
-        minute: asked_minute,
-        second: asked_second,
-        millisecond: asked_millisecond,
-    };
-    reached(next_of(rule, start, asked), moment)
+    reached(next_of(rule, moment_in(start), moment_in(asked)), moment)
 }
 
 // Where a run in a zone ended as one number: 0, the instant's second and what the clocks show, or a refusal's number and nothing written.
-fn located(at: Located, due: &mut [u64; 1], moment: &mut [u32; 9]) -> u64
+fn located(at: Located, due: &mut [u64; 1], moment: &mut [u32; STAMP_NUMBERS]) -> u64
     ensures { λ r. ⌜ r ≡ codeOf (locatedOf at) ⌝ }
     ensures { λ _. ⌜ now (due .exit) ≡ dueAfter (locatedOf at) (now (due .entry)) ⌝ }
     ensures { λ _. ⌜ now (moment .exit) ≡ localAfter (locatedOf at) (now (moment .entry)) ⌝ }
 {
     match at {
         Located::At(x) => {
-            let t = x.civil;
             *due = [turned(x.second)];
-            *moment = [
-                t.year,
-                t.month,
-                t.day,
-                t.hour,
-                t.minute,
-                t.second,
-                t.millisecond,
-                x.west,
-                x.offset,
-            ];
+            put_nine(x.civil, x.west, x.offset, moment);
             0
         }
         Located::Refused(number) => number as u64,
@@ -458,7 +395,7 @@ pub extern "C" fn fuzzy_run_in_zone(
     second: u64,
     millisecond: u32,
     due: &mut [u64; 1],
-    moment: &mut [u32; 9],
+    moment: &mut [u32; STAMP_NUMBERS],
 ) -> u64
     ensures { λ r. ⌜ r ≡ codeOf (runInZone (decodeOf (now (ready .entry))) (now (zone .entry)) (instantFrom second millisecond)) ⌝ }
     ensures { λ _. ⌜ now (due .exit) ≡ dueAfter (runInZone (decodeOf (now (ready .entry))) (now (zone .entry)) (instantFrom second millisecond)) (now (due .entry)) ⌝ }
@@ -480,13 +417,13 @@ pub extern "C" fn fuzzy_read_in_zone(
     second: u64,
     millisecond: u32,
     due: &mut [u64; 1],
-    moment: &mut [u32; 9],
+    moment: &mut [u32; STAMP_NUMBERS],
 ) -> u64
     ensures { λ r. ⌜ r ≡ codeOf (readInZone reading (now (phrase .entry)) (now (zone .entry)) (instantFrom second millisecond)) ⌝ }
     ensures { λ _. ⌜ now (due .exit) ≡ dueAfter (readInZone reading (now (phrase .entry)) (now (zone .entry)) (instantFrom second millisecond)) (now (due .entry)) ⌝ }
     ensures { λ _. ⌜ now (moment .exit) ≡ localAfter (readInZone reading (now (phrase .entry)) (now (zone .entry)) (instantFrom second millisecond)) (now (moment .entry)) ⌝ }
 {
-    let mut ready = [0; 384];
+    let mut ready = [0; READY_SIZE];
     let made = fuzzy_make_ready(reading, phrase, &mut ready);
     if made % PLACE == 0 {
         let end = (made / LENGTH) as usize;
@@ -498,48 +435,33 @@ pub extern "C" fn fuzzy_read_in_zone(
 // A board made empty at a now: 0, or 8 and nothing written.
 #[no_mangle]
 pub extern "C" fn fuzzy_board_make_in(
-    lengths: &mut [u32; 256],
+    lengths: &mut [u32; BOARD_SLOTS],
     state: &mut [u32; 8],
-    year: u32,
-    month: u32,
-    day: u32,
-    hour: u32,
-    minute: u32,
-    second: u32,
-    millisecond: u32,
+    at: &[u32; MOMENT_NUMBERS],
 ) -> u64
-    ensures { λ r. ⌜ ((ready keys : List ℕ) → r ≡ codeOf (makeOf (memory ready (now (lengths .entry)) keys (now (state .entry))) (momentOf year month day hour minute second millisecond))) ⌝ }
+    ensures { λ r. ⌜ ((ready keys : List ℕ) → r ≡ codeOf (makeOf (memory ready (now (lengths .entry)) keys (now (state .entry))) (momentIn (now (at .entry))))) ⌝ }
     ensures { λ _.
         ⌜ ((ready keys : List ℕ) → let m = memory ready (now (lengths .entry)) keys (now (state .entry)) in
-        memory ready (now (lengths .exit)) keys (now (state .exit)) ≡ memoryAfter m (makeOf m (momentOf year month day hour minute second millisecond))) ⌝ }
+        memory ready (now (lengths .exit)) keys (now (state .exit)) ≡ memoryAfter m (makeOf m (momentIn (now (at .entry))))) ⌝ }
 {
-    let at = Moment {
-        year,
-        month,
-        day,
-        hour,
-        minute,
-        second,
-        millisecond,
-    };
-    make(lengths, state, at) as u64
+    make(lengths, state, moment_in(at)) as u64
 }
 
 // One reminder more on a board, made ready in reading 1 or 2: its slot, or what reading refuses or 24, and nothing written.
 #[no_mangle]
 pub extern "C" fn fuzzy_board_add_in(
-    ready: &mut [u8; 98304],
-    lengths: &mut [u32; 256],
-    keys: &mut [u64; 256],
+    ready: &mut [u8; BOARD_READY_SIZE],
+    lengths: &mut [u32; BOARD_SLOTS],
+    keys: &mut [u64; BOARD_SLOTS],
     state: &mut [u32; 8],
     reading: u32,
     phrase: &[u8],
 ) -> u64
     ensures { λ r.
-        ⌜ r ≡ addedCode (addOf (memory (now (ready .entry)) (now (lengths .entry)) (now (keys .entry)) (now (state .entry))) (readyIn reading (now (phrase .entry)))) ⌝ }
+        ⌜ r ≡ addedCode (addOf (atEntry ready lengths keys state) (readyIn reading (now (phrase .entry)))) ⌝ }
     ensures { λ _.
-        ⌜ (let m = memory (now (ready .entry)) (now (lengths .entry)) (now (keys .entry)) (now (state .entry)) in
-        memory (now (ready .exit)) (now (lengths .exit)) (now (keys .exit)) (now (state .exit)) ≡ memoryAfter m (addOf m (readyIn reading (now (phrase .entry))))) ⌝ }
+        ⌜ (let m = atEntry ready lengths keys state in
+        atExit ready lengths keys state ≡ memoryAfter m (addOf m (readyIn reading (now (phrase .entry))))) ⌝ }
 {
     let Chosen::As(chosen) = choose(reading) else {
         return NO_READING as u64;
@@ -555,8 +477,8 @@ pub extern "C" fn fuzzy_board_add_in(
 // One reminder less on a board: 0, or 25 and nothing written.
 #[no_mangle]
 pub extern "C" fn fuzzy_board_remove_in(
-    lengths: &mut [u32; 256],
-    keys: &mut [u64; 256],
+    lengths: &mut [u32; BOARD_SLOTS],
+    keys: &mut [u64; BOARD_SLOTS],
     state: &mut [u32; 8],
     slot: u32,
 ) -> u64
@@ -571,68 +493,45 @@ pub extern "C" fn fuzzy_board_remove_in(
 // All reminders of a board run again at another now: 0, or 8 and nothing written.
 #[no_mangle]
 pub extern "C" fn fuzzy_board_again_in(
-    ready: &[u8; 98304],
-    lengths: &[u32; 256],
-    keys: &mut [u64; 256],
+    ready: &[u8; BOARD_READY_SIZE],
+    lengths: &[u32; BOARD_SLOTS],
+    keys: &mut [u64; BOARD_SLOTS],
     state: &mut [u32; 8],
-    year: u32,
-    month: u32,
-    day: u32,
-    hour: u32,
-    minute: u32,
-    second: u32,
-    millisecond: u32,
+    at: &[u32; MOMENT_NUMBERS],
 ) -> u64
-    ensures { λ r. ⌜ r ≡ codeOf (againOf (memory (now (ready .entry)) (now (lengths .entry)) (now (keys .entry)) (now (state .entry))) (momentOf year month day hour minute second millisecond)) ⌝ }
+    ensures { λ r. ⌜ r ≡ codeOf (againOf (atEntry ready lengths keys state) (momentIn (now (at .entry)))) ⌝ }
     ensures { λ _.
-        ⌜ (let m = memory (now (ready .entry)) (now (lengths .entry)) (now (keys .entry)) (now (state .entry)) in
-        memory (now (ready .entry)) (now (lengths .entry)) (now (keys .exit)) (now (state .exit)) ≡ memoryAfter m (againOf m (momentOf year month day hour minute second millisecond))) ⌝ }
+        ⌜ (let m = atEntry ready lengths keys state in
+        memory (now (ready .entry)) (now (lengths .entry)) (now (keys .exit)) (now (state .exit)) ≡ memoryAfter m (againOf m (momentIn (now (at .entry))))) ⌝ }
 {
-    let at = Moment {
-        year,
-        month,
-        day,
-        hour,
-        minute,
-        second,
-        millisecond,
-    };
-    again(ready, lengths, keys, state, at) as u64
+    again(ready, lengths, keys, state, moment_in(at)) as u64
 }
 
 // The reminder of a board that is due first: its slot and its moment's seven numbers, or 26 and nothing written.
 #[no_mangle]
 pub extern "C" fn fuzzy_board_head_in(
-    keys: &[u64; 256],
+    keys: &[u64; BOARD_SLOTS],
     state: &[u32; 8],
-    moment: &mut [u32; 7],
+    moment: &mut [u32; MOMENT_NUMBERS],
 ) -> u64
     ensures { λ r. ⌜ ((ready lengths : List ℕ) → r ≡ headCode (headOf (memory ready lengths (now (keys .entry)) (now (state .entry))))) ⌝ }
     ensures { λ _. ⌜ ((ready lengths : List ℕ) → now (moment .exit) ≡ headAfter (headOf (memory ready lengths (now (keys .entry)) (now (state .entry)))) (now (moment .entry))) ⌝ }
 {
     match head(keys, state) {
         Earliest::Next(slot, t) => {
-            *moment = [
-                t.year,
-                t.month,
-                t.day,
-                t.hour,
-                t.minute,
-                t.second,
-                t.millisecond,
-            ];
+            put_moment(t, moment);
             LENGTH * (slot as u64)
         }
-        Earliest::Nothing => NO_MOMENT as u64,
+        Earliest::Nothing => NOTHING_DUE as u64,
     }
 }
 
 // The slots of a board in the order of their moments, at the front of a lent array: how many there are.
 #[no_mangle]
 pub extern "C" fn fuzzy_board_order_in(
-    keys: &[u64; 256],
+    keys: &[u64; BOARD_SLOTS],
     state: &[u32; 8],
-    slots: &mut [u32; 256],
+    slots: &mut [u32; BOARD_SLOTS],
 ) -> u64
     ensures { λ r. ⌜ ((ready lengths : List ℕ) → r ≡ 4294967296 * length (orderOf (memory ready lengths (now (keys .entry)) (now (state .entry))))) ⌝ }
     ensures { λ _. ⌜ ((ready lengths : List ℕ) → now (slots .exit) ≡ sets (now (slots .entry)) 0 (orderOf (memory ready lengths (now (keys .entry)) (now (state .entry))))) ⌝ }

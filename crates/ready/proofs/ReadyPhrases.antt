@@ -6,7 +6,7 @@ use mathlib.Core.Bool.{true, cond}
 use mathlib.Core.List.{List}
 use borrow.Author.Tests.{le-leb}
 use lib.ListN.{length}
-use Rattle.refusals.specs.Table.{NoNow}
+use Rattle.refusals.specs.Table.{InvalidMoment}
 use Rattle.refusals.specs.Answers.{given, refused, andThen}
 use Rattle.refusals.specs.declared.Refusal.{Refusal}
 use Rattle.refusals.proofs.Holds.{Holds, of-given, of-refusal, Bounded, given-holds, refusal-holds}
@@ -70,8 +70,8 @@ ready-answers-in {S} w Good lawful enter enters reading s = go (read-holds readi
 pub ready-answers : (reading : Reading) (s : List ℕ) (n : Moment) → runReady (readyOf reading (wordsIn reading) s) n ≡ answerOf reading (wordsIn reading) s n
 unfolding answerOf runOf
 ready-answers reading s n =
-    ready-answers-in offset Any offset-lawful (λ f. cond (isMoment n) (f n) (unreached NoNow))
-    (record { same = λ f g e. ap (λ (o : Outcome). cond (isMoment n) o (unreached NoNow)) (e n tt) }) reading s
+    ready-answers-in offset Any offset-lawful (λ f. cond (isMoment n) (f n) (unreached InvalidMoment))
+    (record { same = λ f g e. ap (λ (o : Outcome). cond (isMoment n) o (unreached InvalidMoment)) (e n tt) }) reading s
 
 -- making ready refuses exactly when reading refuses, with the same number, place and part
 pub refuses-as-reading : (reading : Reading) (s : List ℕ) {r : Refusal} → readyOf reading (wordsIn reading) s ≡ refused r → readOf reading (wordsIn reading) s ≡ refused r

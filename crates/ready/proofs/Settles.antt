@@ -8,7 +8,7 @@ use mathlib.Core.List.{List, [], _∷_}
 use Rattle.calendar.specs.Moments.{IsMoment, refused, isMoment}
 use Rattle.calendar.specs.declared.moments.Moment.{Moment}
 use Rattle.calendar.proofs.Valid.{test-moment}
-use Rattle.refusals.specs.Table.{NoNow, NoSense}
+use Rattle.refusals.specs.Table.{InvalidMoment, NoSense}
 use Rattle.refusals.specs.Answers.{refusalAt}
 use Rattle.refusals.proofs.Holds.{Holds, of-refusal, Bounded}
 use Rattle.answer.specs.Answer.{placed}
@@ -50,7 +50,7 @@ walk-leads (s ∷ ss) n t w v = behind (walkOf ss n) (act-leads s n t w v) (λ u
 pub run-settled : (ss : List Step) (n : Moment) → Holds IsMoment (Bounded 8 13 0) (placed (runOf ss n))
 run-settled ss n = rw (run-walks ss n) (go (isMoment n) (isList ss) refl)
   where
-    go : (b c : Bool) → isMoment n ≡ b → Holds IsMoment (Bounded 8 13 0) (placed (cond b (cond c (walkOf ss n n) (refused NoSense)) (refused NoNow)))
+    go : (b c : Bool) → isMoment n ≡ b → Holds IsMoment (Bounded 8 13 0) (placed (cond b (cond c (walkOf ss n n) (refused NoSense)) (refused InvalidMoment)))
     go true true e = lowered (omega arith) (placed-holds (walk-leads ss n n (test-moment n e) (test-moment n e)))
     go true false e = of-refusal {r = refusalAt NoSense 0 0} (omega arith)
-    go false c e = of-refusal {r = refusalAt NoNow 0 0} (omega arith)
+    go false c e = of-refusal {r = refusalAt InvalidMoment 0 0} (omega arith)

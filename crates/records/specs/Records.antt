@@ -10,6 +10,10 @@ use Rattle.records.specs.Bytes.{lowFirst, numOf}
 use Rattle.records.specs.Words.{words, wordsOf, stepFrom}
 use Rattle.records.specs.declared.words.Words.{Words}
 
+-- "at most 24" records of 16 bytes: the room that any list of steps needs
+abbrev pub readySize : ℕ
+readySize = 384
+
 -- kind and form share the first four bytes, kind in the lowest
 abbrev pub bytesOfWords : Words → List ℕ
 bytesOfWords w = lowFirst 4 (w .kind + 256 * w .form) ++ lowFirst 4 (w .a) ++ lowFirst 4 (w .b) ++ lowFirst 4 (w .c)
@@ -49,7 +53,7 @@ stepsAt (suc n) l at = stepFrom (wordsAt l at) ∷ stepsAt n l (at + 16)
 -- stands for no list, and no list is 9
 unfoldable pub decodeOf : List ℕ → List Step
 decodeOf l =
-    cond (leb (length l) 384 && (eqb (length l % 16) 0 && areRecords (length l / 16) l 0)) (stepsAt (length l / 16) l 0) []
+    cond (leb (length l) readySize && (eqb (length l % 16) 0 && areRecords (length l / 16) l 0)) (stepsAt (length l / 16) l 0) []
 
 -- whether n records from a place on may stand behind a start: all are of steps, none of a start, and as many of time steps as are due
 unfoldable pub mayFollow : ℕ → ℕ → List ℕ → ℕ → Bool

@@ -14,6 +14,9 @@ ghost use Rattle.records.specs.Records.{bytesOfWords, encodeOf, wordAt, 
 // The bytes of one record.
 pub(crate) const SIZE: usize = 16;
 
+// The room that any ready phrase needs: 24 records.
+pub const READY_SIZE: usize = 24 * SIZE;
+
 // A record at a place.
 fn put_words(b: &mut [u8], at: usize, w: Words)
     requires { ⌜ at + 16 ≤ length (now b) ⌝ }

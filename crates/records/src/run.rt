@@ -1,11 +1,12 @@
 // A ready phrase run from its bytes, without a list of its steps in between.
+use super::record::READY_SIZE;
 use super::record::SIZE;
 use super::record::is_record;
 use super::record::words_at;
 use super::words::step_from;
 use calendar::moments::Moment;
 use calendar::moments::Reached;
-use refusals::NO_NOW;
+use refusals::INVALID_MOMENT;
 use refusals::NO_SENSE;
 use steps::plan::Step;
 use steps::run::act;
@@ -19,11 +20,11 @@ ghost use lib.ListN.{length};
 ghost use Rattle.calendar.specs.Moments.{IsMoment, reachedOf, Valid};
 ghost use Rattle.steps.specs.Running.{isStart, timesDue, walkOf, isList, runOf};
 ghost use Rattle.records.specs.Words.{stepFrom};
-ghost use Rattle.records.specs.Records.{wordsAt, stepsAt, decodeOf, mayFollow};
+ghost use Rattle.records.specs.Records.{readySize, wordsAt, stepsAt, decodeOf, mayFollow};
 
 // Behind the first record: are they all records, none of a start, and those of time steps as many as are due?
 fn is_followed(b: &[u8], due: u32) -> bool
-    requires { ⌜ length (now b) ≤ 384 ⌝ }
+    requires { ⌜ length (now b) ≤ readySize ⌝ }
     ensures { λ r. ⌜ r ≡ mayFollow due (length (now (b .entry)) / 16 - 1) (now (b .entry)) 16 ⌝ }
 {
     let n = b.len() / SIZE;
@@ -47,7 +48,7 @@ fn is_followed(b: &[u8], due: u32) -> bool
 
 // Is the first step a start that the others may follow?
 fn is_formed(b: &[u8], start: Step) -> bool
-    requires { ⌜ length (now b) ≤ 384 ⌝ }
+    requires { ⌜ length (now b) ≤ readySize ⌝ }
     ensures { λ r. ⌜ r ≡ (isStart start && mayFollow (timesDue start) (length (now (b .entry)) / 16 - 1) (now (b .entry)) 16) ⌝ }
 {
     if is_start(start) {
@@ -61,7 +62,7 @@ pub fn is_list(b: &[u8]) -> bool
     ensures { λ r. ⌜ r ≡ isList (decodeOf (now (b .entry))) ⌝ }
 {
     let size = b.len();
-    if size > 384 {
+    if size > READY_SIZE {
         return false;
     }
     if size % SIZE != 0 {
@@ -118,5 +119,5 @@ pub fn run_ready(b: &[u8], at: Moment) -> Reached
         }
         return Reached::Refused(NO_SENSE);
     }
-    Reached::Refused(NO_NOW)
+    Reached::Refused(INVALID_MOMENT)
 }

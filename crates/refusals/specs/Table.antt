@@ -30,8 +30,8 @@ abbrev pub LeftOver : ℕ
 LeftOver = 7
 
 -- "now is no date and time in years 1 to 9999"
-abbrev pub NoNow : ℕ
-NoNow = 8
+abbrev pub InvalidMoment : ℕ
+InvalidMoment = 8
 
 -- "the reading or step list has no sense"
 abbrev pub NoSense : ℕ
@@ -102,5 +102,5 @@ abbrev pub EmptySlot : ℕ
 EmptySlot = 25
 
 -- "26 when no entry has a moment"
-abbrev pub NoMoment : ℕ
-NoMoment = 26
+abbrev pub NothingDue : ℕ
+NothingDue = 26

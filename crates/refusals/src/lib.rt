@@ -41,8 +41,8 @@ pub const LARGE_SUM: u8 = 6;
 // Lexemes are left after the reading.
 pub const LEFT_OVER: u8 = 7;
 
-// Now is no date and time in years 1 to 9999.
-pub const NO_NOW: u8 = 8;
+// A given moment, the now, the start, the asked or the written one, is no date and time in years 1 to 9999.
+pub const INVALID_MOMENT: u8 = 8;
 
 // The reading or step list has no sense.
 pub const NO_SENSE: u8 = 9;
@@ -95,5 +95,5 @@ pub const FULL_BOARD: u8 = 24;
 // The board's slot holds nothing.
 pub const EMPTY_SLOT: u8 = 25;
 
-// No entry of the board has a moment.
-pub const NO_MOMENT: u8 = 26;
+// No entry of the board has a moment, so that nothing is due.
+pub const NOTHING_DUE: u8 = 26;

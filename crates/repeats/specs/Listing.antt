@@ -4,7 +4,7 @@ use mathlib.Core.List.{List, [], _∷_, _++_}
 use lib.ListN.{take}
 use lib.Seq.{sets}
 use Rattle.refusals.specs.Answers.{Answer, given, refused, andThen}
-use Rattle.calendar.specs.Moments.{seven, atDay}
+use Rattle.calendar.specs.Moments.{momentNumbers, seven, atDay}
 use Rattle.calendar.specs.declared.moments.Moment.{Moment}
 use Rattle.rules.specs.declared.Rule.{Rule}
 use Rattle.repeats.specs.Occurrences.{daysOf}
@@ -16,7 +16,7 @@ rows t (n ∷ l) = seven (atDay n t) ++ rows t l
 
 -- the days that are listed: as many as so many numbers have room for
 abbrev pub listOf : Rule → Moment → ℕ → Answer (List ℕ)
-listOf r t size = andThen (daysOf r t) (λ l. given (take (size / 7) l))
+listOf r t size = andThen (daysOf r t) (λ l. given (take (size / momentNumbers) l))
 
 -- the lent buffer: the rows at its front and all else as before, or, refused, "nothing is written"
 abbrev pub rowsAfter : Moment → List ℕ → Answer (List ℕ) → List ℕ

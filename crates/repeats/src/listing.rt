@@ -3,6 +3,7 @@ use super::courses::Begun;
 use super::courses::Course;
 use super::courses::begin;
 use super::days::first_from;
+use calendar::moments::MOMENT_NUMBERS;
 use calendar::moments::Moment;
 use refusals::NO_START;
 use refusals::Wrote;
@@ -12,14 +13,14 @@ ghost use Prim.Native.Nat.{_+_, _*_, _/_, _≤_, min};
 ghost use lib.ListN.{length, take};
 ghost use lib.Seq.{sets};
 ghost use Rattle.refusals.specs.Writings.{wroteOf};
-ghost use Rattle.calendar.specs.Moments.{IsMoment, seven};
+ghost use Rattle.calendar.specs.Moments.{IsMoment, momentNumbers, seven};
 ghost use Rattle.rules.specs.Rule.{IsRule};
 ghost use Rattle.repeats.specs.Courses.{IsCourse, daysIn};
 ghost use Rattle.repeats.specs.Listing.{rows, listOf, rowsAfter};
 
 // The seven numbers of a moment, written from a place on.
 fn put_row(moments: &mut [u32], at: usize, t: Moment)
-    requires { ⌜ at + 7 ≤ length (now moments) ⌝ }
+    requires { ⌜ at + momentNumbers ≤ length (now moments) ⌝ }
     ensures { λ _. ⌜ now (moments .exit) ≡ sets (now (moments .entry)) at (seven t) ⌝ }
 {
     moments[at] = t.year;
@@ -33,9 +34,9 @@ fn put_row(moments: &mut [u32], at: usize, t: Moment)
 
 // The most rows: as many as so many numbers have room for, and at most COUNT.
 fn most_rows(size: usize, count: u32) -> usize
-    ensures { λ r. ⌜ (r ≡ min (size / 7) count) × (7 * r ≤ size) ⌝ }
+    ensures { λ r. ⌜ (r ≡ min (size / momentNumbers) count) × (momentNumbers * r ≤ size) ⌝ }
 {
-    let room = size / 7;
+    let room = size / MOMENT_NUMBERS;
     if room < count as usize {
         return room;
     }
@@ -45,8 +46,8 @@ fn most_rows(size: usize, count: u32) -> usize
 // A course's days at the front of a lent buffer, a row each at a moment's time of day, as many as it has room for; their count.
 fn put_rows(c: Course, t: Moment, moments: &mut [u32]) -> usize
     requires { ⌜ IsCourse c ⌝ }
-    ensures { λ r. ⌜ r ≡ length (take (length (now (moments .entry)) / 7) (daysIn c)) ⌝ }
-    ensures buffer { λ _. let before = now (moments .entry) in ⌜ now (moments .exit) ≡ sets before 0 (rows t (take (length before / 7) (daysIn c))) ⌝ }
+    ensures { λ r. ⌜ r ≡ length (take (length (now (moments .entry)) / momentNumbers) (daysIn c)) ⌝ }
+    ensures buffer { λ _. let before = now (moments .entry) in ⌜ now (moments .exit) ≡ sets before 0 (rows t (take (length before / momentNumbers) (daysIn c))) ⌝ }
 {
     let most = most_rows(moments.len(), c.count);
     let mut n = 0;
@@ -59,7 +60,7 @@ fn put_rows(c: Course, t: Moment, moments: &mut [u32]) -> usize
         if c.limit <= day {
             return n;
         }
-        put_row(moments, 7 * n, t.at_day(day));
+        put_row(moments, MOMENT_NUMBERS * n, t.at_day(day));
         n += 1;
         from = day + 1;
     }

@@ -1,4 +1,4 @@
--- Any two answers that a promise allows for the same arguments are equal. Assumes nothing.
+-- Any two answers that a promise allows for the same arguments are equal; and a call that asks nothing. Assumes nothing.
 use mathlib.Core.Path.{_≡_, sym, _∙_}
 
 -- a promise as the checker has it: a claim of the lifetimes, the arguments, the result and the parameters at exit
@@ -20,3 +20,8 @@ module _ {K : Type 0} {A R E : K → Type 0} (Post : (κs : K) → A κs → R �
   pub through : {B : Type 0} (value : (κs : K) → R κs → B) → ((κs : K) (z w : R κs) → value κs z ≡ value κs w → z ≡ w)
       → Same (λ κs z e. value κs z) → Settled
   through value one s κs a z w e f p q = one κs z w (s κs a z w e f p q)
+
+-- what a function asks of its arguments holds of all: no caller has to check anything first
+module _ {K : Type 0} {A : K → Type 0} (Asked : (κs : K) → A κs → Type 0) where
+  abbrev pub Open : Type 0
+  Open = (κs : K) (a : A κs) → Asked κs a

@@ -7,7 +7,7 @@ use mathlib.Core.List.{List}
 use lib.Dec.{eqb, leb}
 use lib.ListN.{length}
 use borrow.Author.Tests.{eqb-true, leb-true}
-use Rattle.refusals.specs.Table.{NoNow, NotWhole, NoRoom}
+use Rattle.refusals.specs.Table.{InvalidMoment, NotWhole, NoRoom}
 use Rattle.refusals.specs.Answers.{given, refuse, refusalAt}
 use Rattle.refusals.proofs.Holds.{Holds, of-given, of-refusal, Bounded, given-holds}
 use Rattle.calendar.specs.Moments.{IsMoment, isMoment}
@@ -42,7 +42,7 @@ writing t room = go (isMoment t) refl (isWhole t) refl (leb (length (phraseText 
     none {k} l h = of-refusal {r = refusalAt k 0 0} (record { least = l; most = h; start = omega arith; within = omega arith })
 
     go : (a : Bool) → isMoment t ≡ a → (b : Bool) → isWhole t ≡ b → (c : Bool) → leb (length (phraseText t)) room ≡ c →
-        Holds (TextOf t room) (Bounded 8 17 0) (cond a (cond b (cond c (given (phraseText t)) (refuse NoRoom 0 0)) (refuse NotWhole 0 0)) (refuse NoNow 0 0))
+        Holds (TextOf t room) (Bounded 8 17 0) (cond a (cond b (cond c (given (phraseText t)) (refuse NoRoom 0 0)) (refuse NotWhole 0 0)) (refuse InvalidMoment 0 0))
     go true p true q true r =
         let v = test-moment t p in
         of-given (record { moment = v; whole = test-whole t q; is = refl; fits = leb-true _ _ r; short = phrase-short t v })

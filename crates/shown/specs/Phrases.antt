@@ -6,7 +6,7 @@ use mathlib.Core.Bool.{Bool, _&&_, cond}
 use mathlib.Core.List.{List, [], _∷_, _++_}
 use lib.Dec.{eqb}
 use lib.ListN.{getD}
-use Rattle.refusals.specs.Table.{NoNow, NotWhole}
+use Rattle.refusals.specs.Table.{InvalidMoment, NotWhole}
 use Rattle.refusals.specs.Answers.{Answer, refuse}
 use Rattle.refusals.specs.Writings.{fitted}
 use Rattle.digits.specs.Bytes.{bytesOf}
@@ -66,7 +66,7 @@ isWhole t = eqb (t .second) 0 && eqb (t .millisecond) 0
 
 -- "8 for no moment, 16 when second or millisecond isn't 0, then 17 when the buffer is too short for exactly that text"
 unfoldable pub shownOf : Moment → ℕ → Answer (List ℕ)
-shownOf t room = cond (isMoment t) (cond (isWhole t) (fitted (phraseText t) room) (refuse NotWhole 0 0)) (refuse NoNow 0 0)
+shownOf t room = cond (isMoment t) (cond (isWhole t) (fitted (phraseText t) room) (refuse NotWhole 0 0)) (refuse InvalidMoment 0 0)
 
 -- the first year of which a reading gives the moment back: the second takes a year of four digits only
 abbrev pub leastYear : Reading → ℕ

@@ -4,7 +4,7 @@ use digits::digit::width;
 use digits::put::put_bytes;
 use digits::put::put_number;
 use digits::put::put_pair;
-use refusals::NO_NOW;
+use refusals::INVALID_MOMENT;
 use refusals::NO_ROOM;
 use refusals::NOT_WHOLE;
 use refusals::Wrote;
@@ -114,7 +114,7 @@ pub fn write_phrase(t: Moment, out: &mut [u8]) -> Wrote
         };
     }
     Wrote {
-        number: NO_NOW,
+        number: INVALID_MOMENT,
         count: 0,
     }
 }

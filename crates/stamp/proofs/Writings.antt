@@ -8,7 +8,7 @@ use mathlib.Core.Logic.{⊎-elim}
 use lib.Dec.{leb}
 use lib.ListN.{length, length-append}
 use borrow.Author.Tests.{leb-true}
-use Rattle.refusals.specs.Table.{NoNow, NoStamp, NoRoom}
+use Rattle.refusals.specs.Table.{InvalidMoment, NoStamp, NoRoom}
 use Rattle.refusals.specs.Answers.{given, refuse, refusalAt}
 use Rattle.refusals.proofs.Holds.{Holds, of-given, of-refusal, Bounded}
 use Rattle.calendar.specs.Moments.{IsMoment, isMoment}
@@ -44,7 +44,7 @@ writing st room =
     none {k} l h = of-refusal {r = refusalAt k 0 0} (record { least = l; most = h; start = omega arith; within = omega arith })
 
     go : (a : Bool) → isMoment (st .moment) ≡ a → (b : Bool) → isOffset (st .offset) ≡ b → (c : Bool) → leb (length (stampText st)) room ≡ c →
-        Holds (TextOf st room) (Bounded 8 17 0) (cond a (cond b (cond c (given (stampText st)) (refuse NoRoom 0 0)) (refuse NoStamp 0 0)) (refuse NoNow 0 0))
+        Holds (TextOf st room) (Bounded 8 17 0) (cond a (cond b (cond c (given (stampText st)) (refuse NoRoom 0 0)) (refuse NoStamp 0 0)) (refuse InvalidMoment 0 0))
     go true p true q true r =
         of-given (record {
           moment = test-moment (st .moment) p;

@@ -5,7 +5,7 @@ use mathlib.Core.Bool.{Bool, true, _&&_, cond}
 use mathlib.Core.List.{List, [], _∷_, _++_, map}
 use lib.Dec.{eqb, leb, ltb}
 use lib.ListN.{length, getD, take, drop}
-use Rattle.refusals.specs.Table.{NoNow, Outside, NoStamp}
+use Rattle.refusals.specs.Table.{InvalidMoment, Outside, NoStamp}
 use Rattle.refusals.specs.Answers.{Answer, given, refuse}
 use Rattle.refusals.specs.Writings.{fitted}
 use Rattle.digits.specs.Bytes.{bytesOf, capitalOf, same}
@@ -118,7 +118,7 @@ isOffset o = leb (o .west) 1 && ltb (o .minutes) 1440
 unfoldable pub writtenOf : Stamp → ℕ → Answer (List ℕ)
 writtenOf st room =
     cond (isMoment (st .moment)) (cond (isOffset (st .offset)) (fitted (stampText st) room) (refuse NoStamp 0 0))
-    (refuse NoNow 0 0)
+    (refuse InvalidMoment 0 0)
 
 -- an offset's text as the writer has it: "Z" for "+00:00", and capitals
 abbrev pub plainOffset : List ℕ → List ℕ

@@ -4,7 +4,7 @@ use super::Stamp;
 use calendar::fixed::put_moment;
 use digits::put::put_digits;
 use digits::put::put_pair;
-use refusals::NO_NOW;
+use refusals::INVALID_MOMENT;
 use refusals::NO_ROOM;
 use refusals::NO_STAMP;
 use refusals::Wrote;
@@ -125,7 +125,7 @@ pub fn write_stamp(stamp: Stamp, out: &mut [u8]) -> Wrote
         };
     }
     Wrote {
-        number: NO_NOW,
+        number: INVALID_MOMENT,
         count: 0,
     }
 }

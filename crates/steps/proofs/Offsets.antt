@@ -42,6 +42,6 @@ lead-walks ss n = rw (ahead-walks ss n n) (either (isDated ss))
 -- 8, then 9, then the steps in order
 pub run-walks :
     (ss : List Step) (n : Moment) →
-    runOf ss n ≡ cond (isMoment n) (cond (isList ss) (walkOf ss n n) (refused refusal.NoSense)) (refused refusal.NoNow)
+    runOf ss n ≡ cond (isMoment n) (cond (isList ss) (walkOf ss n n) (refused refusal.NoSense)) (refused refusal.InvalidMoment)
 unfolding runIn runOf
 run-walks ss n = rw (lead-walks ss n)

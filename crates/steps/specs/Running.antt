@@ -134,4 +134,4 @@ module _ {S : Type 0} (w : World S) where
 
 -- at a fixed offset 8 before these; `run-walks` says that there the steps just act in order
 unfoldable pub runOf : List Step → Moment → Outcome
-runOf ss n = cond (isMoment n) (runIn offset ss n) (refused refusal.NoNow)
+runOf ss n = cond (isMoment n) (runIn offset ss n) (refused refusal.InvalidMoment)

@@ -72,9 +72,7 @@ fn write_make(line: &[u8], lengths: &mut [u32; 256], state: &mut [u32; 8]) {
         return;
     }
     let t = moment_in(&line[2..], four(line, 22));
-    let answer = fuzzy_board_make_in(
-        lengths,
-        state,
+    let at = [
         t.year,
         t.month,
         t.day,
@@ -82,7 +80,8 @@ fn write_make(line: &[u8], lengths: &mut [u32; 256], state: &mut [u32; 8]) {
         t.minute,
         t.second,
         t.millisecond,
-    );
+    ];
+    let answer = fuzzy_board_make_in(lengths, state, &at);
     write_answer(answer);
 }
 
@@ -98,11 +97,7 @@ fn write_again(
         return;
     }
     let t = moment_in(&line[2..], four(line, 22));
-    let answer = fuzzy_board_again_in(
-        ready,
-        lengths,
-        keys,
-        state,
+    let at = [
         t.year,
         t.month,
         t.day,
@@ -110,7 +105,8 @@ fn write_again(
         t.minute,
         t.second,
         t.millisecond,
-    );
+    ];
+    let answer = fuzzy_board_again_in(ready, lengths, keys, state, &at);
     write_answer(answer);
 }
 

@@ -17,7 +17,7 @@ from dateutil.rrule import DAILY, MO, MONTHLY, WEEKLY, rrule
 FREQS = {"DAILY": DAILY, "WEEKLY": WEEKLY, "MONTHLY": MONTHLY}
 DAYS = ["MO", "TU", "WE", "TH", "FR", "SA", "SU"]
 PIECE, ROOM = 65536, 7168
-NO_MOMENT, NO_RULE, NO_START = 8, 18, 19
+NOTHING_DUE, NO_RULE, NO_START = 8, 18, 19
 draw = random.Random(5545)
 
 
@@ -89,7 +89,7 @@ def starting(numbers):
     try:
         return datetime(*parts, 1000 * millisecond)
     except ValueError:
-        raise Refused(NO_MOMENT)
+        raise Refused(NOTHING_DUE)
 
 
 def occurrences(rule, start, most):

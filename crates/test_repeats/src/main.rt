@@ -4,7 +4,7 @@ use bytes::scan;
 use calendar::fixed::moment_in;
 use calendar::moments::Moment;
 use digits::digit::two;
-use fuzzydate::fuzzy_list;
+use fuzzydate::fuzzy_list_in;
 use libc::STDOUT_FILENO;
 ghost use Prim.Native.Nat.{_+_, _<_, _≤_};
 ghost use lib.ListN.{length};
@@ -67,8 +67,7 @@ fn write_answer(answer: u64, moments: &[u32]) {
 fn write_list(rule: &[u8], t: Moment, moments: &mut [u32], room: usize)
     requires { ⌜ room ≤ length (now moments) ⌝ }
 {
-    let answer = fuzzy_list(
-        rule,
+    let start = [
         t.year,
         t.month,
         t.day,
@@ -76,8 +75,8 @@ fn write_list(rule: &[u8], t: Moment, moments: &mut [u32], room: usize)
         t.minute,
         t.second,
         t.millisecond,
-        &mut moments[..room],
-    );
+    ];
+    let answer = fuzzy_list_in(rule, &start, &mut moments[..room]);
     write_answer(answer, moments);
 }
 

@@ -8,7 +8,7 @@ use mathlib.Core.Logic.{_⊎_, inl, inr, ⊎-elim}
 use lib.Dec.{leb, ltb}
 use lib.ListN.{length, take, drop}
 use borrow.Author.Tests.{ltb-true}
-use Rattle.refusals.specs.Table.{NoNow, NoSense, Outside, NoZone, PastLast}
+use Rattle.refusals.specs.Table.{InvalidMoment, NoSense, Outside, NoZone, PastLast}
 use Rattle.refusals.specs.Answers.{Answer, given, refusalAt, andThen}
 use Rattle.refusals.specs.declared.Refusal.{Refusal}
 use Rattle.refusals.proofs.Holds.{Holds, of-given, of-refusal, Bounded, given-holds, refusal-holds, then-holds}
@@ -153,12 +153,12 @@ module _ (z : Zone) (v : IsZone z) where
     where
       go :
           (small known near : Bool) → ltb (n .millisecond) 1000 ≡ small → ltb (n .second) (lastIn z) ≡ known → inYears (civilOf z (n .second)) ≡ near →
-          Ends (cond small (cond known (cond near (runIn (inZone z) ss n) (refused NoNow)) (refused PastLast)) (refused NoNow))
+          Ends (cond small (cond known (cond near (runIn (inZone z) ss n) (refused InvalidMoment)) (refused PastLast)) (refused InvalidMoment))
       go true true true e f g =
           list-ends n (record { good = years-good z (n .second) (ltb-true (n .second) (lastIn z) f) g; small = ltb-true (n .millisecond) 1000 e }) ss
-      go true true false e f g = of-refusal {r = refusalAt NoNow 0 0} (inl (omega arith))
+      go true true false e f g = of-refusal {r = refusalAt InvalidMoment 0 0} (inl (omega arith))
       go true false near e f g = of-refusal {r = refusalAt PastLast 0 0} (inr (omega arith))
-      go false known near e f g = of-refusal {r = refusalAt NoNow 0 0} (inl (omega arith))
+      go false known near e f g = of-refusal {r = refusalAt InvalidMoment 0 0} (inl (omega arith))
 
   -- what the clocks show there
   local-is : (x : Instant) → Shown z x → IsLocal (localAt z x)

@@ -25,11 +25,11 @@ module _ (z : Zone) where
 
   -- a call at an instant: 8 for, "before the last transition, a civil now outside years 1 to 9999"; "22 .. for now itself"
   abbrev pub enterSecond : Instant → (Instant → Reach Instant) → Reach Instant
-  enterSecond n go = cond (ltb (n .second) (lastIn z)) (cond (inYears (civilOf z (n .second))) (go n) (refused refusal.NoNow)) (refused refusal.PastLast)
+  enterSecond n go = cond (ltb (n .second) (lastIn z)) (cond (inYears (civilOf z (n .second))) (go n) (refused refusal.InvalidMoment)) (refused refusal.PastLast)
 
   -- "8 for milliseconds above 999", and "22 .. just after 8"
   abbrev pub enterAt : Instant → (Instant → Reach Instant) → Reach Instant
-  enterAt n go = cond (ltb (n .millisecond) 1000) (enterSecond n go) (refused refusal.NoNow)
+  enterAt n go = cond (ltb (n .millisecond) 1000) (enterSecond n go) (refused refusal.InvalidMoment)
 
   -- a reading
   unfoldable pub evaluateAt : DateTime → Instant → Reach Instant

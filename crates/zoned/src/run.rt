@@ -2,7 +2,7 @@
 use records::run::is_list;
 use records::run::step_at;
 use records::run::walk;
-use refusals::NO_NOW;
+use refusals::INVALID_MOMENT;
 use refusals::NO_SENSE;
 use refusals::PAST_LAST;
 use steps::plan::Move;
@@ -161,7 +161,7 @@ pub(crate) fn run_at(b: &[u8], file: &[u8], p: Places, n: Instant) -> Arrived
     ensures { λ r. ⌜ Kept (zoneIn (now (file .entry)) p) (arrivedOf r) ⌝ }
 {
     if n.millisecond > 999 {
-        return Arrived::Refused(NO_NOW);
+        return Arrived::Refused(INVALID_MOMENT);
     }
     if p.last <= n.second {
         return Arrived::Refused(PAST_LAST);
@@ -172,5 +172,5 @@ pub(crate) fn run_at(b: &[u8], file: &[u8], p: Places, n: Instant) -> Arrived
         }
         return Arrived::Refused(NO_SENSE);
     }
-    Arrived::Refused(NO_NOW)
+    Arrived::Refused(INVALID_MOMENT)
 }

@@ -3,9 +3,9 @@ package fuzzydate;
 import java.nio.ByteBuffer;
 
 /**
- * The functions of fuzzy.h by their names there, over fuzzydate_jni.c. An answer is the header's one number; what a call writes goes to the front of
- * its last array, an instant's second to the one before it, and on a refusal nothing does. A board is a direct buffer of BOARD_SIZE bytes, used by one
- * thread at a time.
+ * The functions of fuzzy.h by their names there, over fuzzydate_jni.c. An answer is the header's one number; what a call writes goes to the
+ * front of its last array, an instant's second to the one before it, and on a refusal nothing does. A board is a direct buffer of
+ * BOARD_SIZE bytes, used by one thread at a time.
  */
 final class Calls {
     static final int MOMENT_NUMBERS = 7;
@@ -38,13 +38,13 @@ final class Calls {
 
     static native long writePhrase(int[] moment, byte[] text);
 
-    static native long list(byte[] rule, int[] start, int[] moments);
+    static native long listIn(byte[] rule, int[] start, int[] moments);
 
     static native long next(byte[] rule, int[] start, int[] asked, int[] moment);
 
-    static native long runInZone(byte[] ready, byte[] zone, long second, int millisecond, long[] due, int[] moment);
+    static native long runInZone(byte[] ready, byte[] zone, long second, int millisecond, long[] due, int[] local);
 
-    static native long readInZone(int reading, byte[] phrase, byte[] zone, long second, int millisecond, long[] due, int[] moment);
+    static native long readInZone(int reading, byte[] phrase, byte[] zone, long second, int millisecond, long[] due, int[] local);
 
     static native long boardMake(ByteBuffer board, int[] now);
 
@@ -64,5 +64,7 @@ final class Calls {
 
     static native int length(long answer);
 
-    static native String word(int number);
+    static native String words(int number);
+
+    static native int version();
 }

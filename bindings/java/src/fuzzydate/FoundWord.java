@@ -12,7 +12,7 @@ public final class FoundWord {
         this.comparisons = comparisons;
     }
 
-    /** The code of the word's lexeme, the same for words that mean the same; none where the reading has no such word. */
+    /** The code of the word's lexeme, the same for words of one meaning; none where the reading has no such word. */
     public OptionalInt code() {
         return code == 0 ? OptionalInt.empty() : OptionalInt.of(code);
     }

@@ -7,7 +7,7 @@ import java.time.ZoneOffset;
 import java.util.Objects;
 import java.util.Optional;
 
-/** What the clocks of a zone show at an instant: a civil moment, and its distance from UTC. */
+/** What the clocks of a zone show at an instant: a moment, and its offset from UTC. */
 public final class Local {
     private final Instant instant;
     private final LocalDateTime moment;
@@ -29,7 +29,7 @@ public final class Local {
         return moment;
     }
 
-    /** The distance from UTC in seconds, below 0 to the west: above -25 and below 26 hours. */
+    /** The offset from UTC in seconds, negative to the west: above -25 and below 26 hours. */
     public int offset() {
         return offset;
     }

@@ -1,8 +1,8 @@
 package fuzzydate;
 
 /**
- * A distance from UTC in minutes, 0 to 1439. Other numbers may stand here too: a stamp with such an offset is refused when it is written. It isn't
- * {@link java.time.ZoneOffset}, since that ends at 18 hours, and has no offset that is not known.
+ * A stamp's offset from UTC in minutes, 0 to 1439. Other numbers may stand here too: a stamp with such an offset is refused when it is
+ * written. It isn't {@link java.time.ZoneOffset}, since that ends at 18 hours, and has no unknown offset.
  */
 public final class Offset {
     /** "-00:00": the moment is UTC, and where it was written is not known. West by 0 minutes is the same. */

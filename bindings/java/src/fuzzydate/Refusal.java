@@ -1,18 +1,28 @@
 package fuzzydate;
 
+import java.nio.charset.StandardCharsets;
 import java.util.Arrays;
 
-/** A refusal: the reason, the place in the phrase, and the offending part of the phrase, which may be empty. Its message says all three. */
+/**
+ * A refusal: why, and which part of the phrase, where a part of it is refused. Its message shows the phrase with the part underlined:
+ *
+ * <pre>
+ * not understood
+ *   next forty
+ *        ^^^^^
+ * </pre>
+ */
 public final class Refusal extends Exception {
     private static final long serialVersionUID = 1;
+    private static final int LONGEST_CHARACTER = 4;
 
-    private final Reason reason;
+    private final int number;
     private final int place;
     private final byte[] part;
 
-    private Refusal(Reason reason, int place, byte[] part) {
-        super(part.length == 0 ? reason.words() : reason.words() + ": \"" + shown(part) + "\" at byte " + place);
-        this.reason = reason;
+    private Refusal(int number, int place, byte[] part, byte[] phrase) {
+        super(part.length == 0 ? Calls.words(number) : Calls.words(number) + underlined(phrase, place, place + part.length));
+        this.number = number;
         this.place = place;
         this.part = part;
     }
@@ -23,30 +33,59 @@ public final class Refusal extends Exception {
         if (number == 0) {
             return answer;
         }
-        int place = Calls.place(answer);
-        throw new Refusal(Reason.of(number), place, Arrays.copyOfRange(phrase, place, place + Calls.length(answer)));
+        int place = Calls.place(answer), length = Calls.length(answer);
+        boolean hasPart = length > 0 && length <= phrase.length - place;
+        throw new Refusal(number, place, hasPart ? Arrays.copyOfRange(phrase, place, place + length) : new byte[0], phrase);
     }
 
-    /** Bytes for people to read: ASCII as it is, any other byte as its number. */
-    private static String shown(byte[] part) {
-        StringBuilder text = new StringBuilder();
-        for (byte b : part) {
-            text.append(b >= ' ' && b <= '~' ? String.valueOf((char) b) : String.format("\\x%02x", b));
+    /** Two more lines of a message: the phrase, and marks below its bytes from one place to another. */
+    private static String underlined(byte[] phrase, int begin, int end) {
+        StringBuilder text = new StringBuilder("\n  "), marks = new StringBuilder("\n  ");
+        for (int place = 0; place < phrase.length;) {
+            String character = characterAt(phrase, place);
+            String shown = character.isEmpty() ? String.format("\\x%02x", phrase[place]) : character;
+            int next = place + (character.isEmpty() ? 1 : character.getBytes(StandardCharsets.UTF_8).length);
+            text.append(shown);
+            for (int i = shown.codePointCount(0, shown.length()); i > 0 && place < end; i--) {
+                marks.append(next > begin ? '^' : ' ');
+            }
+            place = next;
         }
-        return text.toString();
+        return text.append(marks).toString();
     }
 
-    /** Why. */
+    /** The character that begins at a place of some UTF-8; none where that is another byte, or a control character, which is shown by its number. */
+    private static String characterAt(byte[] bytes, int place) {
+        for (int length = 1; length <= Math.min(LONGEST_CHARACTER, bytes.length - place); length++) {
+            String text = new String(bytes, place, length, StandardCharsets.UTF_8);
+            if (Arrays.equals(text.getBytes(StandardCharsets.UTF_8), Arrays.copyOfRange(bytes, place, place + length))) {
+                return Character.isISOControl(text.codePointAt(0)) ? "" : text;
+            }
+        }
+        return "";
+    }
+
+    /** Its number in fuzzy.h, which may be that of a newer library. */
+    public int number() {
+        return number;
+    }
+
+    /** Why: {@link Reason#OTHER} for a number of a newer library. */
     public Reason reason() {
-        return reason;
+        return Reason.of(number);
     }
 
-    /** Where in the phrase, counted in bytes. */
+    /** What is wrong, in words to be shown to people. */
+    public String words() {
+        return Calls.words(number);
+    }
+
+    /** Where in the phrase the refused part begins, in bytes. */
     public int place() {
         return place;
     }
 
-    /** The word, byte or digits that are refused, or all that is left over. */
+    /** The word, byte or digits that are refused, or all that is left over; empty where no part of the phrase is refused. */
     public byte[] part() {
         return part.clone();
     }

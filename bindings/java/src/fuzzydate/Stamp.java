@@ -6,7 +6,7 @@ import java.time.ZoneOffset;
 import java.util.Objects;
 import java.util.Optional;
 
-/** A civil moment as RFC 3339 text has it, and its offset. */
+/** A moment as RFC 3339 text has it, and its offset from UTC. */
 public final class Stamp {
     private static final int MOST_OF_JAVA = 18 * 60;
 
@@ -65,7 +65,7 @@ public final class Stamp {
         return Objects.hash(moment, offset);
     }
 
-    /** The text; where there is none, why, in plain words, which no reader takes for a stamp. */
+    /** What {@link Fuzzydate#writeStamp} gives; where it is refused, why, in words that no reader accepts as a stamp. */
     @Override
     public String toString() {
         try {

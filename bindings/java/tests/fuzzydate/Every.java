@@ -25,7 +25,7 @@ import java.util.concurrent.ExecutorService;
 import java.util.concurrent.Executors;
 import java.util.concurrent.Future;
 
-/** Every call with good, damaged, empty and missing input, each refusal at least once, and all of it in eight threads at once: Every ZONE. */
+/** Every call with good, damaged, empty and missing input, each refusal at least once, and all of it in eight threads at once: Every ZONE VERSION. */
 final class Every {
     private static final LocalDateTime NOW = LocalDateTime.of(2026, 2, 11, 9, 30, 15, 250_000_000);
     private static final LocalDateTime LEAP_DAY = LocalDateTime.of(2024, 2, 29, 12, 0);
@@ -41,11 +41,13 @@ final class Every {
 
     private final Set<Reason> seen = EnumSet.noneOf(Reason.class);
     private final byte[] zone;
+    private final String version;
     private int checks = 0;
 
-    /** By the bytes of bindings/zones/New_York. */
-    private Every(byte[] zone) {
+    /** By the bytes of bindings/zones/New_York and what the file VERSION says. */
+    private Every(byte[] zone, String version) {
         this.zone = zone;
+        this.version = version;
     }
 
     private void expect(boolean holds, String what) {
@@ -129,17 +131,18 @@ final class Every {
 
     private void refusals() throws Refusal {
         refused("", Reason.NOTHING, 0, "", "no date or time in it");
-        refused("forty days ago", Reason.UNKNOWN, 0, "forty", "not understood: \"forty\" at byte 0");
-        refused("in\0two days", Reason.UNKNOWN, 2, "\0", "not understood: \"\\x00\" at byte 2");
-        refused("4294967296 days ago", Reason.LARGE_DIGITS, 0, "4294967296", "number too large: \"4294967296\" at byte 0");
+        refused("forty days ago", Reason.UNKNOWN, 0, "forty", "not understood\n  forty days ago\n  ^^^^^");
+        refused("in\0two days", Reason.UNKNOWN, 2, "\0", "not understood\n  in\\x00two days\n    ^^^^");
+        refused("4294967296 days ago", Reason.LARGE_DIGITS, 0, "4294967296", "number too large\n  4294967296 days ago\n  ^^^^^^^^^^");
         refused("five billion days ago", Reason.LARGE_SUM, 0, "", "number in words too large");
-        refused("5/2", Reason.LEFT_OVER, 1, "/2", "not part of the date or time: \"/2\" at byte 1");
-        refused("this month", Reason.NO_SENSE, 0, "", "has no sense");
+        refused("5/2", Reason.LEFT_OVER, 1, "/2", "not part of the date or time\n  5/2\n   ^^");
+        refused("this month", Reason.NO_SENSE, 0, "", "makes no sense");
         refused("1000/1/1", Reason.NO_DATE, 0, "", "no such month or day");
         refused("january 1, 99", Reason.NO_TIME, 0, "", "no such time of day");
         refused("four billion days ago", Reason.OUTSIDE, 0, "", "outside the years 1 to 9999");
-        refused(String.join("", Collections.nCopies(65, "1 ")), Reason.TOO_MANY, 128, "1",
-                "more than 64 words, numbers and marks: \"1\" at byte 128");
+        String ones = String.join(" ", Collections.nCopies(65, "1"));
+        String marks = String.join("", Collections.nCopies(128, " ")) + "^";
+        refused(ones, Reason.TOO_MANY, 128, "1", "more than 64 words, numbers and marks\n  " + ones + "\n  " + marks);
         for (int length : new int[] {257, 4096, 1 << 20}) {
             refused(Reading.SECOND, new byte[length], Reason.TOO_LONG, 0, "", "longer than 256 bytes");
         }
@@ -147,10 +150,10 @@ final class Every {
         byte[] today = Fuzzydate.makeReady(Reading.FIRST, "today");
         for (int year : new int[] {LocalDateTime.MIN.getYear(), -1, 0, 10000, LocalDateTime.MAX.getYear()}) {
             LocalDateTime none = WHOLE.withYear(year);
-            refusal(Reason.NO_NOW, () -> Fuzzydate.read(Reading.FIRST, "today", none), "reading in the year " + year);
-            refusal(Reason.NO_NOW, () -> Fuzzydate.run(today, none), "running in the year " + year);
-            refusal(Reason.NO_NOW, () -> Fuzzydate.writePhrase(none), "showing the year " + year);
-            refusal(Reason.NO_NOW, () -> Fuzzydate.writeStamp(new Stamp(none, Offset.UNKNOWN)), "a stamp of the year " + year);
+            refusal(Reason.INVALID_MOMENT, () -> Fuzzydate.read(Reading.FIRST, "today", none), "reading in the year " + year);
+            refusal(Reason.INVALID_MOMENT, () -> Fuzzydate.run(today, none), "running in the year " + year);
+            refusal(Reason.INVALID_MOMENT, () -> Fuzzydate.writePhrase(none), "showing the year " + year);
+            refusal(Reason.INVALID_MOMENT, () -> Fuzzydate.writeStamp(new Stamp(none, Offset.UNKNOWN)), "a stamp of the year " + year);
         }
     }
 
@@ -159,14 +162,16 @@ final class Every {
         for (int b = 128; b < 256; b++) {
             byte[] phrase = {'a', 't', ' ', (byte) b};
             String part = new String(phrase, 3, 1, StandardCharsets.ISO_8859_1);
-            refused(Reading.FIRST, phrase, Reason.UNKNOWN, 3, part, String.format("not understood: \"\\x%02x\" at byte 3", b));
+            refused(Reading.FIRST, phrase, Reason.UNKNOWN, 3, part, String.format("not understood\n  at \\x%02x\n     ^^^^", b));
             expect(!Fuzzydate.findWord(Reading.FIRST, phrase).code().isPresent(), "a word with a byte above 127");
             refusal(Reason.NO_STAMP, () -> Fuzzydate.readStamp(phrase), "a stamp with a byte above 127");
         }
         Refusal accent = refusal(Reason.UNKNOWN, () -> Fuzzydate.read(Reading.FIRST, "at \u00e9", NOW), "a letter of two bytes");
-        same(accent.getMessage(), "not understood: \"\\xc3\" at byte 3", "a letter of two bytes");
+        same(accent.getMessage(), "not understood\n  at \u00e9\n     ^", "a letter of two bytes");
+        Refusal clock = refusal(Reason.UNKNOWN, () -> Fuzzydate.read(Reading.FIRST, "5 \ud83d\udd52\u0085 pm", NOW), "a letter of four bytes");
+        same(clock.getMessage(), "not understood\n  5 \ud83d\udd52\\xc2\\x85 pm\n    ^", "a letter of four bytes");
         Refusal half = refusal(Reason.UNKNOWN, () -> Fuzzydate.read(Reading.FIRST, "at \ud800", NOW), "half of a surrogate pair");
-        same(half.getMessage(), "not understood: \"?\" at byte 3", "half of a surrogate pair");
+        same(half.getMessage(), "not understood\n  at ?\n     ^", "half of a surrogate pair");
     }
 
     private void stamped(String text, String written, Offset offset, int nanos) throws Refusal {
@@ -186,14 +191,14 @@ final class Every {
         stamped("2026-02-11T09:30:15.5-05:00", "2026-02-11T09:30:15.500-05:00", Offset.west(300), 500_000_000);
         stamped("2026-02-11T09:30:15.05+23:59", "2026-02-11T09:30:15.050+23:59", Offset.east(1439), 50_000_000);
         for (String text : new String[] {"", "2026-02-30T09:30:15Z", "2026-02-11T09:30:15+24:00", "2026-02-11T09:30:15.5000Z", "\u00e9"}) {
-            same(refusal(Reason.NO_STAMP, () -> Fuzzydate.readStamp(text), text).getMessage(), "no RFC 3339 date and time", text);
+            same(refusal(Reason.NO_STAMP, () -> Fuzzydate.readStamp(text), text).getMessage(), "not an RFC 3339 date and time", text);
         }
         refusal(Reason.OUTSIDE, () -> Fuzzydate.readStamp("0000-02-29T00:00:00Z"), "year 0");
         for (int minutes : new int[] {1440, -1, Integer.MIN_VALUE, Integer.MAX_VALUE}) {
             for (Offset offset : new Offset[] {Offset.east(minutes), Offset.west(minutes)}) {
                 Stamp none = new Stamp(NOW, offset);
                 refusal(Reason.NO_STAMP, () -> Fuzzydate.writeStamp(none), "an offset of " + minutes);
-                same(none.toString(), "no RFC 3339 date and time", "an offset of " + minutes);
+                same(none.toString(), "not an RFC 3339 date and time", "an offset of " + minutes);
                 same(none.toOffsetDateTime(), Optional.empty(), "an offset of " + minutes);
             }
         }
@@ -229,10 +234,33 @@ final class Every {
         found(Reading.FIRST, "", OptionalInt.empty(), 7);
         expect(!Fuzzydate.findWord(Reading.FIRST, new byte[4096]).code().isPresent(), "a long word");
         for (int number = 1; number < 1000; number++) {
-            boolean said = !Calls.word(number).equals(Calls.word(0xffff));
-            same(said, number <= Reason.values().length, "whether the header has words for refusal " + number);
+            boolean said = !Calls.words(number).equals(Calls.words(0xffff));
+            same(said, Reason.of(number) != Reason.OTHER, "whether the header has words for refusal " + number);
         }
-        same(Calls.word(0), "done", "the words for no refusal");
+        same(Calls.words(0), "done", "the words for no refusal");
+    }
+
+    /** The binding's version is that of the file VERSION and of the library. */
+    private void versions() {
+        same(Fuzzydate.VERSION, version, "the version");
+        int number = 0;
+        for (String part : version.split("\\.")) {
+            number = 1000 * number + Integer.parseInt(part);
+        }
+        same(Fuzzydate.version(), number, "the version of the library");
+    }
+
+    /** A refusal of a newer library is carried by its number. */
+    private void newer() {
+        Refusal other = refusal(Reason.OTHER, () -> Refusal.check(900 | 7L << 16 | 9L << 32, new byte[8]), "a newer refusal");
+        same(other.number(), 900, "its number");
+        same(other.words(), "a refusal of a newer library", "its words");
+        same(Reason.OTHER.words(), other.words(), "the words of other reasons");
+        same(other.getMessage(), other.words(), "its message, without a part outside the phrase");
+        same(other.part().length, 0, "its part");
+        for (Reason reason : Reason.values()) {
+            same(Reason.of(reason.number()), reason, "a reason by its number");
+        }
     }
 
     private void phrases() throws Refusal {
@@ -298,7 +326,7 @@ final class Every {
             same(refusal(reason, () -> Fuzzydate.occurrences(rule, start, most), message).getMessage(), message, "a rule not listed");
         }
         same(refusal(reason, () -> Fuzzydate.next(rule, start, TUESDAY), message).getMessage(), message, "a rule not asked");
-        same(Calls.list(rule, from, numbers), (long) reason.number(), message);
+        same(Calls.listIn(rule, from, numbers), (long) reason.number(), message);
         same(Calls.next(rule, from, asked, numbers), (long) reason.number(), message);
         expect(Arrays.equals(numbers, new int[15]), "nothing written for what is refused");
     }
@@ -309,14 +337,14 @@ final class Every {
 
     private void refusedRules() {
         for (String rule : new String[] {"", "FREQ=YEARLY", "RRULE:FREQ=DAILY", "FREQ=DAILY;", "FREQ=DAILY;COUNT=0", "FREQ=DAILY\0", "FREQ=DAILY\u00e9"}) {
-            unlisted(rule, TUESDAY, Reason.NO_RULE, "no repeating rule that is taken");
+            unlisted(rule, TUESDAY, Reason.NO_RULE, "not a repeating rule that is accepted");
         }
         for (String rule : new String[] {"FREQ=WEEKLY;BYDAY=MO", "FREQ=MONTHLY;BYMONTHDAY=31", "FREQ=DAILY;UNTIL=20260210T093015"}) {
-            unlisted(rule, TUESDAY, Reason.NO_START, "the start is no occurrence of the rule");
+            unlisted(rule, TUESDAY, Reason.NO_START, "the start is not an occurrence of the rule");
         }
         for (int year : new int[] {LocalDateTime.MIN.getYear(), -1, 0, 10000, LocalDateTime.MAX.getYear()}) {
-            unlisted("FREQ=YEARLY", TUESDAY.withYear(year), Reason.NO_NOW, "the moment given is no date and time");
-            refusal(Reason.NO_NOW, () -> Fuzzydate.next(TUESDAYS, TUESDAY, TUESDAY.withYear(year)), "asked in the year " + year);
+            unlisted("FREQ=YEARLY", TUESDAY.withYear(year), Reason.INVALID_MOMENT, "the given moment is not a valid date and time");
+            refusal(Reason.INVALID_MOMENT, () -> Fuzzydate.next(TUESDAYS, TUESDAY, TUESDAY.withYear(year)), "asked in the year " + year);
         }
         int[] numbers = new int[7];
         String once = "FREQ=DAILY;COUNT=1";
@@ -332,7 +360,7 @@ final class Every {
             int wanted = rule.equals("FREQ=DAILY") ? 2 : 1;
             int[] numbers = new int[20];
             Arrays.fill(numbers, 0xa5);
-            same(Calls.list(rule.getBytes(StandardCharsets.UTF_8), start, numbers), (long) wanted << 32, rule);
+            same(Calls.listIn(rule.getBytes(StandardCharsets.UTF_8), start, numbers), (long) wanted << 32, rule);
             same(Moments.of(numbers), TUESDAY, rule + ": the first row");
             for (int i = 7 * wanted; i < 20; i++) {
                 expect(numbers[i] == 0xa5, "numbers behind the rows");
@@ -399,15 +427,15 @@ final class Every {
         undue(Reason.PAST_LAST, "now", zone, LAST);
         undue(Reason.PAST_LAST, "this month", zone, LAST);
         undue(Reason.PAST_LAST, "now", zone, Instant.ofEpochSecond(Instant.MAX.getEpochSecond()));
-        undue(Reason.NO_NOW, "now", zone, Instant.MIN);
+        undue(Reason.INVALID_MOMENT, "now", zone, Instant.MIN);
         undue(Reason.NO_SENSE, "this month", zone, BEFORE_GAP);
         undue(Reason.NO_DATE, "1000/1/1", zone, BEFORE_GAP);
         undue(Reason.NO_TIME, "january 1, 99", zone, BEFORE_GAP);
         undue(Reason.OUTSIDE, "four billion days ago", zone, BEFORE_GAP);
         undue(Reason.NO_LEAP_DAY, "a year from now", zone, Instant.parse("2024-02-29T17:00:00Z"));
         Refusal unknown = undue(Reason.UNKNOWN, "next forty", new byte[0], LAST);
-        same(unknown.getMessage(), "not understood: \"forty\" at byte 5", "a word before the zone");
-        same(undue(Reason.NO_ZONE, "now", new byte[0], LAST).getMessage(), "no zone file that is taken", "no file");
+        same(unknown.getMessage(), "not understood\n  next forty\n       ^^^^^", "a word before the zone");
+        same(undue(Reason.NO_ZONE, "now", new byte[0], LAST).getMessage(), "not a zone file that is accepted", "no file");
         refusal(Reason.NO_SENSE, () -> Fuzzydate.runInZone(new byte[400], zone, BEFORE_GAP), "no ready phrase in a zone");
         refusal(Reason.NO_ZONE, () -> Fuzzydate.runInZone(new byte[400], new byte[400], LAST), "no zone, before no ready phrase");
     }
@@ -446,7 +474,7 @@ final class Every {
         int kept = 0;
         for (int bit = 0; bit < 8 * zone.length; bit++) {
             byte[] damaged = flipped(zone, bit);
-            kept += refusedWithin(Reason.NO_NOW, Reason.NO_INSTANT, () -> due(Reading.SECOND, "tomorrow", damaged, BEFORE_GAP)) ? 0 : 1;
+            kept += refusedWithin(Reason.INVALID_MOMENT, Reason.NO_INSTANT, () -> due(Reading.SECOND, "tomorrow", damaged, BEFORE_GAP)) ? 0 : 1;
         }
         expect(kept > 0, "other zones");
         Local now = due(Reading.FIRST, "now", zone, BEFORE_GAP);
@@ -491,17 +519,17 @@ final class Every {
 
     private void refusedBoards() throws Refusal {
         Board board = new Board(LEAP_DAY);
-        left(board, Reason.NO_MOMENT, board::head, "the head of an empty board");
+        left(board, Reason.NOTHING_DUE, board::head, "the head of an empty board");
         same(board.add(Reading.FIRST, "a year from now"), 0, "a phrase that refuses at the board's now");
-        same(left(board, Reason.NO_MOMENT, board::head, "the head of no moment").getMessage(), "nothing has a moment", "a message");
+        same(left(board, Reason.NOTHING_DUE, board::head, "the head of no moment").getMessage(), "no reminder has a moment", "a message");
         board.again(NOW);
         heads(board, 0, NOW.withYear(2027), "a moment at another now");
         for (int slot : new int[] {1, 255, 256, Integer.MAX_VALUE, -1, Integer.MIN_VALUE}) {
             left(board, Reason.EMPTY_SLOT, () -> removed(board, slot), "slot " + slot);
         }
         for (int year : new int[] {0, 10000}) {
-            refusal(Reason.NO_NOW, () -> new Board(NOW.withYear(year)), "a board in the year " + year);
-            left(board, Reason.NO_NOW, () -> ranAgain(board, NOW.withYear(year)), "running again in the year " + year);
+            refusal(Reason.INVALID_MOMENT, () -> new Board(NOW.withYear(year)), "a board in the year " + year);
+            left(board, Reason.INVALID_MOMENT, () -> ranAgain(board, NOW.withYear(year)), "running again in the year " + year);
         }
         same(left(board, Reason.UNKNOWN, () -> board.add(Reading.FIRST, "next forty"), "forty").place(), 5, "the place of a refused phrase");
         for (int slot = 1; slot < Calls.BOARD_SLOTS; slot++) {
@@ -532,14 +560,14 @@ final class Every {
         random.nextBytes(bytes);
         board.memory.duplicate().put(bytes);
         int slot = random.nextInt(258);
-        refusedWithin(Reason.NO_MOMENT, Reason.NO_MOMENT, board::head);
+        refusedWithin(Reason.NOTHING_DUE, Reason.NOTHING_DUE, board::head);
         refusedWithin(Reason.EMPTY_SLOT, Reason.EMPTY_SLOT, () -> removed(board, slot));
         refusedWithin(Reason.FULL_BOARD, Reason.FULL_BOARD, () -> board.add(Reading.FIRST, "noon"));
         for (int ordered : board.order()) {
             expect(ordered >= 0 && ordered < Calls.BOARD_SLOTS, "an order of any memory");
         }
         board.again(NOW);
-        refusedWithin(Reason.NO_MOMENT, Reason.NO_MOMENT, board::head);
+        refusedWithin(Reason.NOTHING_DUE, Reason.NOTHING_DUE, board::head);
     }
 
     /** One board that all threads add to and remove from. */
@@ -594,7 +622,7 @@ final class Every {
             refusal(Reason.NO_READING, () -> Refusal.check(Calls.readInZone(reading, today, zone, 0, 0, due, numbers), today), "in a zone " + reading);
         }
         for (int millisecond : new int[] {1000, -1}) {
-            refusal(Reason.NO_NOW, () -> Refusal.check(Calls.readInZone(1, today, zone, 0, millisecond, due, numbers), today), "no millisecond");
+            refusal(Reason.INVALID_MOMENT, () -> Refusal.check(Calls.readInZone(1, today, zone, 0, millisecond, due, numbers), today), "no millisecond");
         }
         for (int room : new int[] {0, 19}) {
             byte[] text = new byte[room];
@@ -622,9 +650,9 @@ final class Every {
         throwsA(none, () -> Calls.findWord(1, today, null), "nothing to find to");
         throwsA(none, () -> Calls.writePhrase(null, bytes), "no moment to show");
         throwsA(none, () -> Calls.writePhrase(now, null), "no room for a phrase");
-        throwsA(none, () -> Calls.list(null, now, numbers), "no rule");
-        throwsA(none, () -> Calls.list(today, null, numbers), "no start");
-        throwsA(none, () -> Calls.list(today, now, null), "nothing to list to");
+        throwsA(none, () -> Calls.listIn(null, now, numbers), "no rule");
+        throwsA(none, () -> Calls.listIn(today, null, numbers), "no start");
+        throwsA(none, () -> Calls.listIn(today, now, null), "nothing to list to");
         throwsA(none, () -> Calls.next(null, now, now, numbers), "no rule to be asked");
         throwsA(none, () -> Calls.next(today, null, now, numbers), "no start to be asked from");
         throwsA(none, () -> Calls.next(today, now, null, numbers), "no asked moment");
@@ -665,7 +693,7 @@ final class Every {
         throwsA(few, () -> Calls.writeStamp(new int[8], bytes), "eight numbers of a stamp");
         throwsA(few, () -> Calls.findWord(1, today, new int[1]), "one number to find to");
         throwsA(few, () -> Calls.writePhrase(new int[6], bytes), "six numbers of a moment");
-        throwsA(few, () -> Calls.list(today, new int[6], numbers), "six numbers of a start");
+        throwsA(few, () -> Calls.listIn(today, new int[6], numbers), "six numbers of a start");
         throwsA(few, () -> Calls.next(today, new int[6], now, numbers), "six numbers of a start to be asked from");
         throwsA(few, () -> Calls.next(today, now, new int[6], numbers), "six numbers of an asked moment");
         throwsA(few, () -> Calls.next(today, now, now, new int[6]), "six numbers for what comes next");
@@ -752,7 +780,7 @@ final class Every {
             random.nextBytes(bytes);
             refusal(Reason.NO_SENSE, () -> Fuzzydate.run(bytes, NOW), "random bytes as a ready phrase");
             refusal(Reason.NO_STAMP, () -> Fuzzydate.readStamp(bytes), "random bytes as a stamp");
-            unlisted(bytes, TUESDAY, Reason.NO_RULE, "no repeating rule that is taken");
+            unlisted(bytes, TUESDAY, Reason.NO_RULE, "not a repeating rule that is accepted");
             undue(Reason.NO_ZONE, "now", bytes, BEFORE_GAP);
             refusal(Reason.NO_SENSE, () -> Fuzzydate.runInZone(bytes, zone, BEFORE_GAP), "random bytes as a ready phrase in a zone");
             for (Reading reading : Reading.values()) {
@@ -793,8 +821,10 @@ final class Every {
     }
 
     private Every all(long seed) throws Refusal {
+        versions();
         moments();
         refusals();
+        newer();
         above127();
         stamps();
         offsets();
@@ -819,14 +849,15 @@ final class Every {
 
     public static void main(String[] arguments) throws Exception {
         byte[] zone = Files.readAllBytes(Paths.get(arguments[0]));
-        Every first = new Every(zone).all(0);
+        String version = new String(Files.readAllBytes(Paths.get(arguments[1])), StandardCharsets.US_ASCII).trim();
+        Every first = new Every(zone, version).all(0);
         first.longest();
         List<Callable<Void>> threads = new ArrayList<>();
         for (int i = 0; i < THREADS; i++) {
             int begin = 1 + i * ROUNDS;
             threads.add(() -> {
                 for (int seed = begin; seed < begin + ROUNDS; seed++) {
-                    new Every(zone).all(seed);
+                    new Every(zone, version).all(seed);
                 }
                 return null;
             });

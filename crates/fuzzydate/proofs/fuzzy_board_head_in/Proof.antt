@@ -8,6 +8,9 @@ head-requires c κs = search needs
 enum-known-slot : tie.Need-enum-known-slot
 enum-known-slot c = search needs
 
+put-moment-requires : tie.Need-put-moment-requires
+put-moment-requires c κs = search needs
+
 cast-result : tie.Need-cast-result
 cast-result c = search needs
 
@@ -22,9 +25,9 @@ cast-result-2 c = search needs
 
 returns : tie.Need-returns
 returns c =
-    let head = c .before .before .before .before .head in
-    let is = c .before .before .slot .given .1 in
-    ((λ ready lengths. rw (← (head .ensures ready lengths), is)), λ ready lengths. rw (← (head .ensures ready lengths), is))
+    let head = c .before .before .before .before .before .head in
+    let is = c .before .before .before .slot .given .1 in
+    ((λ ready lengths. rw (← (head .ensures ready lengths), is)), λ ready lengths. rw (← (head .ensures ready lengths), is) (c .put-moment .ensures))
 
 returns-2 : tie.Need-returns-2
 returns-2 c =
@@ -38,6 +41,7 @@ fuzzy-board-head-in-spec =
     (tie.spec
     head-requires
     enum-known-slot
+    put-moment-requires
     cast-result
     mul-result
     enum-told

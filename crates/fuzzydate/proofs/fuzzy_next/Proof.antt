@@ -1,9 +1,14 @@
 use denote.Ref.{now}
 use borrow.Author.Needs.{needs}
-use Rattle.calendar.specs.Moments.{momentOf}
 use Rattle.fuzzydate.proofs.NextNumbers.{told-whole}
 use Rattle.fuzzydate.proofs.fuzzy_next.Statement.{statement}
 use Rattle.fuzzydate.proofs.fuzzy_next.Tie as tie
+
+moment-in-requires : tie.Need-moment-in-requires
+moment-in-requires c κs = search needs
+
+moment-in-requires-2 : tie.Need-moment-in-requires-2
+moment-in-requires-2 c κs = search needs
 
 next-of-requires : tie.Need-next-of-requires
 next-of-requires c κs = search needs
@@ -13,13 +18,13 @@ reached-requires c κs = search needs
 
 returns : tie.Need-returns
 returns c =
-    let a = c .before .before .before .before .args in
-    let start = momentOf (a .year) (a .month) (a .day) (a .hour) (a .minute) (a .second) (a .millisecond) in
-    let asked =
-    momentOf (a .asked-year) (a .asked-month) (a .asked-day) (a .asked-hour) (a .asked-minute) (a .asked-second) (a .asked-millisecond) in
-    let whole = told-whole (now (a .rule)) start asked in
-    let next-of = c .before .before .next-of in
-    (rw (← whole, ← (next-of .ensures)) (c .reached .ensures .0), rw (← whole, ← (next-of .ensures)) (c .reached .ensures .1))
+    let start = c .before .before .before .before .moment-in in
+    let asked = c .before .before .before .moment-in2 in
+    let whole = told-whole (now (c .before .before .before .before .before .before .args .rule)) (start .result) (asked .result) in
+    let next-of = c .before .before .next-of .ensures in (
+      rw (← (start .ensures), ← (asked .ensures), ← whole, ← next-of) (c .reached .ensures .0),
+      rw (← (start .ensures), ← (asked .ensures), ← whole, ← next-of) (c .reached .ensures .1),
+    )
 
 pub fuzzy-next-spec : {M : Type 1} → statement M
-fuzzy-next-spec = tie.close (tie.spec next-of-requires reached-requires returns)
+fuzzy-next-spec = tie.close (tie.spec moment-in-requires moment-in-requires-2 next-of-requires reached-requires returns)

@@ -17,6 +17,9 @@ read-stamp-requires c κs = search needs
 enum-known-s : tie.Need-enum-known-s
 enum-known-s c = search needs
 
+put-nine-requires : tie.Need-put-nine-requires
+put-nine-requires c κs = search needs
+
 enum-known-number : tie.Need-enum-known-number
 enum-known-number c = search needs
 
@@ -27,10 +30,10 @@ returns : tie.Need-returns
 returns c =
     let read = c .before .before .before .before .before .before in
     let same = stands read (c .before .before .before .before .s .given .1) in
-    (rw same, rw same (search needs))
+    (rw same, rw same (c .put-nine .ensures))
 
 returns-2 : tie.Need-returns-2
 returns-2 c = let same = stands (c .before .before .before) (c .before .number .given .1) in (rw same (omega arith), rw same (search needs))
 
 pub fuzzy-read-stamp-spec : {M : Type 1} → statement M
-fuzzy-read-stamp-spec = tie.close (tie.spec read-stamp-requires enum-known-s enum-known-number cast-result returns returns-2)
+fuzzy-read-stamp-spec = tie.close (tie.spec read-stamp-requires enum-known-s put-nine-requires enum-known-number cast-result returns returns-2)

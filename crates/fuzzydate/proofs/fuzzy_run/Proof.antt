@@ -2,6 +2,9 @@ use borrow.Author.Needs.{needs}
 use Rattle.fuzzydate.proofs.fuzzy_run.Statement.{statement}
 use Rattle.fuzzydate.proofs.fuzzy_run.Tie as tie
 
+moment-in-requires : tie.Need-moment-in-requires
+moment-in-requires c κs = search needs
+
 run-ready-requires : tie.Need-run-ready-requires
 run-ready-requires c κs = search needs
 
@@ -10,8 +13,9 @@ reached-requires c κs = search needs
 
 returns : tie.Need-returns
 returns c =
-    let run-ready = c .before .before .run-ready in
-    (rw (← (run-ready .ensures .0)) (c .reached .ensures .0), rw (← (run-ready .ensures .0)) (c .reached .ensures .1))
+    let at = c .before .before .before .moment-in .ensures in
+    let run = c .before .before .run-ready .ensures .0 in
+    (rw (← at, ← run) (c .reached .ensures .0), rw (← at, ← run) (c .reached .ensures .1))
 
 pub fuzzy-run-spec : {M : Type 1} → statement M
-fuzzy-run-spec = tie.close (tie.spec run-ready-requires reached-requires returns)
+fuzzy-run-spec = tie.close (tie.spec moment-in-requires run-ready-requires reached-requires returns)

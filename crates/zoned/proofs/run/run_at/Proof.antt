@@ -2,7 +2,7 @@ use native.Mathlib.Omega.{arith}
 use mathlib.Core.Path.{_≡_, sym, _∙_}
 use mathlib.Core.Bool.{cond}
 use borrow.Author.Tests.{lt-ltb, le-ltb}
-use Rattle.refusals.specs.Table.{NoNow}
+use Rattle.refusals.specs.Table.{InvalidMoment}
 use Rattle.calendar.specs.Moments.{Reach, refused}
 use Rattle.steps.specs.Running.{runIn}
 use Rattle.tzif.specs.File.{zoneIn}
@@ -19,7 +19,7 @@ use Rattle.zoned.proofs.run.run_at.Tie as tie
 entered :
     (c : tie.After-in-years) → let a = c .before .before .before .before .before .before .before .before .before .args in
     (go : Instant → Reach Instant) →
-    enterAt (zoneIn (a .file .now) (a .p)) (a .n) go ≡ cond (c .in-years .result) (go (a .n)) (refused NoNow)
+    enterAt (zoneIn (a .file .now) (a .p)) (a .n) go ≡ cond (c .in-years .result) (go (a .n)) (refused InvalidMoment)
 entered c go =
     let entry = c .before .before .before .before .before .before .before .before .before in
     let a = entry .args in
