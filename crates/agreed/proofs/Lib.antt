@@ -6,3 +6,4 @@ pub mod Later
 pub mod NextListed
 pub mod BoardKept
 pub mod BoardCalls
+pub mod BoardFollowed
