@@ -1,8 +1,11 @@
 pub mod AnyNow
 pub mod Agreed
 pub mod InZones
+pub mod Written
 pub mod ShownAgain
+pub mod StampAgain
 pub mod Later
 pub mod NextListed
 pub mod BoardKept
 pub mod BoardCalls
+pub mod BoardFollowed

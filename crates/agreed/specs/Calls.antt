@@ -8,15 +8,18 @@ use Rattle.calendar.specs.Moments.{IsMoment, seven, instantOf, NotAfter, moment
 use Rattle.calendar.specs.declared.moments.Moment.{Moment}
 use Rattle.refusals.specs.Answers.{Answer, given}
 use Rattle.records.specs.Records.{readySize}
+use Rattle.stamp.specs.declared.Stamp.{Stamp}
 use Rattle.zones.specs.declared.instants.Instant.{Instant}
 use Rattle.zoned.specs.Local.{IsLocal}
 use Rattle.zoned.specs.declared.local.Local.{Local}
-use Rattle.fuzzydate.specs.Called.{momentAfter, instantFrom, dueAfter, localAfter}
+use Rattle.fuzzydate.specs.Called.{stampIn, momentAfter, instantFrom, dueAfter, localAfter}
 use Rattle.fuzzydate.proofs.fuzzy_read.Reads as read'
 use Rattle.fuzzydate.proofs.fuzzy_run.Reads as run'
 use Rattle.fuzzydate.proofs.fuzzy_read_in_zone.Reads as zone-read'
 use Rattle.fuzzydate.proofs.fuzzy_run_in_zone.Reads as zone-run'
 use Rattle.fuzzydate.proofs.fuzzy_make_ready.Reads as make'
+use Rattle.fuzzydate.proofs.fuzzy_read_stamp.Reads as stamp-read'
+use Rattle.fuzzydate.proofs.fuzzy_write_stamp.Reads as stamp-write'
 use Rattle.fuzzydate.proofs.fuzzy_find_word.Reads as find'
 use Rattle.fuzzydate.proofs.fuzzy_write_phrase.Reads as show'
 use Rattle.fuzzydate.proofs.fuzzy_list_in.Reads as list'
@@ -45,6 +48,16 @@ pub data IsReading : ℕ → Type 0 where
 pub record MakeReady (reading : ℕ) (phrase array : List ℕ) (k : ℕ) (array′ : List ℕ) : Type 0 where
   pub bytes : length array ≡ readySize
   pub call : Called make'.Post (ℕ × List ℕ) (List ℕ) (λ κs a g. (a .0, a .1 .0 .now)) (λ κs a l. a .1 .1 .0 .now) (λ κs e l. e .1 .1 .0 .now) (reading, phrase) array k array′
+
+-- `fuzzy_read_stamp`, of a text
+abbrev pub ReadStamp : List ℕ → List ℕ → ℕ → List ℕ → Type 0
+ReadStamp text array k array′ =
+    Called stamp-read'.Post (List ℕ) (List ℕ) (λ κs a g. a .0 .now) (λ κs a l. a .1 .0 .now) (λ κs e l. e .1 .0 .now) text array k array′
+
+-- `fuzzy_write_stamp`, of a stamp
+abbrev pub WriteStamp : Stamp → List ℕ → ℕ → List ℕ → Type 0
+WriteStamp st text k text′ =
+    Called stamp-write'.Post Stamp (List ℕ) (λ κs a g. stampIn (a .0 .now)) (λ κs a l. a .1 .0 .now) (λ κs e l. e .1 .0 .now) st text k text′
 
 -- `fuzzy_write_phrase`, of a moment
 abbrev pub WritePhrase : Moment → List ℕ → ℕ → List ℕ → Type 0
