@@ -4,6 +4,7 @@ pub mod InZones
 pub mod Written
 pub mod ShownAgain
 pub mod StampAgain
+pub mod Answering
 pub mod Later
 pub mod NextListed
 pub mod BoardKept

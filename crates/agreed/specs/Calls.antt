@@ -4,10 +4,12 @@ use mathlib.Core.Path.{_≡_}
 use mathlib.Core.List.{List, [], _∷_}
 use mathlib.Core.Logic.{_⊎_}
 use lib.ListN.{length, take, drop}
+use lib.Seq.{sets}
 use Rattle.calendar.specs.Moments.{IsMoment, seven, instantOf, NotAfter, momentNumbers, momentIn}
 use Rattle.calendar.specs.declared.moments.Moment.{Moment}
 use Rattle.refusals.specs.Answers.{Answer, given}
 use Rattle.records.specs.Records.{readySize}
+use Rattle.stamp.specs.Stamps.{IsOffset}
 use Rattle.stamp.specs.declared.Stamp.{Stamp}
 use Rattle.zones.specs.declared.instants.Instant.{Instant}
 use Rattle.zoned.specs.Local.{IsLocal}
@@ -198,3 +200,19 @@ Earlier rows asked i = (j : ℕ) → j < i → instantOf (rowAt rows j) < instan
 pub data FirstRow (rows : List ℕ) (count : ℕ) (asked : Moment) (array : List ℕ) : ℕ → List ℕ → Type 0 where
   row : (i : ℕ) → i < count → NotAfter asked (rowAt rows i) → Earlier rows asked i → FirstRow rows count asked array 0 (seven (rowAt rows i))
   none : Earlier rows asked count → FirstRow rows count asked array 20 array
+
+-- one of some numbers
+abbrev pub OneOf : List ℕ → ℕ → Type 0
+OneOf [] n = ⊥
+OneOf (x ∷ xs) n = (n ≡ x) ⊎ OneOf xs n
+
+-- a stamp that exists
+pub record IsStamp (st : Stamp) : Type 0 where
+  pub moment : IsMoment (st .moment)
+  pub offset : IsOffset (st .offset)
+
+-- what a call that writes a text may answer and leave: the length of a text with a property, and the text in front of what was there; or one
+-- of some refusals, and nothing written
+pub data Wrote (P : List ℕ → Type 0) (numbers text : List ℕ) : ℕ → List ℕ → Type 0 where
+  wrote : {bytes : List ℕ} → P bytes → Wrote P numbers text (4294967296 * length bytes) (sets text 0 bytes)
+  unwritten : {k : ℕ} → OneOf numbers k → Wrote P numbers text k text
