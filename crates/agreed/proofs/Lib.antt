@@ -7,6 +7,7 @@ pub mod StampAgain
 pub mod Answering
 pub mod Later
 pub mod NextListed
+pub mod ListedRows
 pub mod BoardKept
 pub mod BoardCalls
 pub mod BoardFollowed
