@@ -18,7 +18,7 @@ use Rattle.agreed.proofs.AnyNow.{tells}
 use Rattle.agreed.proofs.Agreed.{read-says}
 use Rattle.agreed.proofs.Written.{Writes, written-so}
 
-write-says :
+pub write-says :
     (t : Moment) {text text′ : List ℕ} {k : ℕ} → WritePhrase t text k text′ → Writes (shownOf t (length text)) text k text′
 write-says t =
     tells writtenCode (λ x l. bufferOf l x) (λ g l. shownOf g (length l)) (λ κs a e k g l h p. record { number-is = p .0; array′-is = p .1 })

@@ -18,12 +18,12 @@ use Rattle.agreed.specs.Calls.{ReadStamp, WriteStamp, number, size}
 use Rattle.agreed.proofs.AnyNow.{tells, Says}
 use Rattle.agreed.proofs.Written.{Writes, in-front, written-so}
 
-write-says :
+pub write-says :
     (st : Stamp) {text text′ : List ℕ} {k : ℕ} → WriteStamp st text k text′ → Writes (writtenOf st (length text)) text k text′
 write-says st =
     tells writtenCode (λ x l. bufferOf l x) (λ g l. writtenOf g (length l)) (λ κs a e k g l h p. record { number-is = p .0; array′-is = p .1 })
 
-read-says : {text array array′ : List ℕ} {k : ℕ} → ReadStamp text array k array′ → Says stampAfter (stampOf text) array k array′
+pub read-says : {text array array′ : List ℕ} {k : ℕ} → ReadStamp text array k array′ → Says stampAfter (stampOf text) array k array′
 read-says = tells codeOf stampAfter (λ g l. stampOf g) (λ κs a e k g l h p. record { number-is = p .0; array′-is = p .1 })
 
 -- "what is written reads back": whatever writing a stamp may answer with number 0, reading as many bytes as it said gives 0 and the same nine
