@@ -32,7 +32,7 @@ ghost use Rattle.board.specs.Rows.{slotOf};
 ghost use Rattle.board.specs.Boards.{memory, atEntry, atExit, memoryAfter, atInstant, dueAt, makeOf, addOf, removeOf, againOf, headOf, orderOf, headFrom, addedOf};
 
 // A board made empty at a now: 0, or 8 and nothing written.
-pub fn make(lengths: &mut [u32; BOARD_SLOTS], state: &mut [u32; 8], at: Moment) -> u8
+pub fn make(lengths: &mut [u32; BOARD_SLOTS], state: &mut [u32; 8], at: Moment) -> u32
     ensures { λ r. ⌜ ((ready keys : List ℕ) → r ≡ refusalOf (makeOf (memory ready (now (lengths .entry)) keys (now (state .entry))) at) .number) ⌝ }
     ensures { λ _.
         ⌜ ((ready keys : List ℕ) → let m = memory ready (now (lengths .entry)) keys (now (state .entry)) in
@@ -91,7 +91,7 @@ pub fn remove(
     keys: &mut [u64; BOARD_SLOTS],
     state: &mut [u32; 8],
     slot: u32,
-) -> u8
+) -> u32
     ensures { λ r. ⌜ ((ready : List ℕ) → r ≡ refusalOf (removeOf (memory ready (now (lengths .entry)) (now (keys .entry)) (now (state .entry))) slot) .number) ⌝ }
     ensures { λ _.
         ⌜ ((ready : List ℕ) → let m = memory ready (now (lengths .entry)) (now (keys .entry)) (now (state .entry)) in
@@ -117,7 +117,7 @@ pub fn again(
     keys: &mut [u64; BOARD_SLOTS],
     state: &mut [u32; 8],
     at: Moment,
-) -> u8
+) -> u32
     ensures { λ r. ⌜ r ≡ refusalOf (againOf (atEntry ready lengths keys state) at) .number ⌝ }
     ensures { λ _.
         ⌜ (let m = atEntry ready lengths keys state in

@@ -4,6 +4,8 @@ use mathlib.Core.Bool.{true, and-eq-true-iff}
 use Prim.Native.Nat.{ℕ, _≤_}
 use lib.Dec.{leb, ltb}
 use borrow.Author.Tests.{leb-true, ltb-true, le-leb, lt-ltb}
+use native.Mathlib.Omega.{arith}
+use Rattle.calendar.proofs.Months.{month}
 use Rattle.calendar.specs.Gregorian.{leapYear, monthLength, IsDate}
 use Rattle.calendar.specs.Moments.{IsTime, IsMoment, inRange, isDayOfMonth, isDate, isTime, isMoment, firstMoment}
 use Rattle.calendar.specs.declared.moments.Moment.{Moment}
@@ -11,6 +13,14 @@ use Rattle.calendar.specs.declared.moments.Moment.{Moment}
 -- what passes the test of a range is in it
 pub test-range : (n low high : ℕ) → inRange n low high ≡ true → (low ≤ n) × (n ≤ high)
 test-range n low high e = let b = and-eq-true-iff (leb low n) (leb n high) .0 e in (leb-true _ _ (b .0), leb-true _ _ (b .1))
+
+-- every month has the days up to its 28th
+pub early-day : (y m d : ℕ) → inRange m 1 12 ≡ true → inRange d 1 28 ≡ true → isDayOfMonth y m d ≡ true
+early-day y m d e f =
+    let in-year = test-range m 1 12 e in
+    let in-all = test-range d 1 28 f in
+    let least = month (leapYear y) m (in-year .0) (in-year .1) .least in
+    rw (e, le-leb 1 d (in-all .0), le-leb d (monthLength (leapYear y) m) (omega (arith, least, in-all .1)))
 
 -- what passes as a date is one
 pub test-date : (y m d : ℕ) → isDate y m d ≡ true → IsDate y m d

@@ -35,7 +35,7 @@ pub struct Moment {
 // Where a step or a whole reading leads: to a moment, or to a refusal's number.
 pub enum Reached {
     At(Moment),
-    Refused(u8),
+    Refused(u32),
 }
 
 // The weekday of day n, 0 for Monday to 6 for Sunday.
@@ -60,6 +60,9 @@ pub fn valid_day(y: u32, m: u32, d: u32) -> bool
     ensures { λ r. ⌜ r ≡ isDayOfMonth y m d ⌝ }
 {
     if in_range(m, 1, 12) {
+        if in_range(d, 1, 28) {
+            return true;
+        }
         return in_range(d, 1, month_length(leap_year(y), m));
     }
     false

@@ -155,7 +155,7 @@ pub fn token_at(reading: Reading, s: &[u8], at: usize) -> Token
 }
 
 // How a refused phrase ends.
-pub fn refuse(number: u8, place: usize, end: usize) -> Ended
+pub fn refuse(number: u32, place: usize, end: usize) -> Ended
     ensures { λ r. ⌜ r ≡ endedOf (refuse number place end) ⌝ }
 {
     Ended {

@@ -3,3 +3,4 @@ pub mod Steps
 pub mod Fitting
 pub mod Lists
 pub mod Runs
+pub mod ByKind

@@ -1,7 +1,6 @@
 // The records of a list of steps.
 use super::endian::put;
 use super::words::Words;
-use super::words::step_from;
 use super::words::words_of;
 use steps::plan::Plan;
 ghost use mathlib.Core.Path.{_≡_};
@@ -9,7 +8,8 @@ ghost use Prim.Native.Nat.{_+_, _*_, _≤_, _<_};
 ghost use lib.ListN.{length, getD};
 ghost use lib.Seq.{sets};
 ghost use Rattle.steps.specs.Plans.{stepsIn};
-ghost use Rattle.records.specs.Records.{bytesOfWords, encodeOf, wordAt, wordsAt, sameWords, isRecord};
+ghost use Rattle.records.specs.Records.{bytesOfWords, encodeOf, wordAt, wordsAt, isRecord};
+ghost use Rattle.records.specs.Kinds.{formsOf, hasFirst, hasSecond, hasThird, mayHave};
 
 // The bytes of one record.
 pub(crate) const SIZE: usize = 16;
@@ -77,28 +77,80 @@ pub(crate) fn words_at(b: &[u8], at: usize) -> Words
     }
 }
 
-// Have two records the same numbers?
-fn same_words(v: Words, w: Words) -> bool
-    ensures { λ r. ⌜ r ≡ sameWords v w ⌝ }
+// How many forms a kind has.
+fn forms(kind: u32) -> u32
+    ensures { λ r. ⌜ r ≡ formsOf kind ⌝ }
 {
-    if v.kind != w.kind {
-        return false;
+    match kind {
+        1 => 1,
+        2 => 1,
+        3 => 10,
+        4 => 3,
+        5 => 1,
+        6 => 2,
+        7 => 2,
+        8 => 2,
+        9 => 1,
+        10 => 4,
+        11 => 1,
+        _ => 0,
     }
-    if v.form != w.form {
-        return false;
+}
+
+// Has a record of a kind and form a first number?
+fn has_first(kind: u32, form: u32) -> bool
+    ensures { λ r. ⌜ r ≡ hasFirst kind form ⌝ }
+{
+    match kind {
+        1 => false,
+        2 => false,
+        3 => form < 6,
+        10 => form != 0,
+        _ => true,
     }
-    if v.a != w.a {
-        return false;
+}
+
+// Has it a second?
+fn has_second(kind: u32, form: u32) -> bool
+    ensures { λ r. ⌜ r ≡ hasSecond kind form ⌝ }
+{
+    match kind {
+        3 => form < 6,
+        6 => true,
+        10 => form != 0,
+        _ => false,
     }
-    if v.b != w.b {
-        return false;
+}
+
+// Has it a third?
+fn has_third(kind: u32, form: u32) -> bool
+    ensures { λ r. ⌜ r ≡ hasThird kind form ⌝ }
+{
+    if kind == 3 { form < 4 } else { false }
+}
+
+// May a record of a kind and form have these numbers? The last that is not 0 says.
+fn may_have(kind: u32, form: u32, a: u32, b: u32, c: u32) -> bool
+    ensures { λ r. ⌜ r ≡ mayHave kind form a b c ⌝ }
+{
+    if c != 0 {
+        return has_third(kind, form);
     }
-    v.c == w.c
+    if b != 0 {
+        return has_second(kind, form);
+    }
+    if a != 0 {
+        return has_first(kind, form);
+    }
+    true
 }
 
 // Does a step encode to these numbers?
 pub(crate) fn is_record(w: Words) -> bool
     ensures { λ r. ⌜ r ≡ isRecord w ⌝ }
 {
-    same_words(words_of(step_from(w)), w)
+    if w.form < forms(w.kind) {
+        return may_have(w.kind, w.form, w.a, w.b, w.c);
+    }
+    false
 }

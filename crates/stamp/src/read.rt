@@ -21,7 +21,7 @@ ghost use Rattle.stamp.specs.Stamps.{momentExists, inYears, judged, stam
 // A stamp, or a refusal's number.
 pub enum StampRead {
     Is(Stamp),
-    Refused(u8),
+    Refused(u32),
 }
 
 // True for a text of one of three forms.

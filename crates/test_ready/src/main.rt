@@ -20,7 +20,7 @@ use test_print::out::text;
 const NOW: usize = 19;
 
 // A refusal with its place and the end of its part.
-fn write_refusal(n: u8, place: usize, end: usize) {
+fn write_refusal(n: u32, place: usize, end: usize) {
     number(b"refused ", n as u64);
     number(b" at ", place as u64);
     number(b" to ", end as u64);

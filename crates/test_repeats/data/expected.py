@@ -2,7 +2,7 @@
 """What listing a rule's occurrences answers, worked out apart from the code: writes this program's stdin and the stdout that it must give.
 
 The occurrences are those of Debian's python3-dateutil (rrule, weeks from Monday). Refusals 8, 18 and 19 are judged here, from document 02.
-Use: /usr/bin/python3 expected.py   (it writes ../stdin and ../stdout, and prints what is in them)
+Use: python3 expected.py   (it writes ../stdin and ../stdout, and prints what is in them)
 """
 import pathlib
 import random
@@ -17,7 +17,7 @@ from dateutil.rrule import DAILY, MO, MONTHLY, WEEKLY, rrule
 FREQS = {"DAILY": DAILY, "WEEKLY": WEEKLY, "MONTHLY": MONTHLY}
 DAYS = ["MO", "TU", "WE", "TH", "FR", "SA", "SU"]
 PIECE, ROOM = 65536, 7168
-NOTHING_DUE, NO_RULE, NO_START = 8, 18, 19
+INVALID_MOMENT, NO_RULE, NO_START = 8, 18, 19
 draw = random.Random(5545)
 
 
@@ -89,7 +89,7 @@ def starting(numbers):
     try:
         return datetime(*parts, 1000 * millisecond)
     except ValueError:
-        raise Refused(NOTHING_DUE)
+        raise Refused(INVALID_MOMENT)
 
 
 def occurrences(rule, start, most):

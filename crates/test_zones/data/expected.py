@@ -1,11 +1,13 @@
 #!/usr/bin/env python3
 """What phrases mean at instants of zones, worked out apart from the code: writes this program's stdin and the stdout that it must give.
 
-Real zones are those of Debian's tzdata, compiled by its zic so that they reach 2100, and some as Debian ships them; their civil times and instants are
-those of Python's zoneinfo, which is given the very bytes. All else is oracle/zones.py's, a model of document 02. The lists were made with tzdata 2025b
-and the zic of glibc 2.36.
-Use: python3 expected.py   (it writes ../stdin and ../stdout, and prints what is in them)
+Real zones are those of Debian's tzdata, compiled by its zic so that they reach 2100, and some as Debian ships them; their civil times and
+instants are those of Python's zoneinfo, which is given the very bytes. All else is oracle/zones.py's, a model of document 02. The zones'
+files are those that ../stdin has, so that the machine's own tzdata does not matter: tzdata 2025b's, by the zic of glibc 2.36.
+Use: python3 expected.py            (it writes ../stdin and ../stdout, and prints what is in them)
+     python3 expected.py --tzdata   (the same with the files of this machine)
 """
+import itertools
 import pathlib
 import struct
 import sys
@@ -24,8 +26,9 @@ ZONES = """America/New_York Europe/Dublin Europe/Amsterdam Africa/Casablanca Afr
 Asia/Kathmandu Asia/Tokyo Asia/Manila Asia/Pyongyang Australia/Lord_Howe Pacific/Apia Pacific/Kwajalein Pacific/Kiritimati America/Sao_Paulo
 America/Caracas America/Juneau America/St_Johns Antarctica/Troll Antarctica/Casey Etc/UTC""".split()
 
-# as Debian ships them: with a last transition that is past, with none, with leap seconds, and files that are no zones
+# as Debian ships them: with a last transition that is past, with none, with leap seconds; and files that are no zones
 SHIPPED = "Asia/Tokyo Africa/Monrovia UTC Etc/GMT+5 right/UTC right/Asia/Tokyo Pacific/Apia".split()
+NO_ZONES = "zone.tab iso3166.tab".split()
 
 PHRASES = """now|today|today 2:00|today 2:30|today 3:00|noon|midnight|1:30|1:59|tomorrow|tomorrow at 2:30|yesterday at 1:30|an hour from now|2 hours ago
 1 day from now|a day ago|24 hours from now|a week from now|a month from now|2 months from now|a month ago|a year from now|12 months ago
@@ -207,16 +210,37 @@ def thrice():
         yield from (b"W%x" % (time - 1) for time in times)
 
 
-def every(chosen):
+def of_this_machine():
+    """The files of ZONES by its zic, and of SHIPPED and NO_ZONES as they are, of the latter as much as is needed."""
+    shipped = pathlib.Path("/usr/share/zoneinfo")
+    with tempfile.TemporaryDirectory() as folder:
+        compiled = pathlib.Path(zones.compiled(folder))
+        known = [(compiled / name).read_bytes() for name in ZONES]
+    return known, [(shipped / name).read_bytes() for name in SHIPPED], [(shipped / name).read_bytes()[:4000] for name in NO_ZONES]
+
+
+def of_the_list(lines):
+    """The same files by the lines that put them: New York comes first and is one of ZONES too, and then they follow in their order."""
+    files = [b""]
+    for line in lines:
+        if line[:1] == b"Z":
+            files.append(b"")
+        if line[:1] in (b"Z", b"A"):
+            files[-1] += bytes.fromhex(line[1:].decode())
+    counts = itertools.accumulate([2, len(ZONES), len(SHIPPED), len(NO_ZONES)])
+    return [files[start:end] for start, end in itertools.pairwise(counts)]
+
+
+def every(known, shipped, no_zones):
     """All lines."""
-    files = {name: (folder / name).read_bytes() for name, folder in chosen}
+    files = dict(zip(ZONES, known, strict=True))
     yield from new_york(files["America/New_York"])
-    for name in ZONES:
-        yield from real(files[name])
-    for name in SHIPPED:
-        yield from made((zones.pathlib.Path("/usr/share/zoneinfo") / name).read_bytes(), year_start(2026), -3_000_000_000, 10**9)
-    for name in ("zone.tab", "iso3166.tab"):
-        yield from made((zones.pathlib.Path("/usr/share/zoneinfo") / name).read_bytes()[:4000])
+    for data in known:
+        yield from real(data)
+    for data in shipped:
+        yield from made(data, year_start(2026), -3_000_000_000, 10**9)
+    for data in no_zones:
+        yield from made(data)
     for part in (limits, counts, first_blocks, sizes):
         yield from part()
     yield from damaged(files["Africa/Monrovia"])
@@ -225,11 +249,9 @@ def every(chosen):
     yield from dice.lines(2000)
 
 
-with tempfile.TemporaryDirectory() as folder:
-    room = pathlib.Path(zones.compiled(folder))
-    known = {(room / name).read_bytes() for name in ZONES}
-    lines = list(every([(name, room) for name in ZONES]))
-answers = zones.answers(lines, known)
+files = of_this_machine() if sys.argv[1:] == ["--tzdata"] else of_the_list((crate / "stdin").read_bytes().split(b"\n"))
+lines = list(every(*files))
+answers = zones.answers(lines, files[0])
 assert answers == zones.answers(lines), "zoneinfo and the model differ"
 (crate / "stdin").write_bytes(zones.in_pieces(lines))
 (crate / "stdout").write_text("".join(answer + "\n" for answer in answers))

@@ -27,7 +27,7 @@ pub struct Local {
 // Where a run ends: what the clocks show there, or a refusal's number.
 pub enum Located {
     At(Local),
-    Refused(u8),
+    Refused(u32),
 }
 
 // The offset of UTC itself, 90,000 added as to every offset.

@@ -27,7 +27,7 @@ pub struct Instant {
 // Where a step leads in a zone: an instant, or a refusal's number.
 pub enum Arrived {
     At(Instant),
-    Refused(u8),
+    Refused(u32),
 }
 
 // As many minutes lead from any instant past every last transition, or ahead of the first instant.

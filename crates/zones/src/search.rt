@@ -15,7 +15,7 @@ ghost use Rattle.zones.specs.Search.{passedBy, firstPiece, resolveAt};
 // The instant of a civil second, or a refusal's number.
 pub enum Resolved {
     At(u64),
-    Refused(u8),
+    Refused(u32),
 }
 
 // No offset is more: 26 hours less a second, with 90,000 added.
