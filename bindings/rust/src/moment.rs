@@ -2,7 +2,7 @@ use alloc::string::String;
 use core::fmt;
 
 use crate::calls::{fuzzy_write_phrase, Answer};
-use crate::Refusal;
+use crate::{Reason, Refusal};
 
 /// The most bytes that a moment's phrase has.
 const PHRASE_SIZE: usize = 26;
@@ -36,6 +36,11 @@ pub struct Moment {
 impl Moment {
     /// To be written by a call.
     pub(crate) const NONE: Moment = Moment { year: 0, month: 0, day: 0, hour: 0, minute: 0, second: 0, millisecond: 0 };
+
+    /// Whether it is a date and time of the years 1 to 9999: every call refuses any other.
+    pub fn is_valid(self) -> bool {
+        !write_phrase(self).is_err_and(|refusal| refusal.reason() == Reason::InvalidMoment)
+    }
 }
 
 impl fmt::Display for Moment {
