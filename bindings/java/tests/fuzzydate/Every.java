@@ -25,7 +25,7 @@ import java.util.concurrent.ExecutorService;
 import java.util.concurrent.Executors;
 import java.util.concurrent.Future;
 
-/** Every call with good, damaged, empty and missing input, each refusal at least once, and all of it in eight threads: Every ZONE VERSION. */
+/** Every call with good, damaged, empty and missing input, each refusal at least once, all of it in eight threads: Every ZONE VERSION. */
 final class Every {
     private static final LocalDateTime NOW = LocalDateTime.of(2026, 2, 11, 9, 30, 15, 250_000_000);
     private static final LocalDateTime LEAP_DAY = LocalDateTime.of(2024, 2, 29, 12, 0);
