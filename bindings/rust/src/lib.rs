@@ -82,6 +82,7 @@
 //! The features `chrono`, `time` and `serde` convert the types here to and from those of the crates of these names. What a type cannot hold
 //! is an error. The crate needs an allocator, and nothing else of the standard library.
 #![no_std]
+#![warn(missing_docs)]
 
 extern crate alloc;
 

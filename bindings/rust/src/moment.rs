@@ -7,8 +7,7 @@ use crate::{Reason, Refusal};
 /// The most bytes that a moment's phrase has.
 const PHRASE_SIZE: usize = 26;
 
-/// A date and time of the years 1 to 9999: month 1 to 12, day 1 to 31, hour 0 to 23, minute and second 0 to 59, millisecond 0 to 999. Other
-/// numbers may stand here too: such a moment is refused by every call.
+/// A date and time of the years 1 to 9999. Other numbers may stand here too: such a moment is refused by every call.
 ///
 /// Milliseconds are shown where they are not 0. Where a phrase states a time, noon and midnight included, second and millisecond are 0;
 /// else they are now's:
@@ -24,12 +23,19 @@ const PHRASE_SIZE: usize = 26;
 #[repr(C)]
 #[derive(Clone, Copy, Debug, PartialEq, Eq, PartialOrd, Ord, Hash)]
 pub struct Moment {
+    /// 1 to 9999.
     pub year: u32,
+    /// 1 to 12.
     pub month: u32,
+    /// 1 to 31, as far as the month goes.
     pub day: u32,
+    /// 0 to 23.
     pub hour: u32,
+    /// 0 to 59.
     pub minute: u32,
+    /// 0 to 59.
     pub second: u32,
+    /// 0 to 999.
     pub millisecond: u32,
 }
 

@@ -74,7 +74,9 @@ impl Offset {
 /// ```
 #[derive(Clone, Copy, Debug, PartialEq, Eq, Hash)]
 pub struct Stamp {
+    /// The moment as it is written.
     pub moment: Moment,
+    /// How far it is from UTC.
     pub offset: Offset,
 }
 
