@@ -1,4 +1,7 @@
-"""The command, the steps in words, and what is said where the library is missing or another: command.py ZONE."""
+"""The command, the steps in words, and what is said where the library is missing or another: command.py ZONE PYTHON..
+
+PYTHON.. is how a Python with the package is started, as by an emulator.
+"""
 
 import _ctypes
 import os
@@ -11,7 +14,7 @@ import tempfile
 import fuzzydate
 from fuzzydate import steps
 
-ZONE = sys.argv[1]
+ZONE, *PYTHON = sys.argv[1:]
 NOW = ["--now", "2026-02-11T09:30:15"]
 IN_ZONE = ["--zone", ZONE]
 BEFORE = ["--now", "2026-03-07T09:00:00"]
@@ -23,7 +26,7 @@ def expect(given, wanted, what):
 
 
 def run(*arguments):
-    done = subprocess.run([sys.executable, "-m", "fuzzydate", *arguments], stdout=subprocess.PIPE, stderr=subprocess.PIPE)
+    done = subprocess.run([*PYTHON, "-m", "fuzzydate", *arguments], stdout=subprocess.PIPE, stderr=subprocess.PIPE)
     return done.returncode, done.stdout.decode(), done.stderr.decode()
 
 
@@ -135,8 +138,8 @@ def other_libraries():
             (lambda: shutil.copy(_ctypes.__file__, library), f"{library} has no version"),
         ]:
             write()
-            environment = {**os.environ, "PYTHONPATH": room}
-            done = subprocess.run([sys.executable, "-c", "import fuzzydate"], stderr=subprocess.PIPE, cwd=room, env=environment)
+            load = f"import sys; sys.path.insert(0, {room!r}); import fuzzydate"
+            done = subprocess.run([*PYTHON, "-c", load], stderr=subprocess.PIPE)
             expect((done.returncode, said in done.stderr.decode()), (1, True), done.stderr)
 
 
