@@ -388,7 +388,7 @@ function boardDriver(file) {
     }
 
     const make = (now) => answered((_, lengths, keys, state) => exports.fuzzy_board_make_in(lengths, state, lendNow(now)));
-    const again = (now) => answered((ready, lengths, keys, state) => exports.fuzzy_board_again_in(ready, lengths, keys, state, lendNow(now)));
+    const again = (now) => answered((...all) => exports.fuzzy_board_again_in(...all, lendNow(now)));
     const takeOut = (slot) => answered((_, lengths, keys, state) => exports.fuzzy_board_remove_in(lengths, keys, state, slot));
 
     function putIn(reading, text) {
@@ -463,7 +463,8 @@ function boardDriver(file) {
         if (kind !== 3) view.setUint32(board + STATE + 4 * randomBelow(8), number, true);
     }
 
-    const TEXTS = ["next friday", "an hour ago", "a year from now", "2 months before 3 weeks after tomorrow at 5:00", "5/2"].map((text) => Buffer.from(text));
+    const TEXTS = ["next friday", "an hour ago", "a year from now", "2 months before 3 weeks after tomorrow at 5:00", "5/2"]
+        .map((text) => Buffer.from(text));
     const allow = (answer, numbers, what) => numbers.includes(numberOf(answer)) || stop(what);
 
     function checkAdd(text) {

@@ -66,9 +66,8 @@ test("phrases and ready phrases", () => {
 
 test("stamps and ISO text", () => {
     assert.deepEqual(fuzzy.readStamp("2026-02-11t09:30:15-05:00"), { moment: now, offset: -300 });
-    for (const text of ["2026-02-11T09:30:15Z", "2026-02-11T09:30:15.250+05:30", "2026-02-11T09:30:15-00:00", "0001-01-01T00:00:00-23:59"]) {
-        assert.equal(fuzzy.writeStamp(fuzzy.readStamp(text)), text);
-    }
+    const texts = ["2026-02-11T09:30:15Z", "2026-02-11T09:30:15.250+05:30", "2026-02-11T09:30:15-00:00", "0001-01-01T00:00:00-23:59"];
+    for (const text of texts) assert.equal(fuzzy.writeStamp(fuzzy.readStamp(text)), text);
     assert.equal(fuzzy.readStamp("2026-02-11T09:30:15-00:00").offset, null);
     assert.equal(fuzzy.writeStamp({ moment: "2026-02-11T09:30:15", offset: -0 }), "2026-02-11T09:30:15Z");
     assert.deepEqual(fuzzy.fromISO("2026-02-11T09:30:15"), now);
@@ -196,7 +195,8 @@ test("a refusal has no stack, and leaves Error as it was", () => {
     }
 });
 
-const NO_NUMBERS = [undefined, null, NaN, 1.5, -1, 2 ** 32, Infinity, -Infinity, "1", 1n, {}, [], true, Symbol("s"), Object.create(null), () => 1];
+const NO_NUMBERS = [undefined, null, NaN, 1.5, -1, 2 ** 32, Infinity, -Infinity, "1", 1n, {}, [], true, Symbol("s"), Object.create(null),
+    () => 1];
 const NO_TEXTS = [undefined, null, NaN, 1, 1n, {}, [], true, Symbol("s"), new ArrayBuffer(3), new Uint16Array(3), ["now"]];
 const NO_MOMENTS = [undefined, null, NaN, 1, 1n, {}, [], true, Symbol("s"), new Date(), new Map(), [2026, 2, 11]];
 
@@ -214,8 +214,9 @@ test("wrong numbers", () => {
             wrong(`now.${part} is not`, () => read(1, "now", { ...now, [part]: value }));
         }
         if (value !== -1 && value !== null) wrong("offset is not", () => fuzzy.writeStamp({ moment: now, offset: value }));
-        if (value !== undefined) wrong("now.millisecond is not", () => fuzzy.readInZone(1, "now", newYork, { second: 0, millisecond: value }));
-        if (![-1, 2 ** 32, 1n].includes(value)) wrong("now.second is not", () => fuzzy.readInZone(1, "now", newYork, { second: value }));
+        const at = (instant) => () => fuzzy.readInZone(1, "now", newYork, instant);
+        if (value !== undefined) wrong("now.millisecond is not", at({ second: 0, millisecond: value }));
+        if (![-1, 2 ** 32, 1n].includes(value)) wrong("now.second is not", at({ second: value }));
     }
     for (const second of [2n ** 63n, -(2n ** 63n) - 1n]) wrong("now.second has", () => fuzzy.readInZone(1, "now", newYork, { second }));
     wrong("offset is not", () => fuzzy.writeStamp({ moment: now, offset: -(2 ** 32) }));
@@ -343,7 +344,8 @@ for (const [reading, list] of [[1, "test_replay"], [2, "test_second"]]) {
 }
 
 test("the list of rules", () => {
-    const expected = linesOf("crates/test_repeats/stdout").map(String), lines = linesOf("crates/test_repeats/stdin").filter((line) => line.length >= 30);
+    const expected = linesOf("crates/test_repeats/stdout").map(String);
+    const lines = linesOf("crates/test_repeats/stdin").filter((line) => line.length >= 30);
     lines.forEach((line, i) => {
         const numbers = line.toString("latin1", 0, 30).trim().split(/[-: ]/).map(Number), parts = Object.keys(now);
         const start = Object.fromEntries(parts.map((part, at) => [part, numbers[at]]));
@@ -356,7 +358,8 @@ test("the list of rules", () => {
 });
 
 test("the calls on boards", () => {
-    const expected = linesOf("crates/test_board/stdout").map(String), lines = linesOf("crates/test_board/stdin").filter((line) => line.length > 0);
+    const expected = linesOf("crates/test_board/stdout").map(String);
+    const lines = linesOf("crates/test_board/stdin").filter((line) => line.length > 0);
     const parts = Object.keys(now), numbersOf = (moment) => parts.map((part) => moment[part]);
     let board = null;
     const calls = {
@@ -368,8 +371,8 @@ test("the calls on boards", () => {
     };
     const momentOf = (text) => Object.fromEntries(text.split(/[-: ]/).map((number, i) => [parts[i], Number(number)]));
     lines.forEach((line, i) => {
-        const text = line.toString("latin1", 2), call = calls[String.fromCharCode(line[0])] ?? (() => [board.add(line[0] - 48, line.subarray(2))]);
-        const answer = said(() => call(text)), sevens = line[0] === 72 ? [7, 7, 7, 7, 7, 7, 7] : [];
+        const text = line.toString("latin1", 2), add = () => [board.add(line[0] - 48, line.subarray(2))];
+        const answer = said(() => (calls[String.fromCharCode(line[0])] ?? add)(text)), sevens = line[0] === 72 ? [7, 7, 7, 7, 7, 7, 7] : [];
         const shown = answer instanceof Refusal ? [answer.number, answer.place, answer.length, ...sevens] : [0, 0, ...(answer ?? [0])];
         assert.equal(shown.join(" "), expected[i], String(line));
     });
