@@ -40,12 +40,12 @@ export type Text = string | Uint8Array;
 export declare const Reading: { readonly FIRST: 1; readonly SECOND: 2 };
 export type Reading = 1 | 2;
 
-/** Why a call is refused, by the names of fuzzy.h; "NEWER" is a refusal that this module does not know yet. */
+/** Why a call is refused, by the names of fuzzy.h. */
 export type Reason =
     | "TOO_LONG" | "UNKNOWN" | "LARGE_DIGITS" | "TOO_MANY" | "NOTHING" | "LARGE_SUM" | "LEFT_OVER" | "INVALID_MOMENT"
     | "NO_SENSE" | "NO_DATE" | "NO_TIME" | "OUTSIDE" | "NO_LEAP_DAY" | "NO_STAMP" | "NO_READING" | "NOT_WHOLE" | "NO_ROOM"
     | "NO_RULE" | "NO_START" | "NO_NEXT" | "NO_ZONE" | "PAST_LAST" | "NO_INSTANT" | "FULL_BOARD" | "EMPTY_SLOT"
-    | "NOTHING_DUE" | "NEWER";
+    | "NOTHING_DUE";
 
 /** The name and the words of each refusal, by its number; 0 is "DONE". */
 export declare const REASONS: readonly { readonly reason: Reason | "DONE"; readonly words: string }[];
@@ -59,7 +59,8 @@ export declare class Refusal extends Error {
     readonly name: "Refusal";
     /** The number of fuzzy.h. */
     readonly number: number;
-    readonly reason: Reason;
+    /** null for a number that only a newer library has. */
+    readonly reason: Reason | null;
     /** To be shown to people. */
     readonly words: string;
     /** Where the refused part of the text begins, in bytes of UTF-8. */

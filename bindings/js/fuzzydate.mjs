@@ -39,7 +39,7 @@ export const REASONS = Object.freeze([
     ["NOTHING_DUE", "no reminder has a moment"],
 ].map(([reason, words]) => Object.freeze({ reason, words })));
 
-const NEWER = Object.freeze({ reason: "NEWER", words: "a refusal of a newer library" });
+const NEWER = Object.freeze({ reason: null, words: "a refusal of a newer library" });
 
 // What every function throws where the library refuses. Place and length count bytes of UTF-8; index and width count
 // the UTF-16 units of a string, of whole characters.
@@ -47,8 +47,7 @@ export class Refusal extends Error {
     constructor(number, place, length, text) {
         const { reason, words } = REASONS[number] ?? NEWER;
         const [index, end] = typeof text === "string" ? unitsOf(text, place, place + length) : [place, place + length];
-        const part = text === undefined ? "" : text.slice(index, end);
-        super(messageOf(words, text, part, index));
+        super(`${reason === null ? `${words}: ${number}` : words}${underlined(text, index, end)}`);
         this.number = number;
         this.reason = reason;
         this.words = words;
@@ -56,19 +55,24 @@ export class Refusal extends Error {
         this.length = length;
         this.index = index;
         this.width = end - index;
-        this.part = part;
+        this.part = partOf(text, index, end);
     }
 }
 Object.defineProperty(Refusal.prototype, "name", { value: "Refusal", configurable: true, writable: true });
 
-// The words of a refusal, and below them the text with the refused part underlined.
-function messageOf(words, text, part, index) {
-    if (part.length === 0) return words;
-    if (typeof text !== "string") return `${words}: ${part.length} bytes at byte ${index}`;
+// A part of a string, or a copy of a part of bytes.
+function partOf(text, begin, end) {
+    if (text === undefined) return "";
+    return typeof text === "string" ? text.slice(begin, end) : Uint8Array.prototype.slice.call(text, begin, end);
+}
+
+// Two more lines of a message: the text, and marks below its refused part. Without a part there are none.
+function underlined(text, begin, end) {
+    if (begin === end || text === undefined) return "";
+    if (typeof text !== "string") return ` at byte ${begin}`;
     const plain = !/[^ -~]/.test(text), columns = (string) => (plain ? string.length : [...string].length);
-    const line = plain ? text : text.replace(/\p{Cc}/gu, "\ufffd");
-    const underline = `${" ".repeat(columns(text.slice(0, index)))}${"^".repeat(columns(part))}`;
-    return `${words}: "${part}"\n    ${line}\n    ${underline}`;
+    const indent = " ".repeat(columns(text.slice(0, begin))), marks = "^".repeat(columns(text.slice(begin, end)));
+    return `\n    ${plain ? text : text.replace(/\p{Cc}/gu, "\ufffd")}\n    ${indent}${marks}`;
 }
 
 // --- arguments
@@ -129,7 +133,12 @@ function unitsOf(text, from, to) {
     return begin < 0 ? [index, index] : [begin, from === to ? begin : index];
 }
 
-// A moment's class must not hide anything: a zone, another calendar, or parts of a millisecond.
+// What Temporal has and the library has not must be nothing.
+function checkMilliseconds({ microsecond = 0, nanosecond = 0 }, name) {
+    if (microsecond !== 0 || nanosecond !== 0) throw new RangeError(`${name} has parts of a millisecond`);
+}
+
+// A moment's class must not hide a zone or another calendar.
 function checkMomentKind(moment, name) {
     const kind = kindOf(moment);
     if (kind === "Temporal.PlainDateTime") {
@@ -146,12 +155,12 @@ function checkMomentKind(moment, name) {
 function numbersOf(moment, name) {
     if (typeof moment !== "object" || moment === null) throw new TypeError(`${name} is not a moment: ${shown(moment)}`);
     if (Object.getPrototypeOf(moment) !== Object.prototype) checkMomentKind(moment, name);
-    const { year, month, day, hour = 0, minute = 0, second = 0, millisecond = 0, microsecond = 0, nanosecond = 0 } = moment;
+    const { year, month, day, hour = 0, minute = 0, second = 0, millisecond = 0 } = moment;
     const numbers = [year, month, day, hour, minute, second, millisecond];
     for (let i = 0; i < numbers.length; i += 1) {
         if (!isU32(numbers[i])) refuseNumber(numbers[i], `${name}.${PARTS[i]}`, 0, 0xffff_ffff);
     }
-    if (microsecond !== 0 || nanosecond !== 0) throw new RangeError(`${name} has parts of a millisecond`);
+    checkMilliseconds(moment, name);
     return numbers;
 }
 
@@ -171,7 +180,7 @@ function instantOfDate(date, name) {
 }
 
 function instantOfTemporal(instant, name) {
-    if (instant.epochNanoseconds % 1_000_000n !== 0n) throw new RangeError(`${name} has parts of a millisecond: ${instant}`);
+    if (instant.epochNanoseconds % 1_000_000n !== 0n) throw new RangeError(`${name} has parts of a millisecond`);
     return fromMilliseconds(instant.epochMilliseconds);
 }
 
@@ -186,6 +195,7 @@ function instantOfStamp([year, month, day, hour, minute, second, millisecond, we
 
 function instantOfNumbers(instant, name) {
     if (instant.year !== undefined) throw new TypeError(`${name} is a moment, and an instant is wanted`);
+    checkMilliseconds(instant, name);
     const { second, millisecond = 0 } = instant;
     if (typeof second !== "bigint") whole(second, `${name}.second`, Number.MIN_SAFE_INTEGER, Number.MAX_SAFE_INTEGER);
     const wide = BigInt(second);
@@ -223,7 +233,7 @@ class Room {
     // The memory's views, which growing takes away.
     renew() {
         this.bytes = new Uint8Array(this.memory.buffer);
-        this.words = new Uint32Array(this.memory.buffer);
+        this.view = new DataView(this.memory.buffer);
     }
 
     reserve(end) {
@@ -255,19 +265,22 @@ class Room {
     }
 
     putNumbers(at, numbers) {
-        for (let i = 0; i < numbers.length; i += 1) this.words[at / 4 + i] = numbers[i];
+        for (let i = 0; i < numbers.length; i += 1) this.view.setUint32(at + 4 * i, numbers[i], true);
         return at;
     }
 
+    number(at) {
+        return this.view.getUint32(at, true);
+    }
+
     numbers(at, count) {
-        return Array.from(this.words.subarray(at / 4, at / 4 + count));
+        return Array.from({ length: count }, (_, i) => this.number(at + 4 * i));
     }
 
     moment(at) {
-        const { words } = this, i = at / 4;
         return {
-            year: words[i], month: words[i + 1], day: words[i + 2],
-            hour: words[i + 3], minute: words[i + 4], second: words[i + 5], millisecond: words[i + 6],
+            year: this.number(at), month: this.number(at + 4), day: this.number(at + 8), hour: this.number(at + 12),
+            minute: this.number(at + 16), second: this.number(at + 20), millisecond: this.number(at + 24),
         };
     }
 
@@ -353,7 +366,7 @@ function stampCalls(room) {
 
     const toISO = (moment) => writeNumbers([...momentNumbers(moment, "moment"), 0, 0]).slice(0, -1);
 
-    return { momentNumbers, instantNumbers, readStamp, writeStamp, fromISO, toISO };
+    return { momentNumbers, instantNumbers, calls: { readStamp, writeStamp, fromISO, toISO } };
 }
 
 function phraseCalls(room, { momentNumbers }) {
@@ -403,7 +416,7 @@ function ruleCalls(room, { momentNumbers }) {
 
     // Lists a rule that is in its place, with room for so many moments: how many there are.
     function list(length, most) {
-        const rows = (base + TEXT + length + 15) & ~15;
+        const rows = Math.ceil((base + TEXT + length) / 16) * 16;
         room.reserve(rows + 28 * most);
         return [rows, checked(exports.fuzzy_list_in(base + TEXT, BigInt(length), base + GIVEN, rows, BigInt(7 * most)))];
     }
@@ -443,9 +456,9 @@ function zoneCalls(room, { instantNumbers }) {
     }
 
     function local() {
-        const moment = room.moment(base + NUMBERS), [west, distance] = room.numbers(base + NUMBERS + 28, 2);
-        const [low, high] = room.numbers(base + DUE, 2), second = (high | 0) * 2 ** 32 + low, { millisecond } = moment;
-        return { second, millisecond, moment, offset: west === 0 ? distance : -distance, date: new Date(second * 1000 + millisecond) };
+        const moment = room.moment(base + NUMBERS), [west, distance] = room.numbers(base + NUMBERS + 28, 2), { millisecond } = moment;
+        const second = Number(room.view.getBigInt64(base + DUE, true)), date = new Date(second * 1000 + millisecond);
+        return { second, millisecond, moment, offset: west === 0 ? distance : -distance, date };
     }
 
     function runInZone(ready, zone, now) {
@@ -530,7 +543,7 @@ function boardClass(room, { momentNumbers }) {
     };
 }
 
-function temporalCalls({ momentNumbers, fromISO, toISO }) {
+function temporalCalls({ fromISO, toISO }) {
     function toTemporal(moment) {
         if (globalThis.Temporal === undefined) throw new TypeError("this engine has no Temporal");
         return globalThis.Temporal.PlainDateTime.from(toISO(moment));
@@ -585,10 +598,9 @@ function versionOf(exports) {
 
 export async function load(source) {
     const { exports } = await WebAssembly.instantiate(await compiled(source), {});
-    const version = versionOf(exports), room = new Room(exports), stamps = stampCalls(room);
-    const { momentNumbers, instantNumbers, ...rest } = stamps;
+    const version = versionOf(exports), room = new Room(exports), stamps = stampCalls(room), { calls } = stamps;
     return Object.freeze({
-        version, ...rest, ...phraseCalls(room, stamps), ...ruleCalls(room, stamps), ...zoneCalls(room, stamps),
-        ...temporalCalls(stamps), Board: boardClass(room, stamps),
+        version, ...calls, ...temporalCalls(calls), ...phraseCalls(room, stamps), ...ruleCalls(room, stamps), ...zoneCalls(room, stamps),
+        Board: boardClass(room, stamps),
     });
 }

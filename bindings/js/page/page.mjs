@@ -157,6 +157,7 @@ function listenToButtons() {
     for (const button of all("[data-year]")) button.addEventListener("click", () => stepYear(Number(button.dataset.year)));
     for (const form of all("form")) form.addEventListener("submit", (event) => event.preventDefault());
     byId("copy").addEventListener("click", copyLink);
+    byId("zones-zone").addEventListener("change", draw);
     byId("zones-own").addEventListener("change", chooseFile);
     document.querySelector(".skip").addEventListener("click", (event) => {
         event.preventDefault();

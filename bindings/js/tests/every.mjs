@@ -150,9 +150,10 @@ test("a refusal's place in bytes and in UTF-16 units, and its text", () => {
     assert.deepEqual([tree.reason, tree.place, tree.length, tree.index, tree.width, tree.part], ["UNKNOWN", 5, 1, 5, 2, "🎄"]);
     const late = refusal(2, () => read(2, "friday christmas", now));
     assert.deepEqual([late.place, late.length, late.index, late.width, late.part, late.name], [7, 9, 7, 9, "christmas", "Refusal"]);
-    assert.equal(String(late), 'Refusal: not understood: "christmas"\n    friday christmas\n           ^^^^^^^^^');
+    assert.equal(String(late), "Refusal: not understood\n    friday christmas\n           ^^^^^^^^^");
+    assert.equal(tree.message, "not understood\n    next 🎄 friday\n         ^");
     const bytes = refusal(2, () => read(2, new Uint8Array([0xff]), now));
-    assert.deepEqual([bytes.part, bytes.message], [new Uint8Array([0xff]), "not understood: 1 bytes at byte 0"]);
+    assert.deepEqual([bytes.part, bytes.message], [new Uint8Array([0xff]), "not understood at byte 0"]);
     assert.equal(refusal(1, () => read(2, "x".repeat(300), now)).reason, "TOO_LONG");
     assert.equal(refusal(1, () => read(2, "x".repeat(1_000_000), now)).reason, "TOO_LONG");
     assert.equal(refusal(1, () => read(2, "ß".repeat(129), now)).message, "longer than 256 bytes");
@@ -178,8 +179,8 @@ test("places of every character and byte, beside a slow count", () => {
 
 test("a refusal of a newer library is carried", () => {
     const { number, reason, words, message } = new Refusal(27, 0, 3, "now");
-    assert.deepEqual([number, reason, words], [27, "NEWER", "a refusal of a newer library"]);
-    assert.ok(message.includes("^^^"));
+    assert.deepEqual([number, reason, words], [27, null, "a refusal of a newer library"]);
+    assert.equal(message, "a refusal of a newer library: 27\n    now\n    ^^^");
 });
 
 test("a refusal has no stack, and leaves Error as it was", () => {
