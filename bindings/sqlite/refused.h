@@ -68,20 +68,22 @@ static inline size_t refused_character(const unsigned char *text, size_t length,
     return size > 0 && refused_second_fits(first, text[1]) ? size : 0;
 }
 
-/* Writes a phrase on a line and, on the next, a ^ below each place of its refused part; a byte that cannot be shown is \xHH. */
-static inline size_t refused_underline(uint64_t answer, const char *phrase, size_t length, int utf8, char *out) {
+/* Writes a phrase on a line and, on the next, a ^ below each place of its refused part; a byte that cannot be shown is \xHH. Gives the
+ * length of both lines, and 0 for a phrase that is too long for them. */
+static inline size_t refused_underline(uint64_t answer, const char *phrase, size_t length, int utf8, char out[REFUSED_SIZE]) {
     const unsigned char *bytes = (const unsigned char *)phrase;
     size_t place = fuzzy_place(answer), end = place + fuzzy_length(answer), at, n = 0, marks = 0, marked = 0;
     char below[4 * REFUSED_MOST_PHRASE];
-    out[n++] = '\n';
+    if (length > REFUSED_MOST_PHRASE) return 0;
     for (at = 0; at < length;) {
-        size_t size = refused_character(bytes + at, length - at, utf8), wide = size > 0 ? 1 : 4, taken = size > 0 ? size : 1;
+        size_t size = refused_character(bytes + at, length - at, utf8), taken = size > 0 ? size : 1, wide = size > 0 ? 1 : 4;
+        int refused = at < end && at + taken > place;
         if (size > 0) memcpy(out + n, bytes + at, size);
         else snprintf(out + n, 5, "\\x%02X", bytes[at]);
         n += size > 0 ? size : 4;
-        memset(below + marks, at < end && at + taken > place ? '^' : ' ', wide);
+        memset(below + marks, refused ? '^' : ' ', wide);
         marks += wide;
-        if (at < end && at + taken > place) marked = marks;
+        if (refused) marked = marks;
         at += taken;
     }
     out[n++] = '\n';
@@ -89,15 +91,15 @@ static inline size_t refused_underline(uint64_t answer, const char *phrase, size
     return n + marked;
 }
 
-/* Writes what a refused answer says of a phrase, as "refused 2 (UNKNOWN) at byte 0: not understood"; gives the length of the text. */
+/* Writes what a refused answer says of a phrase: "refused 2 (UNKNOWN) at byte 0: not understood", and below it the phrase with the part
+ * underlined, where there is one. Gives the length of the text. */
 static inline size_t refused_text(uint64_t answer, const char *phrase, size_t length, int utf8, char out[REFUSED_SIZE]) {
     uint32_t number = fuzzy_number(answer);
-    char where[32] = "";
-    size_t n;
+    char where[32] = "", lines[REFUSED_SIZE];
+    size_t n = fuzzy_length(answer) == 0 ? 0 : refused_underline(answer, phrase, length, utf8, lines);
     if (fuzzy_length(answer) > 0) snprintf(where, sizeof where, " at byte %u", (unsigned)fuzzy_place(answer));
-    n = (size_t)snprintf(out, REFUSED_SIZE, "refused %u (%s)%s: %s", (unsigned)number, refused_name(number), where, fuzzy_words(number));
-    if (fuzzy_length(answer) == 0 || length > REFUSED_MOST_PHRASE) return n;
-    return n + refused_underline(answer, phrase, length, utf8, out + n);
+    return (size_t)snprintf(out, REFUSED_SIZE, "refused %u (%s)%s: %s%s%.*s", (unsigned)number, refused_name(number), where,
+                            fuzzy_words(number), n > 0 ? "\n" : "", (int)n, lines);
 }
 
 #endif

@@ -1,6 +1,7 @@
-/* Writes so many rows for SQLite and PostgreSQL to a file, reads each phrase at its now, and prints the sums that both must come to:
- * rows COUNT FILE LIST.. A row is a number, a reading, a now and a phrase, with tabs between them; a list has a phrase after the bar of
- * each line, as crates/test_replay/stdin. The same rows come out on every machine. */
+/* Writes so many rows for SQLite and PostgreSQL to a file, reads each phrase at its now, and prints what both must come to: rows COUNT
+ * FILE LIST.. prints the rows, the moments, and the sums of their seconds and milliseconds. A row is a number, a reading, a now and a
+ * phrase, with tabs between them; a list has a phrase after the bar of each line, as crates/test_replay/stdin. The same rows come out on
+ * every machine. */
 #include "../moments.h"
 
 #include <inttypes.h>
@@ -91,6 +92,6 @@ int main(int count, char **arguments) {
         milliseconds += read.moment.millisecond;
     }
     if (fclose(file) != 0) stop("the rows cannot be written");
-    printf("%lu rows, %lu moments, %" PRId64 " seconds, %" PRId64 " milliseconds\n", rows, moments, seconds, milliseconds);
+    printf("%lu|%lu|%" PRId64 "|%" PRId64 "\n", rows, moments, seconds, milliseconds);
     return 0;
 }
