@@ -8,6 +8,9 @@
 #include "mb/pg_wchar.h"
 #include "utils/builtins.h"
 #include "utils/timestamp.h"
+#if PG_VERSION_NUM >= 160000
+#include "varatt.h"
+#endif
 
 #include "fuzzy.h"
 #include "moments.h"
@@ -18,7 +21,8 @@ PG_MODULE_MAGIC;
 /* The seconds from 1970 to 2000, where PostgreSQL begins to count. */
 #define SECONDS_TO_2000 ((int64)(POSTGRES_EPOCH_JDATE - UNIX_EPOCH_JDATE) * SECS_PER_DAY)
 
-#define USECS_PER_MSEC 1000
+/* PostgreSQL counts microseconds. */
+#define PARTS_OF_A_MILLISECOND 1000
 
 /* A call that was made: the library's answer, what it gives, the text that the answer's place is in, and whether a time that was given
  * has parts of a millisecond. */
@@ -52,20 +56,21 @@ static struct fuzzy_moment moment_of(Datum datum, struct made *made) {
     struct pg_tm tm;
     fsec_t fraction;
     if (TIMESTAMP_NOT_FINITE(timestamp) || timestamp2tm(timestamp, NULL, &tm, &fraction, NULL, NULL) != 0) return moment;
-    if (fraction % USECS_PER_MSEC != 0) made->has_parts = true;
-    if (fraction % USECS_PER_MSEC != 0 || tm.tm_year < 1 || tm.tm_year > 9999) return moment;
+    if (fraction % PARTS_OF_A_MILLISECOND != 0) made->has_parts = true;
+    if (fraction % PARTS_OF_A_MILLISECOND != 0 || tm.tm_year < 1 || tm.tm_year > 9999) return moment;
     moment.year = (uint32_t)tm.tm_year;
     moment.month = (uint32_t)tm.tm_mon;
     moment.day = (uint32_t)tm.tm_mday;
     moment.hour = (uint32_t)tm.tm_hour;
     moment.minute = (uint32_t)tm.tm_min;
     moment.second = (uint32_t)tm.tm_sec;
-    moment.millisecond = (uint32_t)(fraction / USECS_PER_MSEC);
+    moment.millisecond = (uint32_t)(fraction / PARTS_OF_A_MILLISECOND);
     return moment;
 }
 
 static Datum timestamp_of(const struct fuzzy_moment *moment) {
     struct pg_tm tm;
+    fsec_t fraction;
     Timestamp timestamp;
     memset(&tm, 0, sizeof tm);
     tm.tm_year = (int)moment->year;
@@ -74,7 +79,8 @@ static Datum timestamp_of(const struct fuzzy_moment *moment) {
     tm.tm_hour = (int)moment->hour;
     tm.tm_min = (int)moment->minute;
     tm.tm_sec = (int)moment->second;
-    if (tm2timestamp(&tm, (fsec_t)(moment->millisecond * USECS_PER_MSEC), NULL, &timestamp) != 0) elog(ERROR, "a moment is no timestamp");
+    fraction = (fsec_t)(moment->millisecond * PARTS_OF_A_MILLISECOND);
+    if (tm2timestamp(&tm, fraction, NULL, &timestamp) != 0) elog(ERROR, "a moment is no timestamp");
     return TimestampGetDatum(timestamp);
 }
 
@@ -97,10 +103,10 @@ static struct instant instant_of(Datum datum, struct made *made) {
         second--;
         fraction += USECS_PER_SEC;
     }
-    made->has_parts = fraction % USECS_PER_MSEC != 0;
+    made->has_parts = fraction % PARTS_OF_A_MILLISECOND != 0;
     if (made->has_parts) return instant;
     instant.second = second + SECONDS_TO_2000;
-    instant.millisecond = (uint32_t)(fraction / USECS_PER_MSEC);
+    instant.millisecond = (uint32_t)(fraction / PARTS_OF_A_MILLISECOND);
     return instant;
 }
 
@@ -111,10 +117,12 @@ static void give_moment(uint64_t answer, const struct fuzzy_moment *moment, stru
 
 /* Gives an instant. As in SQLite, one that is outside the years 1 to 9999 in UTC is refused with 12. */
 static void give_instant(uint64_t answer, const int64_t *second, const struct fuzzy_local *local, struct made *made) {
+    int64 fraction;
     made->answer = answer;
     if (!fuzzy_ok(answer)) return;
-    made->given = TimestampTzGetDatum((*second - SECONDS_TO_2000) * USECS_PER_SEC + (int64)local->moment.millisecond * USECS_PER_MSEC);
     if (*second < FIRST_SECOND || *second > LAST_SECOND) made->answer = FUZZY_OUTSIDE;
+    fraction = (int64)local->moment.millisecond * PARTS_OF_A_MILLISECOND;
+    made->given = TimestampTzGetDatum((*second - SECONDS_TO_2000) * USECS_PER_SEC + fraction);
 }
 
 static void give_text(uint64_t answer, const char *text, struct made *made) {
@@ -237,13 +245,17 @@ static int detail_of(const struct made *made) {
     return errdetail_internal("At byte %u, length %u:\n%.*s", fuzzy_place(made->answer), fuzzy_length(made->answer), (int)n, lines);
 }
 
-static void raise(const struct made *made) {
+/* Whether a call is refused because a time has parts of a millisecond. */
+static bool is_in_parts(const struct made *made) {
+    return fuzzy_number(made->answer) == FUZZY_INVALID_MOMENT && made->has_parts;
+}
+
+static void raise_refusal(const struct made *made) {
     uint32_t number = fuzzy_number(made->answer);
-    bool has_parts = number == FUZZY_INVALID_MOMENT && made->has_parts;
     ereport(ERROR, (errcode(state_of(number)), errmsg_internal("refused %u (%s): %s", number, refused_name(number), fuzzy_words(number)),
                     fuzzy_length(made->answer) > 0 && made->text != NULL ? detail_of(made) : 0,
-                    has_parts ? errdetail("It has parts of a millisecond, which are not rounded.") : 0,
-                    has_parts ? errhint("date_trunc('milliseconds', ..) and localtimestamp(3) have whole milliseconds.") : 0));
+                    is_in_parts(made) ? errdetail("It has parts of a millisecond, which are not rounded.") : 0,
+                    is_in_parts(made) ? errhint("date_trunc('milliseconds', ..) and localtimestamp(3) have whole milliseconds.") : 0));
 }
 
 static struct made made_by(FunctionCallInfo fcinfo, call *make) {
@@ -254,7 +266,7 @@ static struct made made_by(FunctionCallInfo fcinfo, call *make) {
 
 static Datum given_or_raised(FunctionCallInfo fcinfo, call *make) {
     struct made made = made_by(fcinfo, make);
-    if (!fuzzy_ok(made.answer)) raise(&made);
+    if (!fuzzy_ok(made.answer)) raise_refusal(&made);
     return made.given;
 }
 
@@ -268,9 +280,10 @@ static Datum given_or_null(FunctionCallInfo fcinfo, call *make) {
 static Datum refused_or_null(FunctionCallInfo fcinfo, call *make) {
     struct made made = made_by(fcinfo, make);
     char text[REFUSED_SIZE];
+    size_t length;
     if (fuzzy_ok(made.answer)) PG_RETURN_NULL();
-    PG_RETURN_TEXT_P(cstring_to_text_with_len(
-        text, (int)refused_text(made.answer, made.text, made.length, GetDatabaseEncoding() == PG_UTF8, text)));
+    length = refused_text(made.answer, made.text, made.length, GetDatabaseEncoding() == PG_UTF8, text);
+    PG_RETURN_TEXT_P(cstring_to_text(psprintf("%.*s%s", (int)length, text, is_in_parts(&made) ? " (it has parts of a millisecond)" : "")));
 }
 
 /* A function of SQL over a call; a refusal is raised, or NULL, or what is given. */
@@ -356,7 +369,7 @@ static struct walk *begin_walk(FunctionCallInfo fcinfo, bool raises) {
     walk->start = moment_of(PG_GETARG_DATUM(1), &made);
     walk->most = most < FUZZY_MOST_OCCURRENCES ? (uint64_t)most : FUZZY_MOST_OCCURRENCES;
     made.answer = list_more(walk);
-    if (raises && !fuzzy_ok(made.answer)) raise(&made);
+    if (raises && !fuzzy_ok(made.answer)) raise_refusal(&made);
     return walk;
 }
 

@@ -81,6 +81,8 @@ SELECT fuzzy_read(1, 'friday', '10000-01-01 00:00:00');
 --> ERROR:  FZ008: refused 8 (INVALID_MOMENT): the given moment is not a valid date and time
 SELECT fuzzy_try_read(1, 'friday', '2026-02-11 09:30:15.2504');
 --> NULL
+SELECT fuzzy_why(1, 'friday', '2026-02-11 09:30:15.2504');
+--> refused 8 (INVALID_MOMENT): the given moment is not a valid date and time (it has parts of a millisecond)
 SELECT fuzzy_why(1, 'fryday', 'infinity');
 --> refused 2 (UNKNOWN) at byte 0: not understood
 --> fryday
@@ -186,6 +188,10 @@ SELECT fuzzy_read_in_zone(1, 'now', zone, '2026-03-07 14:00:00.0005Z') FROM zone
 --> ERROR:  FZ008: refused 8 (INVALID_MOMENT): the given moment is not a valid date and time
 --> DETAIL:  It has parts of a millisecond, which are not rounded.
 --> HINT:  date_trunc('milliseconds', ..) and localtimestamp(3) have whole milliseconds.
+SELECT fuzzy_read_in_zone(1, 'now', zone, '0044-03-15 12:00:00Z BC') FROM zones;
+--> ERROR:  FZ008: refused 8 (INVALID_MOMENT): the given moment is not a valid date and time
+SELECT fuzzy_read_in_zone(1, 'now', zone, '10000-01-01 00:00:00Z') FROM zones;
+--> ERROR:  FZ022: refused 22 (PAST_LAST): later than the zone's file knows
 SELECT fuzzy_try_local(zone, '1969-07-20 20:17:40.1234Z'), fuzzy_try_run_in_zone('\x00', zone, '2026-03-07 14:00:00Z') FROM zones;
 --> NULL|NULL
 SET TimeZone = 'Asia/Kolkata';
