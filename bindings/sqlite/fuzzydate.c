@@ -253,8 +253,8 @@ static int take_arguments(const struct call *call, sqlite3_value **values, struc
     return i;
 }
 
-/* Makes a call, unless an argument is NULL or of a wrong type: says whether it was made, and what it answered. */
-static int is_made(sqlite3_context *context, const struct call *call, sqlite3_value **values, struct made *made) {
+/* Makes a call, unless an argument is NULL or of a wrong type: gives whether it was made. */
+static int make_call(sqlite3_context *context, const struct call *call, sqlite3_value **values, struct made *made) {
     int right;
     if (has_null(call->count, values)) return 0;
     right = take_arguments(call, values, made->given);
@@ -270,7 +270,7 @@ static int is_made(sqlite3_context *context, const struct call *call, sqlite3_va
 static void give_answer(sqlite3_context *context, int count, sqlite3_value **values) {
     struct made made;
     (void)count;
-    if (!is_made(context, sqlite3_user_data(context), values, &made) || !fuzzy_ok(made.answer)) return;
+    if (!make_call(context, sqlite3_user_data(context), values, &made) || !fuzzy_ok(made.answer)) return;
     if (made.result.type == SQLITE_BLOB) {
         sqlite3_result_blob(context, made.result.bytes, (int)made.result.length, SQLITE_TRANSIENT);
     } else {
@@ -310,7 +310,7 @@ static void give_why(sqlite3_context *context, int count, sqlite3_value **values
     call = count == 0 ? NULL : call_with(count, sqlite3_value_type(values[0]));
     if (call == NULL) {
         sqlite3_result_error(context, "fuzzy_why: takes the arguments of the call that gave NULL", -1);
-    } else if (is_made(context, call, values, &made) && !fuzzy_ok(made.answer)) {
+    } else if (make_call(context, call, values, &made) && !fuzzy_ok(made.answer)) {
         give_refusal(context, call, &made);
     }
 }
@@ -352,11 +352,12 @@ struct walk {
 static int connect_occurrences(sqlite3 *db, void *none, int count, const char *const *names, sqlite3_vtab **table, char **error) {
     int code = sqlite3_declare_vtab(db, "CREATE TABLE x(moment TEXT, rule HIDDEN, start HIDDEN, most HIDDEN)");
     (void)none, (void)count, (void)names, (void)error;
+    if (code == SQLITE_OK) code = sqlite3_vtab_config(db, SQLITE_VTAB_INNOCUOUS);
     if (code != SQLITE_OK) return code;
     *table = sqlite3_malloc64(sizeof **table);
     if (*table == NULL) return SQLITE_NOMEM;
     memset(*table, 0, sizeof **table);
-    return sqlite3_vtab_config(db, SQLITE_VTAB_INNOCUOUS);
+    return SQLITE_OK;
 }
 
 static int disconnect_occurrences(sqlite3_vtab *table) {
