@@ -339,9 +339,8 @@ function stampCalls(room) {
     }
 
     function readStamp(text) {
-        const [, , , , , , , west, minutes] = stampNumbers(text, "text");
-        const east = west === 0 ? minutes : -minutes;
-        return { moment: room.moment(base + NUMBERS), offset: west === 1 && minutes === 0 ? null : east };
+        const [west, minutes] = stampNumbers(text, "text").slice(7), offset = west === 0 ? minutes : -minutes;
+        return { moment: room.moment(base + NUMBERS), offset: west === 1 && minutes === 0 ? null : offset };
     }
 
     function writeNumbers(numbers) {
@@ -414,7 +413,7 @@ function phraseCalls(room, { momentNumbers }) {
 function ruleCalls(room, { momentNumbers }) {
     const { exports, base } = room;
 
-    // Lists a rule that is in its place, with room for so many moments: how many there are.
+    // Lists a rule that is in its place, with room for so many moments: where they are, and how many.
     function list(length, most) {
         const rows = Math.ceil((base + TEXT + length) / 16) * 16;
         room.reserve(rows + 28 * most);

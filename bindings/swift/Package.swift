@@ -13,14 +13,10 @@ import PackageDescription
     let packaged = "\(Context.packageDirectory)/archive/\(target)"
     let made = "\(Context.packageDirectory)/../../target/archive/\(target)"
     let archive = Context.environment["FUZZYDATE_LIB"] ?? (FileManager.default.fileExists(atPath: packaged) ? packaged : made)
-    let library: [Target] = []
-    let needed: [Target.Dependency] = []
-    let compiling: [SwiftSetting] = [.unsafeFlags(["-I", archive])]
+    let library = Target.systemLibrary(name: "CFuzzydate", path: "CFuzzydate")
     let linking: [LinkerSetting] = [.unsafeFlags(["-L", archive])]
 #else
-    let library: [Target] = [.binaryTarget(name: "CFuzzydate", path: "CFuzzydate.xcframework")]
-    let needed: [Target.Dependency] = ["CFuzzydate"]
-    let compiling: [SwiftSetting] = []
+    let library = Target.binaryTarget(name: "CFuzzydate", path: "CFuzzydate.xcframework")
     let linking: [LinkerSetting] = []
 #endif
 
@@ -28,8 +24,9 @@ let package = Package(
     name: "fuzzydate",
     platforms: [.iOS(.v12)],
     products: [.library(name: "Fuzzydate", targets: ["Fuzzydate"])],
-    targets: library + [
-        .target(name: "Fuzzydate", dependencies: needed, swiftSettings: compiling, linkerSettings: linking),
-        .executableTarget(name: "every", dependencies: ["Fuzzydate"], path: "tests", swiftSettings: compiling),
+    targets: [
+        library,
+        .target(name: "Fuzzydate", dependencies: ["CFuzzydate"], linkerSettings: linking),
+        .executableTarget(name: "every", dependencies: ["Fuzzydate"], path: "tests"),
     ]
 )

@@ -4,7 +4,9 @@ import { load, Refusal } from "../fuzzydate.mjs";
 
 // Bytes of base64, also of the kind that an address can hold.
 export function fromBase64(text) {
-    return Uint8Array.from(atob(text.replaceAll("-", "+").replaceAll("_", "/")), (letter) => letter.charCodeAt(0));
+    const letters = atob(text.replaceAll("-", "+").replaceAll("_", "/")), bytes = new Uint8Array(letters.length);
+    for (let i = 0; i < letters.length; i += 1) bytes[i] = letters.charCodeAt(i);
+    return bytes;
 }
 
 // Bytes as base64 that an address can hold.

@@ -133,6 +133,10 @@ class Page:
     def type_into(self, name, text):
         self.by(name).send_keys(Keys.CONTROL, "a", Keys.NULL, Keys.DELETE, text)
 
+    def paste(self, name, text):
+        script = "arguments[0].value = arguments[1]; arguments[0].dispatchEvent(new Event('input', { bubbles: true }))"
+        self.browser.execute_script(script, self.by(name), text)
+
     def link(self):
         """The address, once it has followed."""
         time.sleep(0.5)
@@ -314,7 +318,7 @@ def typed(page, archive, path, count):
     page.visit(tab="try", phrase="", now=NOW, reading="1")
     for i, (now, phrase) in enumerate(random.Random(1).sample(pairs, count)):
         reading = 1 + i % 2
-        page.type_into("try-now", now.replace(" ", "T") + "Z")
+        page.paste("try-now", now.replace(" ", "T") + "Z")
         page.run(f"document.querySelector('[name=\"try-reading\"][value=\"{reading}\"]').click()")
         page.type_into("try-phrase", phrase)
         expected = archive.shown(reading, phrase, [int(part) for part in re.split("[-: ]", now)])

@@ -19,12 +19,13 @@ from ._library import VERSION as __version__
 from ._refusals import Reason, Refusal
 
 __all__ = [
-    "Board", "Due", "FoundWord", "Local", "Reading", "Reason", "Refusal", "Stamp", "Text", "__version__", "cut_to_milliseconds",
-    "find_word", "make_ready", "next", "occurrences", "read", "read_in_zone", "read_stamp", "run", "run_in_zone", "version",
-    "write_phrase", "write_stamp",
+    "Board", "Bytes", "Due", "FoundWord", "Local", "Reading", "Reason", "Refusal", "Stamp", "Text", "__version__",
+    "cut_to_milliseconds", "find_word", "make_ready", "next", "occurrences", "read", "read_in_zone", "read_stamp", "run",
+    "run_in_zone", "version", "write_phrase", "write_stamp",
 ]
 
-Text = Union[str, bytes, bytearray, memoryview]
+Bytes = Union[bytes, bytearray, memoryview]
+Text = Union[str, Bytes]
 
 _EPOCH = datetime(1970, 1, 1, tzinfo=timezone.utc)
 _LAST_MOMENT = datetime.max.replace(microsecond=999_000)
@@ -156,7 +157,7 @@ def make_ready(reading: int, phrase: Text) -> bytes:
     return ready.raw[:length]
 
 
-def run(ready: Text, now: datetime) -> datetime:
+def run(ready: Bytes, now: datetime) -> datetime:
     """Runs a ready phrase at a now: gives what read gives for its phrase at that now, in the reading that it was made in."""
     steps, moment = _bytes(ready), _library.MomentNumbers()
     _checked(_library.run(steps, len(steps), _numbers("now", now), moment))
@@ -203,7 +204,7 @@ def occurrences(rule: Text, start: datetime, most: int) -> List[datetime]:
     """Lists the first occurrences of a repeating rule of RFC 5545, in order, from its start on: at most so many.
 
     The start is the first one, and every one has its time of day; COUNT, UNTIL and the year 9999 end them. The rule is its text,
-    such as "FREQ=WEEKLY;INTERVAL=2;BYDAY=TU"; fuzzy.h says which are accepted. Memory is taken for `most`, whatever the rule has.
+    such as "FREQ=WEEKLY;INTERVAL=2;BYDAY=TU"; fuzzy.h says which are accepted. There is memory for `most`, whatever the rule has.
     """
     size = _library.MOMENT_NUMBERS
     text, moments = _bytes(rule), (ctypes.c_uint32 * (size * min(most, _library.MOST_OCCURRENCES)))()
@@ -234,7 +235,7 @@ def next(rule: Text, start: datetime, asked: datetime) -> datetime:
     return _moment(moment)
 
 
-def read_in_zone(reading: int, phrase: Text, zone: Text, now: datetime) -> Local:
+def read_in_zone(reading: int, phrase: Text, zone: Bytes, now: datetime) -> Local:
     """Reads a phrase at an instant in a zone: gives what run_in_zone gives for the phrase made ready."""
     text, file = _bytes(phrase), _bytes(zone)
     due, local = ctypes.c_int64(), _library.LocalNumbers()
@@ -242,7 +243,7 @@ def read_in_zone(reading: int, phrase: Text, zone: Text, now: datetime) -> Local
     return _local(due, local)
 
 
-def run_in_zone(ready: Text, zone: Text, now: datetime) -> Local:
+def run_in_zone(ready: Bytes, zone: Bytes, now: datetime) -> Local:
     """Runs a ready phrase at an instant in a zone, which is the bytes of its TZif file; fuzzy.h says which are accepted.
 
     Dates, weekdays, months and years go by the clocks. Minutes and hours are lengths of time. Days and weeks go by the clocks in

@@ -20,16 +20,18 @@ FoundNumbers = ctypes.c_uint32 * FOUND_NUMBERS
 LocalNumbers = ctypes.c_uint32 * LOCAL_NUMBERS
 
 _FILE = pathlib.Path(__file__).resolve().with_name("libfuzzydate.so")
+_MAJOR, _MINOR, _ = map(int, VERSION.split("."))
+_NEEDS = f"fuzzydate {VERSION} needs version {VERSION} of its library or a later one of {_MAJOR}.*"
 
 
 def _loaded() -> ctypes.CDLL:
-    """The library, unless it is missing, made for another processor, or older than its versions are."""
+    """The library; an ImportError says that it is missing, made for another processor, or older than version 1.0.0."""
     try:
         library = ctypes.CDLL(str(_FILE))
     except OSError as error:
         raise ImportError(f"fuzzydate {VERSION} cannot load its library: {error}") from error
     if not hasattr(library, "fuzzy_version"):
-        raise ImportError(f"fuzzydate {VERSION} needs version {VERSION} of its library or a later one of 1.*, and {_FILE} has no version")
+        raise ImportError(f"{_NEEDS}, and {_FILE} has no version")
     return library
 
 
@@ -40,11 +42,8 @@ def in_digits(version: int) -> str:
 
 def check_version(version: int) -> None:
     """Raises an ImportError unless a library of this version has all that this binding calls, in the same form."""
-    major, minor, _ = map(int, VERSION.split("."))
-    if version // 1_000_000 != major or version // 1000 % 1000 < minor:
-        raise ImportError(
-            f"fuzzydate {VERSION} needs version {VERSION} of its library or a later one of {major}.*, and {_FILE} is {in_digits(version)}"
-        )
+    if version // 1_000_000 != _MAJOR or version // 1000 % 1000 < _MINOR:
+        raise ImportError(f"{_NEEDS}, and {_FILE} is {in_digits(version)}")
 
 
 def _declare(name: str, *parts: str, gives: Any = ctypes.c_uint64) -> Callable[..., int]:

@@ -5,7 +5,7 @@ from __future__ import annotations
 import struct
 from typing import Callable, Dict, Iterator, List, NamedTuple
 
-from . import Text, _bytes
+from . import Bytes, _bytes
 
 _RECORD = struct.Struct("<IIII")
 _MOST_STEPS = 24
@@ -90,7 +90,7 @@ def _in_words(step: _Step) -> str:
         return f"a step of a newer library, of kind {step.kind} and form {step.form}"
 
 
-def in_words(ready: Text) -> List[str]:
+def in_words(ready: Bytes) -> List[str]:
     """The steps of a ready phrase, each in plain words, in the order in which they are run."""
     steps = _bytes(ready)
     if len(steps) % _RECORD.size != 0 or not 0 < len(steps) <= _MOST_STEPS * _RECORD.size:
