@@ -10,6 +10,7 @@ A table is known by the first cells of its header row, and every row of it is co
     | Part | Forms |                                         so is each form, alone or before "from now" or "days ago"
     | Words | Reading 1 | Reading 2 |                        all words of both readings, as crates/lexer/specs/Keywords.antt has them
     | Number | Name | Words |                                the refusals of include/fuzzy.h, all of them
+    | Constant | Value |                                     its other constants, all of them
 
 An answer is written as "Fri 2026-02-20 15:00:00", or as "refused 7 at `pm`" with the refused part where there is one. "the same" stands
 for the answer of the column before it. Each function of the header has its heading and its declaration in docs/API.md, in its order.
@@ -127,10 +128,16 @@ def compare_words(library, root, wrong, rows):
 
 def compare_refusals(library, root, wrong, rows):
     header = (root / "include/fuzzy.h").read_text()
-    names = re.findall(r"(?m)^    FUZZY_([A-Z_]+) = (\d+),? *(?:/\*|$)", header[header.index("enum fuzzy_refusal"):])
+    names = re.findall(r"(?m)^    FUZZY_([A-Z_]+) = (\d+),? *(?:/\*|$)", header[header.index("enum fuzzy_refusal {"):])
     words = dict(re.findall(r'case FUZZY_([A-Z_]+): return "(.*)";', header))
     wanted = [[number, name, words[name]] for name, number in names]
     expect(wrong, "the refusals", wanted, [[row[0], row[1].strip("`"), row[2]] for row in rows])
+
+
+def compare_constants(library, root, wrong, rows):
+    header = (root / "include/fuzzy.h").read_text()
+    wanted = re.findall(r"(?m)^#define (FUZZY_(?!H$|ASSERT)\w+) (.+)$", header)
+    expect(wrong, "the constants", sorted(wanted), sorted((row[0].strip("`"), row[1]) for row in rows))
 
 
 KINDS = {
@@ -142,6 +149,7 @@ KINDS = {
     ("Part", "Forms"): compare_forms,
     ("Words", "Reading 1", "Reading 2"): compare_words,
     ("Number", "Name", "Words"): compare_refusals,
+    ("Constant", "Value"): compare_constants,
 }
 
 
