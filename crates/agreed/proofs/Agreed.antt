@@ -53,6 +53,21 @@ atOffset =
 pub agree : Agree Read Run
 agree = agreed atOffset
 
+module _ (reading : ℕ) (phrase array array′ : List ℕ) (k : ℕ) (make : MakeReady reading phrase array k array′) (ready : number k ≡ 0)
+    (n : Moment) (hub hub′ phone phone′ : List ℕ) (q : ℕ) (run : Run (take (size k) array′) n phone q phone′) where
+  -- so where the hub reads a moment, the phone that runs the ready phrase at that now has 0 and the same seven numbers
+  pub same-moment : Read reading phrase n hub 0 hub′ → (q ≡ 0) × (phone′ ≡ hub′)
+  same-moment read =
+      let alike = agree reading phrase array array′ k make n hub hub′ 0 read .0 ready phone phone′ q run in
+      (alike .number-same, alike .moment-same refl)
+
+  -- and where the hub is refused, the phone is refused by the same number, and neither array is written
+  pub same-refusal : (r : ℕ) → (r ≡ 0 → ⊥) → Read reading phrase n hub r hub′ → (q ≡ r) × (phone′ ≡ phone) × (hub′ ≡ hub)
+  same-refusal r other read =
+      let alike = agree reading phrase array array′ k make n hub hub′ r read .0 ready phone phone′ q run in
+      let stay = alike .nothing-written other in
+      (alike .number-same, stay .0, stay .1)
+
 -- two callers read the same phrase in the same reading at the same now
 pub read-alike :
     (reading : ℕ) (phrase : List ℕ) (n : Moment) {phone phone′ hub hub′ : List ℕ} {q r : ℕ} →

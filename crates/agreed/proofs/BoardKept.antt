@@ -1,26 +1,28 @@
 -- Of a board that was made by the calls of apps: the order is kept and by moment, the head is what a scan gives, and a refused call leaves it.
 -- Assumes nothing.
-use Prim.Native.Nat.{ℕ, suc, _*_, _<_}
+use Prim.Native.Nat.{ℕ, suc, _*_, _≤_, _<_}
 use native.Mathlib.Omega.{arith}
 use mathlib.Core.Path.{_≡_, refl, sym, subst, ap, _∙_}
-use mathlib.Core.Bool.{Bool, true, false, cond}
-use mathlib.Core.List.{List}
-use lib.ListN.{length, getD, take, replicate}
+use mathlib.Core.Bool.{Bool, true, false, cond, not}
+use mathlib.Core.List.{List, [], _∷_, map}
+use lib.Dec.{eqb, ltb}
+use lib.ListN.{length, getD, take, replicate, List·getD-eq-default}
 use lib.Seq.{sets}
+use borrow.Author.Tests.{ne-eqb, ltb-true, ltb-false}
 use Rattle.digits.proofs.Stores.{sets-taken}
 use Rattle.refusals.specs.Table.{InvalidMoment}
 use Rattle.refusals.specs.Answers.{Answer, given, refused, refuse, andThen}
-use Rattle.calendar.specs.Moments.{isMoment, momentIn}
+use Rattle.calendar.specs.Moments.{isMoment}
 use Rattle.calendar.specs.declared.moments.Moment.{Moment}
 use Rattle.lexer.specs.Keywords.{wordsIn}
 use Rattle.lexer.specs.declared.reading.Reading.{Reading}
 use Rattle.numbers.specs.Slices.{oneIf}
-use Rattle.answer.specs.Answer.{placed, answerOf}
 use Rattle.ready.specs.Ready.{ReadyPhrase, readyOf}
-use Rattle.board.specs.Boards.{Memory, memory, Done, done, memoryAfter, stateOf, isFilled, outcomeAt, makeOf, addOf, removeOf, againOf, headOf, orderOf}
+use Rattle.board.specs.Boards.{Memory, memory, Done, done, memoryAfter, rowIn, stateOf, isFilled, makeOf, addOf, removeOf, againOf, headOf, orderOf}
+use Rattle.board.specs.Rows.{slotOf}
 use Rattle.board.specs.Scans.{Sized, IsBoard, scanOf, timesIn, Before}
 use Rattle.board.proofs.Heads.{head-scan}
-use Rattle.board.proofs.Kept.{held-answers, make-keeps, again-keeps, remove-keeps, add-keeps, order-once}
+use Rattle.board.proofs.Kept.{make-keeps, again-keeps, remove-keeps, add-keeps, order-once}
 use Rattle.board.proofs.InOrder.{order-before}
 use Rattle.fuzzydate.specs.Called.{readingOf, readyIn, codeOf, addedCode, headCode, headAfter}
 use Rattle.fuzzydate.proofs.BoardNumbers.{order-few}
@@ -139,20 +141,26 @@ order-read {m} {slots} {slots′} {k} c =
     let count : length (orderOf m) ≡ size k = omega (arith, says .number-is) in
     rw (says .array′-is) (sets-taken (orderOf m) slots (omega (arith, order-few m, c .numbers)) (size k) count)
 
--- "the whole order holds each filled slot once"
+-- no slot of a key is 256 or above
+none-above : (s : ℕ) → 256 ≤ s → (l : List ℕ) → timesIn s (map slotOf l) ≡ 0
+none-above s h [] = refl
+none-above s h (x ∷ l) = rw (ne-eqb (slotOf x) s (λ e. omega (arith, h, e)), none-above s h l)
+
+-- "the whole order holds each filled slot once", and no other number
 pub ordered-once :
-    {m : Memory} {slots slots′ : List ℕ} {k : ℕ} → Made m → Order m slots k slots′ → (s : ℕ) → s < 256 →
-    timesIn s (take (size k) slots′) ≡ oneIf (isFilled m s)
-ordered-once {m} made c s h = rw (order-read c) (order-once m (made-board made) s h)
+    {m : Memory} {slots slots′ : List ℕ} {k : ℕ} → Made m → Order m slots k slots′ → (s : ℕ) → timesIn s (take (size k) slots′) ≡ oneIf (isFilled m s)
+unfolding orderOf
+ordered-once {m} made c s = rw (order-read c) (go (ltb s 256) refl)
+  where
+    go : (b : Bool) → ltb s 256 ≡ b → timesIn s (orderOf m) ≡ oneIf (isFilled m s)
+    go true e = order-once m (made-board made) s (ltb-true s 256 e)
+    go false e =
+        let above : 256 ≤ s = ltb-false s 256 e in
+        let free : getD (m .lengths) s 0 ≡ 0 = List·getD-eq-default (m .lengths) 0 (omega (arith, above, made-board made .sized .lengths)) in
+        none-above s above (rowIn m) ∙ sym (ap (λ (n : ℕ). oneIf (not (eqb n 0))) free)
 
 -- "an order by moment", "ties by lower slot", and those that refuse "last, by slot": each slot stands before the next one
 pub ordered-before :
     {m : Memory} {slots slots′ : List ℕ} {k : ℕ} → Made m → Order m slots k slots′ → let l = take (size k) slots′ in
     (i : ℕ) → suc i < length l → Before m (getD l i 0) (getD l (suc i) 0)
 ordered-before {m} made c i h = rw (order-read c) (order-before m (made-board made) i (rw (order-read c) at h))
-
--- "Moments are those of demand 2 at the board's now."
-pub made-answers :
-    {m : Memory} (made : Made m) (s : ℕ) (filled : isFilled m s ≡ true) → let held = made-board made .held s filled in let n = momentIn (m .state) in
-    placed (outcomeAt m n s) ≡ answerOf (held .reading) (wordsIn (held .reading)) (held .phrase) n
-made-answers {m} made s filled = held-answers (made-board made .held s filled) (momentIn (m .state))

@@ -1,8 +1,13 @@
 pub mod AnyNow
 pub mod Agreed
 pub mod InZones
+pub mod Written
 pub mod ShownAgain
+pub mod StampAgain
+pub mod Answering
 pub mod Later
 pub mod NextListed
+pub mod ListedRows
 pub mod BoardKept
 pub mod BoardCalls
+pub mod BoardFollowed

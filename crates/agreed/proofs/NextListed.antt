@@ -28,7 +28,7 @@ use Rattle.agreed.specs.Calls.{ListRule, NextRule, rowAt, Earlier, First
 use Rattle.agreed.proofs.AnyNow.{Tells, tells, Says}
 
 -- a row behind the first is a row of what is behind it
-row-behind : (u : Moment) (rest : List ℕ) (i : ℕ) → rowAt (seven u ++ rest) (suc i) ≡ rowAt rest i
+pub row-behind : (u : Moment) (rest : List ℕ) (i : ℕ) → rowAt (seven u ++ rest) (suc i) ≡ rowAt rest i
 row-behind u rest i = let e : 7 * suc i ≡ suc (suc (suc (suc (suc (suc (suc (7 * i))))))) = omega arith in rw e
 
 -- one early row more in front
@@ -60,19 +60,19 @@ first-row t asked (n ∷ l) rest array = go (first-row t asked l rest array) (le
     go later false e = behind (atDay n t) asked (rows t l ++ rest) array (length l) (leb-false _ _ e) later
 
 -- what a listing of the definitions becomes in a call
-abbrev Lists : Answer (List ℕ) → Moment → List ℕ → ℕ → List ℕ → Type 0
+abbrev pub Lists : Answer (List ℕ) → Moment → List ℕ → ℕ → List ℕ → Type 0
 Lists w t lent k left = Tells (λ (x : Answer (List ℕ) × Moment). writtenCode (x .0)) (λ x l. rowsAfter (x .1) l (x .0)) (w, t) lent k left
 
 -- and what comes next
-abbrev Nexts : Answer Moment → List ℕ → ℕ → List ℕ → Type 0
+abbrev pub Nexts : Answer Moment → List ℕ → ℕ → List ℕ → Type 0
 Nexts w array k array′ = Says momentAfter w array k array′
 
-list-says : {s lent left : List ℕ} {t : Moment} {k : ℕ} → ListRule s t lent k left → Lists (listIn s t (length lent)) t lent k left
+pub list-says : {s lent left : List ℕ} {t : Moment} {k : ℕ} → ListRule s t lent k left → Lists (listIn s t (length lent)) t lent k left
 list-says =
     tells (λ (x : Answer (List ℕ) × Moment). writtenCode (x .0)) (λ x l. rowsAfter (x .1) l (x .0)) (λ g l. (listIn (g .0) (g .1) (length l), g .1))
     (λ κs a e k g l h p. record { number-is = p .0; array′-is = p .1 })
 
-next-says : {s array array′ : List ℕ} {t asked : Moment} {k : ℕ} → NextRule s t asked array k array′ → Nexts (nextIn s t asked) array k array′
+pub next-says : {s array array′ : List ℕ} {t asked : Moment} {k : ℕ} → NextRule s t asked array k array′ → Nexts (nextIn s t asked) array k array′
 next-says = tells codeOf momentAfter (λ g l. nextIn (g .0) (g .1) (g .2)) (λ κs a e k g l h p. record { number-is = p .0; array′-is = p .1 })
 
 -- a rule that is listed and asked from one start: where the listing did not fill its room, the first of its rows at or after the asked moment, or

@@ -1,13 +1,12 @@
 -- What was written of a moment as a phrase is read back, from bytes to numbers. Assumes nothing.
 use Prim.Native.Nat.{ℕ}
 use native.Mathlib.Omega.{arith}
-use mathlib.Core.Path.{_≡_, refl}
+use mathlib.Core.Path.{_≡_}
 use mathlib.Core.List.{List}
 use lib.ListN.{length, take}
-use Rattle.refusals.specs.Answers.{Answer, given, refused}
+use Rattle.refusals.specs.Answers.{given}
 use Rattle.refusals.specs.Writings.{bufferOf}
-use Rattle.refusals.proofs.Holds.{given-holds, refusal-holds}
-use Rattle.digits.proofs.Stores.{sets-taken}
+use Rattle.refusals.proofs.Holds.{given-holds}
 use Rattle.calendar.specs.Moments.{IsMoment, seven}
 use Rattle.calendar.specs.declared.moments.Moment.{Moment}
 use Rattle.lexer.specs.declared.reading.Reading.the-variants.{First, Second}
@@ -15,14 +14,11 @@ use Rattle.shown.specs.Phrases.{shownOf}
 use Rattle.shown.proofs.Writings.{writing, written-reads}
 use Rattle.fuzzydate.specs.Called.{answerIn, writtenCode}
 use Rattle.agreed.specs.Calls.{WritePhrase, Shows, in-first, in-second, Read, number, size}
-use Rattle.agreed.proofs.AnyNow.{Tells, tells}
+use Rattle.agreed.proofs.AnyNow.{tells}
 use Rattle.agreed.proofs.Agreed.{read-says}
+use Rattle.agreed.proofs.Written.{Writes, written-so}
 
--- what a writing of the definitions becomes in a call
-abbrev Writes : Answer (List ℕ) → List ℕ → ℕ → List ℕ → Type 0
-Writes w text k text′ = Tells writtenCode (λ x l. bufferOf l x) w text k text′
-
-write-says :
+pub write-says :
     (t : Moment) {text text′ : List ℕ} {k : ℕ} → WritePhrase t text k text′ → Writes (shownOf t (length text)) text k text′
 write-says t =
     tells writtenCode (λ x l. bufferOf l x) (λ g l. shownOf g (length l)) (λ κs a e k g l h p. record { number-is = p .0; array′-is = p .1 })
@@ -41,21 +37,11 @@ pub shown-again :
     (number k ≡ 0 → (reading : ℕ) → Shows (t .year) reading → (n : Moment) → IsMoment n → (array array′ : List ℕ) (r : ℕ) →
     Read reading (take (size k) text′) n array r array′ → (r ≡ 0) × (array′ ≡ seven t))
     × ((number k ≡ 0 → ⊥) → text′ ≡ text)
-shown-again t text text′ k call = go (shownOf t (length text)) refl (write-says t call)
-  where
-    go : (w : Answer (List ℕ)) → shownOf t (length text) ≡ w → Writes w text k text′ →
-        (number k ≡ 0 → (reading : ℕ) → Shows (t .year) reading → (n : Moment) → IsMoment n → (array array′ : List ℕ) (r : ℕ) →
-        Read reading (take (size k) text′) n array r array′ → (r ≡ 0) × (array′ ≡ seven t))
-        × ((number k ≡ 0 → ⊥) → text′ ≡ text)
-    go (given s) e m =
-        let fits = given-holds (writing t (length text)) e .fits in
-        let cut : size k ≡ length s = omega (arith, m .number-is) in
-        let bytes : take (size k) text′ ≡ s = rw (cut, m .array′-is) (sets-taken s text fits (length s) refl) in (
-          λ z reading shows n v array array′ r read.
-              let says = rw (bytes, read-shown t n (length text) s reading e v shows) at (read-says reading read) in
-              (says .number-is, says .array′-is),
-          λ other. absurd (other (omega (arith, m .number-is))),
-        )
-    go (refused q) e m =
-        let bounds = refusal-holds (writing t (length text)) e in
-        (λ z. absurd (omega (arith, m .number-is)), λ other. m .array′-is)
+shown-again t text text′ k call =
+    written-so {Q = λ bytes. (reading : ℕ) → Shows (t .year) reading → (n : Moment) → IsMoment n → (array array′ : List ℕ) (r : ℕ) →
+    Read reading bytes n array r array′ → (r ≡ 0) × (array′ ≡ seven t)}
+    (writing t (length text)) (λ s p. p .fits)
+    (λ s e reading shows n v array array′ r read.
+    let says = rw (read-shown t n (length text) s reading e v shows) at (read-says reading read) in
+    (says .number-is, says .array′-is))
+    (omega arith) (write-says t call)

@@ -1,8 +1,9 @@
 -- What the contracts of a board's calls allow: of the memory m before a call, the answer k, and the memory m′ behind it.
 use Prim.Native.Nat.{ℕ, _<_}
 use mathlib.Core.Path.{_≡_}
-use mathlib.Core.Bool.{true, false}
+use mathlib.Core.Bool.{true, false, cond}
 use mathlib.Core.List.{List}
+use lib.Dec.{eqb}
 use lib.ListN.{length}
 use Rattle.refusals.specs.Table.{InvalidMoment, FullBoard, EmptySlot}
 use Rattle.refusals.specs.Answers.{given, refused}
@@ -19,7 +20,7 @@ use Rattle.fuzzydate.proofs.fuzzy_board_remove_in.Reads as remove'
 use Rattle.fuzzydate.proofs.fuzzy_board_again_in.Reads as again'
 use Rattle.fuzzydate.proofs.fuzzy_board_head_in.Reads as head'
 use Rattle.fuzzydate.proofs.fuzzy_board_order_in.Reads as order'
-use Rattle.agreed.specs.Calls.{Called, number, size}
+use Rattle.agreed.specs.Calls.{Called, Read, number, size}
 
 -- `fuzzy_board_make_in` at a now
 abbrev pub Make : Moment → Memory → ℕ → Memory → Type 0
@@ -102,3 +103,27 @@ pub data Removes (s : ℕ) (m : Memory) : ℕ → Memory → Type 0 where
 pub data Moves (n : Moment) (m : Memory) : ℕ → Memory → Type 0 where
   moved : {m′ : Memory} → isMoment n ≡ true → MovedTo n m m′ → Moves n m 0 m′
   unmoved : isMoment n ≡ false → Moves n m InvalidMoment m
+
+-- what an app knows of a slot: nothing lies there, or the phrase that it added there in the reading of a number
+pub data Known : Type 0 where
+  nothing-there : Known
+  added : ℕ → List ℕ → Known
+
+-- the same of all slots but one
+abbrev pub changedAt : ℕ → Known → (ℕ → Known) → ℕ → Known
+changedAt s x known i = cond (eqb i s) x (known i)
+
+-- a board made by the calls, beside what the app knows of its slots by the answers it got
+pub data Followed : (ℕ → Known) → Memory → Type 0 where
+  begun : {n : Moment} {m m′ : Memory} → Sized m → Make n m 0 m′ → Followed (λ s. nothing-there) m′
+  made-again : {known : ℕ → Known} {n : Moment} {m m′ : Memory} → Followed known m → Make n m 0 m′ → Followed (λ s. nothing-there) m′
+  put-there : {known : ℕ → Known} {reading : ℕ} {phrase : List ℕ} {m m′ : Memory} {k : ℕ} → Followed known m → Add reading phrase m k m′ → number k ≡ 0 →
+      Followed (changedAt (size k) (added reading phrase) known) m′
+  taken-out : {known : ℕ → Known} {s : ℕ} {m m′ : Memory} → Followed known m → Remove s m 0 m′ → Followed (changedAt s nothing-there known) m′
+  run-again : {known : ℕ → Known} {n : Moment} {m m′ : Memory} → Followed known m → Again n m 0 m′ → Followed known m′
+  left-alone : {known : ℕ → Known} {m m′ : Memory} {k : ℕ} → Followed known m → Changed m k m′ → (number k ≡ 0 → ⊥) → Followed known m′
+
+-- what is due first is a phrase that the app added: reading it at the board's now gives 0 and the same seven numbers
+pub data IsFirst (n : Moment) (array : List ℕ) : Known → Type 0 where
+  reads : {reading : ℕ} {phrase : List ℕ} →
+      ((hub hub′ : List ℕ) (r : ℕ) → Read reading phrase n hub r hub′ → (r ≡ 0) × (hub′ ≡ array)) → IsFirst n array (added reading phrase)

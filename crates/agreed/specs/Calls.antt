@@ -1,22 +1,33 @@
 -- What the contracts of the functions that apps call allow, in an app's terms.
-use Prim.Native.Nat.{ℕ, _+_, _*_, _/_, _%_, _≤_, _<_}
+use Prim.Native.Nat.{ℕ, suc, _+_, _*_, _/_, _%_, _≤_, _<_}
 use mathlib.Core.Path.{_≡_}
 use mathlib.Core.List.{List, [], _∷_}
 use mathlib.Core.Logic.{_⊎_}
 use lib.ListN.{length, take, drop}
-use Rattle.calendar.specs.Moments.{IsMoment, seven, instantOf, NotAfter, momentNumbers, momentIn}
+use lib.Seq.{sets}
+use Rattle.calendar.specs.Moments.{IsMoment, seven, instantOf, NotAfter, momentNumbers, momentIn, atDay, dayOfMoment}
 use Rattle.calendar.specs.declared.moments.Moment.{Moment}
+use Rattle.refusals.specs.Table.{InvalidMoment, NoRule, NoStart}
 use Rattle.refusals.specs.Answers.{Answer, given}
+use Rattle.rules.specs.Rules.{readRule}
+use Rattle.rules.specs.declared.Rule.{Rule}
+use Rattle.repeats.specs.Courses.{countOf}
+use Rattle.repeats.specs.Listing.{rows}
+use Rattle.repeats.proofs.Laws.{Occurs}
 use Rattle.records.specs.Records.{readySize}
+use Rattle.stamp.specs.Stamps.{IsOffset}
+use Rattle.stamp.specs.declared.Stamp.{Stamp}
 use Rattle.zones.specs.declared.instants.Instant.{Instant}
 use Rattle.zoned.specs.Local.{IsLocal}
 use Rattle.zoned.specs.declared.local.Local.{Local}
-use Rattle.fuzzydate.specs.Called.{momentAfter, instantFrom, dueAfter, localAfter}
+use Rattle.fuzzydate.specs.Called.{stampIn, momentAfter, instantFrom, dueAfter, localAfter}
 use Rattle.fuzzydate.proofs.fuzzy_read.Reads as read'
 use Rattle.fuzzydate.proofs.fuzzy_run.Reads as run'
 use Rattle.fuzzydate.proofs.fuzzy_read_in_zone.Reads as zone-read'
 use Rattle.fuzzydate.proofs.fuzzy_run_in_zone.Reads as zone-run'
 use Rattle.fuzzydate.proofs.fuzzy_make_ready.Reads as make'
+use Rattle.fuzzydate.proofs.fuzzy_read_stamp.Reads as stamp-read'
+use Rattle.fuzzydate.proofs.fuzzy_write_stamp.Reads as stamp-write'
 use Rattle.fuzzydate.proofs.fuzzy_find_word.Reads as find'
 use Rattle.fuzzydate.proofs.fuzzy_write_phrase.Reads as show'
 use Rattle.fuzzydate.proofs.fuzzy_list_in.Reads as list'
@@ -45,6 +56,16 @@ pub data IsReading : ℕ → Type 0 where
 pub record MakeReady (reading : ℕ) (phrase array : List ℕ) (k : ℕ) (array′ : List ℕ) : Type 0 where
   pub bytes : length array ≡ readySize
   pub call : Called make'.Post (ℕ × List ℕ) (List ℕ) (λ κs a g. (a .0, a .1 .0 .now)) (λ κs a l. a .1 .1 .0 .now) (λ κs e l. e .1 .1 .0 .now) (reading, phrase) array k array′
+
+-- `fuzzy_read_stamp`, of a text
+abbrev pub ReadStamp : List ℕ → List ℕ → ℕ → List ℕ → Type 0
+ReadStamp text array k array′ =
+    Called stamp-read'.Post (List ℕ) (List ℕ) (λ κs a g. a .0 .now) (λ κs a l. a .1 .0 .now) (λ κs e l. e .1 .0 .now) text array k array′
+
+-- `fuzzy_write_stamp`, of a stamp
+abbrev pub WriteStamp : Stamp → List ℕ → ℕ → List ℕ → Type 0
+WriteStamp st text k text′ =
+    Called stamp-write'.Post Stamp (List ℕ) (λ κs a g. stampIn (a .0 .now)) (λ κs a l. a .1 .0 .now) (λ κs e l. e .1 .0 .now) st text k text′
 
 -- `fuzzy_write_phrase`, of a moment
 abbrev pub WritePhrase : Moment → List ℕ → ℕ → List ℕ → Type 0
@@ -185,3 +206,41 @@ Earlier rows asked i = (j : ℕ) → j < i → instantOf (rowAt rows j) < instan
 pub data FirstRow (rows : List ℕ) (count : ℕ) (asked : Moment) (array : List ℕ) : ℕ → List ℕ → Type 0 where
   row : (i : ℕ) → i < count → NotAfter asked (rowAt rows i) → Earlier rows asked i → FirstRow rows count asked array 0 (seven (rowAt rows i))
   none : Earlier rows asked count → FirstRow rows count asked array 20 array
+
+-- one of some numbers
+abbrev pub OneOf : List ℕ → ℕ → Type 0
+OneOf [] n = ⊥
+OneOf (x ∷ xs) n = (n ≡ x) ⊎ OneOf xs n
+
+-- a stamp that exists
+pub record IsStamp (st : Stamp) : Type 0 where
+  pub moment : IsMoment (st .moment)
+  pub offset : IsOffset (st .offset)
+
+-- what a call that writes a text may answer and leave: the length of a text with a property, and the text in front of what was there; or one
+-- of some refusals, and nothing written
+pub data Wrote (P : List ℕ → Type 0) (numbers text : List ℕ) : ℕ → List ℕ → Type 0 where
+  wrote : {bytes : List ℕ} → P bytes → Wrote P numbers text (4294967296 * length bytes) (sets text 0 bytes)
+  unwritten : {k : ℕ} → OneOf numbers k → Wrote P numbers text k text
+
+-- where an occurrence on a day stands among the rows that a listing left: it is one of them; or they are as many as the room or COUNT allows, and
+-- all before it
+pub data Stands (r : Rule) (t : Moment) (room count : ℕ) (left : List ℕ) (n : ℕ) : Type 0 where
+  row-of : (i : ℕ) → i < count → rowAt left i ≡ atDay n t → Stands r t room count left n
+  no-room : (count ≡ room) ⊎ (count ≡ countOf (r .bound)) → Earlier left (atDay n t) count → Stands r t room count left n
+
+-- the rows of a rule from a start on: "in order", "the start is the first occurrence", each is a moment and occurs by the rule at the start's time
+-- of day, and none that there is room for is missing
+pub record Listed (r : Rule) (t : Moment) (room count : ℕ) (left : List ℕ) : Type 0 where
+  pub fits : count ≤ room
+  pub first : 0 < room → rowAt left 0 ≡ t
+  pub in-order : (i : ℕ) → suc i < count → instantOf (rowAt left i) < instantOf (rowAt left (suc i))
+  pub moments : (i : ℕ) → i < count → IsMoment (rowAt left i)
+  pub occurs : (i : ℕ) → i < count → Occurs r t (dayOfMoment (rowAt left i)) × (atDay (dayOfMoment (rowAt left i)) t ≡ rowAt left i)
+  pub all : (n : ℕ) → Occurs r t n → Stands r t room count left n
+
+-- what listing a rule may answer and leave: the count of rows, and these in front; or 8, 18 or 19, and nothing written
+pub data Lists (s : List ℕ) (t : Moment) (lent : List ℕ) : ℕ → List ℕ → Type 0 where
+  listed : {r : Rule} (l : List ℕ) → readRule s ≡ given r → Listed r t (length lent / momentNumbers) (length l) (sets lent 0 (rows t l)) →
+      Lists s t lent (4294967296 * length l) (sets lent 0 (rows t l))
+  unlisted : {k : ℕ} → OneOf (InvalidMoment ∷ NoRule ∷ NoStart ∷ []) k → Lists s t lent k lent

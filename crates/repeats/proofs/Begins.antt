@@ -39,7 +39,7 @@ same-repeat r t = by (r .freq)
     by Monthly = refl
 
 -- no rule goes past the calendar
-limit-in : (b : Bound) (t : Moment) → IsBound b → limitOf b t ≤ days
+pub limit-in : (b : Bound) (t : Moment) → IsBound b → limitOf b t ≤ days
 limit-in Endless t v = omega arith
 limit-in (Count n) t v = omega arith
 limit-in (UntilDay y m d) t v = omega (arith, in-days v)

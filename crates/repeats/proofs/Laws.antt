@@ -65,7 +65,7 @@ later : (b n : ℕ) (l : List ℕ) → Increasing b l → In n l → b ≤ n
 later b n [] i e = absurd e
 later b n (m ∷ l) i e = let low = i .0 in ⊎-elim (λ (p : n ≡ m). omega arith) (λ p. let h = later (suc m) n l (i .1) p in omega arith) e
 
-cut : (c b n : ℕ) (l : List ℕ) → Increasing b l → In n l → In n (take c l) ⊎ Cut c n (take c l)
+pub cut : (c b n : ℕ) (l : List ℕ) → Increasing b l → In n l → In n (take c l) ⊎ Cut c n (take c l)
 cut zero b n l i e = inr (record { full = refl; before = tt })
 cut (suc c) b n [] i e = absurd e
 cut (suc c) b n (m ∷ l) i e = ⊎-elim (λ (p : n ≡ m). inl (inl p)) (λ p. ⊎-elim (λ q. inl (inr q)) (λ q. inr (more p q)) (cut c (suc m) n l (i .1) p)) e
