@@ -2,6 +2,8 @@
 
 import re
 
+from blocks import Wrong
+
 
 def anchor(heading):
     """The name that a heading has in an address: small letters, digits, hyphens for spaces, and nothing else."""
@@ -30,3 +32,10 @@ def broken(root, file):
         elif heading and (path.is_dir() or heading not in anchors_of(path)):
             found.append(link)
     return found
+
+
+def follow(root, file):
+    """Wrong, with the links that lead nowhere."""
+    found = broken(root, file)
+    if found:
+        raise Wrong("these links lead nowhere: " + ", ".join(found))

@@ -17,8 +17,11 @@ for the answer of the column before it. Each function of the header has its head
 """
 
 import datetime
+import functools
 import re
 import sys
+
+from blocks import Wrong
 
 A = datetime.datetime(2026, 2, 11, 9, 30, 15)
 SECOND_WORDS = ["forty", "fortieth", "eighth"]
@@ -36,9 +39,9 @@ def tables_of(text):
             yield tuple(cells(lines[0])), [cells(line) for line in lines[2:]]
 
 
-def expect(wrong, what, wanted, said):
+def expect(what, wanted, said):
     if wanted != said:
-        raise wrong(f"{what}: it should be\n  {wanted}\nand is written as\n  {said}")
+        raise Wrong(f"{what}: it should be\n  {wanted}\nand is written as\n  {said}")
 
 
 class Library:
@@ -74,70 +77,70 @@ class Library:
         return self.answer(self.local, phrase, asked)
 
 
-def compare_readings(library, wrong, phrase, now, first, second):
+def compare_readings(library, phrase, now, first, second):
     """A phrase in both readings."""
     answers = [library.read(reading, phrase, now) for reading in (1, 2)]
-    expect(wrong, f"{phrase}, reading 1", answers[0], first)
-    expect(wrong, f"{phrase}, reading 2", "the same" if answers[0] == answers[1] else answers[1], second)
+    expect(f"{phrase}, reading 1", answers[0], first)
+    expect(f"{phrase}, reading 2", "the same" if answers[0] == answers[1] else answers[1], second)
 
 
-def compare_phrases(library, root, wrong, rows):
+def compare_phrases(library, root, rows):
     for row in rows:
-        compare_readings(library, wrong, row[0].strip("`"), A, row[1], row[2])
+        compare_readings(library, row[0].strip("`"), A, row[1], row[2])
 
 
-def compare_nows(library, root, wrong, rows):
+def compare_nows(library, root, rows):
     for row in rows:
-        compare_readings(library, wrong, row[0].strip("`"), datetime.datetime.fromisoformat(row[1]), row[2], row[3])
+        compare_readings(library, row[0].strip("`"), datetime.datetime.fromisoformat(row[1]), row[2], row[3])
 
 
-def compare_instead(library, root, wrong, rows):
+def compare_instead(library, root, rows):
     for written, refused, instead, means, *_ in rows:
         for reading in (1, 2):
-            expect(wrong, f"{written}, reading {reading}", library.read(reading, written.strip("`")), refused)
-            expect(wrong, f"{instead}, reading {reading}", library.read(reading, instead.strip("`")), means)
+            expect(f"{written}, reading {reading}", library.read(reading, written.strip("`")), refused)
+            expect(f"{instead}, reading {reading}", library.read(reading, instead.strip("`")), means)
 
 
-def compare_zones(library, root, wrong, rows):
+def compare_zones(library, root, rows):
     for phrase, asked, means, *_ in rows:
-        expect(wrong, f"{phrase} at {asked}", library.in_zone(phrase.strip("`"), asked), means)
+        expect(f"{phrase} at {asked}", library.in_zone(phrase.strip("`"), asked), means)
 
 
-def compare_examples(library, root, wrong, rows, endings=("",)):
+def compare_examples(library, root, rows, endings=("",)):
     """Each phrase between backticks is accepted, with one of the endings."""
     for phrase in re.findall("`(.*?)`", " ".join(cell for row in rows for cell in row)):
         for reading in (1, 2):
             answers = [library.read(reading, phrase + ending) for ending in endings]
-            expect(wrong, f"{phrase}, refused in reading {reading}", False, all(answer.startswith("refused") for answer in answers))
+            expect(f"{phrase}, refused in reading {reading}", False, all(answer.startswith("refused") for answer in answers))
 
 
-def compare_forms(library, root, wrong, rows):
-    compare_examples(library, root, wrong, rows, ("", " from now", " days ago"))
+def compare_forms(library, root, rows):
+    compare_examples(library, root, rows, ("", " from now", " days ago"))
 
 
-def compare_words(library, root, wrong, rows):
+def compare_words(library, root, rows):
     """The listed words are the keywords; those that only the second reading has stand in its column."""
     keywords = re.findall(r'(?m)^    word "([a-z]+)"', (root / "crates/lexer/specs/Keywords.antt").read_text())
     first, second = [" ".join(row[column] for row in rows).replace(",", " ").split() for column in (1, 2)]
-    expect(wrong, "the words of both readings", sorted(keywords), sorted(first))
-    expect(wrong, "the words of reading 2 alone", sorted(SECOND_WORDS), sorted(second))
+    expect("the words of both readings", sorted(keywords), sorted(first))
+    expect("the words of reading 2 alone", sorted(SECOND_WORDS), sorted(second))
     for reading, words in ((1, keywords), (2, keywords + SECOND_WORDS)):
         absent = [word for word in words if not library.calls.find_word(reading, word).code]
-        expect(wrong, f"the listed words that reading {reading} does not have", [], absent)
+        expect(f"the listed words that reading {reading} does not have", [], absent)
 
 
-def compare_refusals(library, root, wrong, rows):
+def compare_refusals(library, root, rows):
     header = (root / "include/fuzzy.h").read_text()
     names = re.findall(r"(?m)^    FUZZY_([A-Z_]+) = (\d+),? *(?:/\*|$)", header[header.index("enum fuzzy_refusal {"):])
     words = dict(re.findall(r'case FUZZY_([A-Z_]+): return "(.*)";', header))
     wanted = [[number, name, words[name]] for name, number in names]
-    expect(wrong, "the refusals", wanted, [[row[0], row[1].strip("`"), row[2]] for row in rows])
+    expect("the refusals", wanted, [[row[0], row[1].strip("`"), row[2]] for row in rows])
 
 
-def compare_constants(library, root, wrong, rows):
+def compare_constants(library, root, rows):
     header = (root / "include/fuzzy.h").read_text()
     wanted = re.findall(r"(?m)^#define (FUZZY_(?!H$|ASSERT)\w+) (.+)$", header)
-    expect(wrong, "the constants", sorted(wanted), sorted((row[0].strip("`"), row[1]) for row in rows))
+    expect("the constants", sorted(wanted), sorted((row[0].strip("`"), row[1]) for row in rows))
 
 
 KINDS = {
@@ -160,7 +163,7 @@ def declarations(text):
     return {name: " ".join(declaration.split()) for declaration, name in found}
 
 
-def compare_calls(root, wrong, text):
+def compare_calls(root, text):
     """API.md has a heading and the declaration of every function of the header."""
     header = declarations((root / "include/fuzzy.h").read_text())
     sections = re.split(r"(?m)^### ", text)[1:]
@@ -169,19 +172,19 @@ def compare_calls(root, wrong, text):
         for declaration in re.findall(r"(?ms)^```c\n((?:uint|int|const).*?)^```", section):
             named.update(declarations(declaration))
     missing = [name for name in header if name not in named and not name.endswith("_in")]
-    expect(wrong, "functions of the header that docs/API.md does not have", [], missing)
+    expect("functions of the header that docs/API.md does not have", [], missing)
     for name, declaration in named.items():
-        expect(wrong, name, header.get(name), declaration)
+        expect(name, header.get(name), declaration)
 
 
-def checks(root, folder, files):
-    """What can be compared, each with its name."""
+def tries(root, folder, files):
+    """What is compared, each with its name."""
     library = Library(folder, root)
     for file in files:
         text = (root / file).read_text()
         for header, rows in tables_of(text):
             for kind, compare in KINDS.items():
                 if header[: len(kind)] == kind:
-                    yield f"{file}, {len(rows)} rows of {', '.join(kind)}", lambda wrong: compare(library, root, wrong, rows)
+                    yield f"{file}, {len(rows)} rows of {', '.join(kind)}", functools.partial(compare, library, root, rows)
         if file == "docs/API.md":
-            yield f"{file}, declarations", lambda wrong: compare_calls(root, wrong, text)
+            yield f"{file}, declarations", functools.partial(compare_calls, root, text)
