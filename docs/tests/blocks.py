@@ -189,6 +189,10 @@ def try_program(blocks):
     expect([line for block in blocks for line in says(block.text)], runner(blocks).splitlines())
 
 
+# The tools that console blocks begin with, and Debian's packages of them.
+PACKAGES = {"cc": "gcc", "zic": "libc-bin", "npm": "npm", "node": "nodejs", "pip": "python3-pip", "python3": "python3-venv"}
+
+
 def commands_of(text):
     """Each command of a console block with the lines that it writes. The line after a backslash at the end goes on with it."""
     commands, goes_on = [], False
@@ -209,6 +213,9 @@ def try_console(block, kit):
     if block.need == "kit" and not kit:
         raise Skip("it needs the kit and takes long: docs/test --kit")
     commands = commands_of(block.text)
+    for tool in (command.split()[0] for command, _ in commands):
+        if tool in PACKAGES:
+            need(tool, PACKAGES[tool])
     script = "".join(f"{command}\nprintf '\\0'\n" for command, _ in commands)
     said = run(["bash", "-euo", "pipefail", "-c", script], env=environment())
     for (_, output), written_lines in zip(commands, said.split("\0")):
