@@ -190,7 +190,7 @@ def try_program(blocks):
 
 
 # The tools that console blocks begin with, and Debian's packages of them.
-PACKAGES = {"cc": "gcc", "zic": "libc-bin", "npm": "npm", "node": "nodejs", "pip": "python3-pip", "python3": "python3-venv"}
+PACKAGES = {"cc": "gcc", "zic": "libc-bin", "npm": "npm", "node": "nodejs", "python3": "python3-venv"}
 
 
 def commands_of(text):

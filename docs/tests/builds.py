@@ -1,9 +1,8 @@
 """Tries the build files that the documents show, each with a program of three lines that says the library's version."""
 
-import os
 import shutil
 
-from blocks import ARCHIVE, ROOM, ROOT, expect, need, run
+from blocks import ROOM, ROOT, TARGET, expect, need, run
 
 VERSION = ["1000000"]
 PROGRAM = '#include "fuzzy.h"\n#include <stdio.h>\nint main(void) { printf("%u\\n", (unsigned)fuzzy_version()); return 0; }\n'
@@ -19,25 +18,14 @@ def fresh(name):
 
 
 def try_cmake(text):
-    """An app whose CMakeLists.txt has the block."""
+    """An app whose CMakeLists.txt has the block, beside the C package."""
     app = fresh("cmake")
+    run(["bindings/c/package", app / "c", TARGET])
     (app / "app.c").write_text(PROGRAM)
     (app / "CMakeLists.txt").write_text(f"cmake_minimum_required(VERSION 3.13)\nproject(app C)\nadd_executable(app app.c)\n{text}")
-    run(["cmake", "-S", app, "-B", app / "build", f"-DFUZZYDATE={ARCHIVE}"])
+    run(["cmake", "-S", app, "-B", app / "build", f"-DCMAKE_PREFIX_PATH={app / 'c'}"])
     run(["cmake", "--build", app / "build"])
     return run([app / "build" / "app"])
-
-
-def try_pkg_config(text):
-    """A program that pkg-config says how to build, with the block as fuzzydate.pc beside a copy of the archive."""
-    folder = fresh("pc")
-    for name in ("fuzzy.h", "libfuzzydate.a"):
-        shutil.copy(ARCHIVE / name, folder)
-    (folder / "fuzzydate.pc").write_text(text)
-    (folder / "app.c").write_text(PROGRAM)
-    words = run(["pkg-config", "--cflags", "--libs", "fuzzydate"], env={**os.environ, "PKG_CONFIG_PATH": str(folder)}).split()
-    run(["gcc", folder / "app.c", *words, "-o", folder / "app"])
-    return run([folder / "app"])
 
 
 def try_cargo(text):
@@ -53,7 +41,6 @@ def try_cargo(text):
 # The tool that a block's language needs, Debian's package of it, and how the block is tried.
 TRIED = {
     "cmake": ("cmake", "cmake", try_cmake),
-    "pc": ("pkg-config", "pkg-config", try_pkg_config),
     "toml": ("cargo", "cargo", try_cargo),
 }
 
