@@ -204,7 +204,7 @@ def occurrences(rule: Text, start: datetime, most: int) -> List[datetime]:
     """Lists the first occurrences of a repeating rule of RFC 5545, in order, from its start on: at most so many.
 
     The start is the first one, and every one has its time of day; COUNT, UNTIL and the year 9999 end them. The rule is its text,
-    such as "FREQ=WEEKLY;INTERVAL=2;BYDAY=TU"; fuzzy.h says which are accepted. Memory is taken for `most`, whatever the rule has.
+    such as "FREQ=WEEKLY;INTERVAL=2;BYDAY=TU"; fuzzy.h says which are accepted. There is memory for `most`, whatever the rule has.
     """
     size = _library.MOMENT_NUMBERS
     text, moments = _bytes(rule), (ctypes.c_uint32 * (size * min(most, _library.MOST_OCCURRENCES)))()

@@ -43,7 +43,7 @@ def refused(reason, call, *arguments):
     return refusal
 
 
-def lent(*numbers):
+def array(*numbers):
     """Numbers as the library takes them."""
     return (ctypes.c_uint32 * len(numbers))(*numbers)
 
@@ -103,10 +103,10 @@ def below():
     """What datetime, Reading and the buffers of this binding keep from arising."""
     moment, text = (ctypes.c_uint32 * 7)(), ctypes.create_string_buffer(29)
     answers = {
-        Reason.INVALID_MOMENT: _library.read(1, b"today", 5, lent(2026, 2, 30, 0, 0, 0, 0), moment),
-        Reason.NO_READING: _library.read(3, b"today", 5, lent(2026, 2, 11, 0, 0, 0, 0), moment),
-        Reason.NO_ROOM: _library.write_phrase(lent(2026, 3, 4, 9, 5, 0, 0), text, 19),
-        Reason.NO_STAMP: _library.write_stamp(lent(2026, 3, 4, 9, 5, 0, 0, 2, 0), text, 29),
+        Reason.INVALID_MOMENT: _library.read(1, b"today", 5, array(2026, 2, 30, 0, 0, 0, 0), moment),
+        Reason.NO_READING: _library.read(3, b"today", 5, array(2026, 2, 11, 0, 0, 0, 0), moment),
+        Reason.NO_ROOM: _library.write_phrase(array(2026, 3, 4, 9, 5, 0, 0), text, 19),
+        Reason.NO_STAMP: _library.write_stamp(array(2026, 3, 4, 9, 5, 0, 0, 2, 0), text, 29),
     }
     for reason, answer in answers.items():
         refused(reason, fuzzydate._checked, answer)
@@ -221,8 +221,8 @@ def rows():
         (mondays, start, Reason.NO_START, []),
         (b"FREQ=YEARLY", no_day, Reason.INVALID_MOMENT, []),
     ]:
-        listed = lent(*kept)
-        expect(_library.list_in(rule, len(rule), lent(*given), listed, 20) == answer, rule)
+        listed = array(*kept)
+        expect(_library.list_in(rule, len(rule), array(*given), listed, 20) == answer, rule)
         expect(list(listed) == written + kept[len(written) :], rule)
     for rule, given, asked, answer, written in [
         (daily, start, later, 0, [*later]),
@@ -232,8 +232,8 @@ def rows():
         (mondays, no_day, later, Reason.INVALID_MOMENT, []),
         (daily, start, no_day, Reason.INVALID_MOMENT, []),
     ]:
-        found = lent(*kept)
-        expect(_library.next(rule, len(rule), lent(*given), lent(*asked), found) == answer, rule)
+        found = array(*kept)
+        expect(_library.next(rule, len(rule), array(*given), array(*asked), found) == answer, rule)
         expect(list(found) == written + kept[len(written) :], rule)
 
 
@@ -327,7 +327,7 @@ def zone_files():
     undue(Reason.NO_ZONE, "now", longest + b"\0", BEFORE_GAP)
 
 
-def lent_in_zones():
+def buffers_in_zones():
     """The buffers of both calls: written on success, and unchanged on a refusal."""
     ready = fuzzydate.make_ready(1, "now")
     for zone, second, millisecond, answer in [
@@ -338,7 +338,7 @@ def lent_in_zones():
         (b"TZif2", 1772951400, 1000, Reason.NO_ZONE),
     ]:
         for call, given in [(_library.read_in_zone, (1, b"now", 3)), (_library.run_in_zone, (ready, len(ready)))]:
-            due, local = ctypes.c_int64(0xA5), lent(*[0xA5] * 10)
+            due, local = ctypes.c_int64(0xA5), array(*[0xA5] * 10)
             expect(call(*given, zone, len(zone), second, millisecond, due, local) == answer, second)
             written = [2026, 3, 8, 1, 30, 0, 999, 1, 18000] if answer == 0 else [0xA5] * 9
             expect(due.value == (second if answer == 0 else 0xA5) and list(local) == [*written, 0xA5], second)
@@ -385,7 +385,7 @@ def refused_boards():
     expect(board.order() == [*range(1, 256), 0], "the order of a full board")
     expect(board.remove(77) is None and board.add(1, "now") == 77 and board.head() == Due(77, NOW), "a slot of a full board")
     # what datetime and Reading keep from arising
-    before, no_day = memory(board), lent(2026, 2, 30, 0, 0, 0, 0)
+    before, no_day = memory(board), array(2026, 2, 30, 0, 0, 0, 0)
     answers = {
         Reason.INVALID_MOMENT: _library.board_again(board._ready, board._lengths, board._keys, board._state, no_day),
         Reason.NO_READING: _library.board_add(board._ready, board._lengths, board._keys, board._state, 3, b"now", 3),
@@ -532,7 +532,7 @@ def versions(version):
 def every(seed):
     for part in (moments, refusals, below, stamps, words, phrases, rules, parts_of_milliseconds, refused_rules, rows):
         part()
-    for part in (zones, refused_in_zones, zone_offsets, zone_files, lent_in_zones):
+    for part in (zones, refused_in_zones, zone_offsets, zone_files, buffers_in_zones):
         part()
     for part in (boards, refused_boards, names_of_datetimes, misused):
         part()

@@ -335,7 +335,7 @@ func refusedRules() {
 }
 
 /// 09:30:15.250 on a day of February 2026, as the library takes it.
-func lent(_ day: UInt32) -> fuzzy_moment {
+func february(_ day: UInt32) -> fuzzy_moment {
     fuzzy_moment(year: 2026, month: 2, day: day, hour: 9, minute: 30, second: 15, millisecond: 250)
 }
 
@@ -353,7 +353,7 @@ func rows() {
         let text = Array(rule.utf8), untouched = [UInt32](repeating: 0xa5, count: 20)
         var listed = untouched, next = fuzzy_moment()
         next.year = 0xa5
-        var start = lent(10), asked = lent(11)
+        var start = february(10), asked = february(11)
         let answer = characters(text) { fuzzy_list_in($0, $1, &start, &listed, 20) }
         expect(fuzzy_length(answer) == count && Array(listed[(7 * count)...]) == Array(untouched[(7 * count)...]), rule + ", listed")
         let found = characters(text) { fuzzy_next($0, $1, &start, &asked, &next) }
@@ -464,10 +464,10 @@ func zoneFiles() throws {
 }
 
 /// The buffers of both calls are unchanged on a refusal.
-func lentInZones() throws {
+func buffersInZones() throws {
     let ready = try Fuzzydate.makeReady(.first, "now")
     for (zone, number) in [(newYork, 22), ([], 21)] as [([UInt8], UInt32)] {
-        var due: Int64 = 0xa5, local = fuzzy_local(moment: lent(10), west: 0xa5, offset: 0xa5)
+        var due: Int64 = 0xa5, local = fuzzy_local(moment: february(10), west: 0xa5, offset: 0xa5)
         let read = characters(Array("now".utf8)) {
             fuzzy_read_in_zone(1, $0, $1, zone, UInt64(zone.count), last.second, 0, &due, &local)
         }
@@ -601,7 +601,7 @@ func every() throws {
     try zones()
     refusedInZones()
     try zoneFiles()
-    try lentInZones()
+    try buffersInZones()
     try boards()
     try refusedBoards()
     try garbage()

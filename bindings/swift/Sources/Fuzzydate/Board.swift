@@ -18,7 +18,7 @@ extension Fuzzydate {
 
         /// An empty board at a now.
         public init(now: Moment) throws {
-            var now = now.lent
+            var now = now.forC
             try Fuzzydate.answered { fuzzy_board_make_in(&lengths, &state, &now) }
         }
 
@@ -45,7 +45,7 @@ extension Fuzzydate {
 
         /// Runs all reminders again at another now, later or earlier, which is then the board's.
         public mutating func again(now: Moment) throws {
-            var now = now.lent
+            var now = now.forC
             try Fuzzydate.answered { fuzzy_board_again_in(ready, lengths, &keys, &state, &now) }
         }
 

@@ -18,7 +18,7 @@ public enum Fuzzydate {
 
     /// Reads a phrase at a now. Where it states a time, noon and midnight included, second and millisecond are 0; else they are now's.
     public static func read(_ reading: Reading, _ phrase: [UInt8], now: Moment) throws -> Moment {
-        var now = now.lent, moment = fuzzy_moment()
+        var now = now.forC, moment = fuzzy_moment()
         try answered(phrase) { fuzzy_read(reading.rawValue, $0, $1, &now, &moment) }
         return Moment(moment)
     }
@@ -40,7 +40,7 @@ public enum Fuzzydate {
 
     /// Runs a ready phrase at a now: gives what `read` gives for its phrase at that now, in the reading that it was made in.
     public static func run(_ ready: [UInt8], now: Moment) throws -> Moment {
-        var now = now.lent, moment = fuzzy_moment()
+        var now = now.forC, moment = fuzzy_moment()
         try answered { fuzzy_run(ready, UInt64(ready.count), &now, &moment) }
         return Moment(moment)
     }
@@ -58,14 +58,14 @@ public enum Fuzzydate {
 
     /// Writes a stamp as text, which reads back as the same stamp.
     public static func writeStamp(_ stamp: Stamp) throws -> String {
-        var stamp = stamp.lent
+        var stamp = stamp.forC
         return try written(FUZZY_STAMP_SIZE) { fuzzy_write_stamp(&stamp, $0, $1) }
     }
 
     /// Writes a moment of whole minutes as a phrase that people can edit: "march 4 2026 at 9:05". `read` gives the moment back at
     /// every now, in both readings for the years 1000 to 9999 and in the first for the years 1 to 999.
     public static func writePhrase(_ moment: Moment) throws -> String {
-        var moment = moment.lent
+        var moment = moment.forC
         return try written(FUZZY_PHRASE_SIZE) { fuzzy_write_phrase(&moment, $0, $1) }
     }
 
@@ -82,9 +82,9 @@ public enum Fuzzydate {
 
     /// Lists the first occurrences of a repeating rule of RFC 5545, in order, from its start on: at most so many. The start is the
     /// first one, and every one has its time of day; COUNT, UNTIL and the year 9999 end them. The rule is its text, such as
-    /// "FREQ=WEEKLY;INTERVAL=2;BYDAY=TU"; fuzzy.h says which are accepted. Memory is taken for `most`, whatever the rule has.
+    /// "FREQ=WEEKLY;INTERVAL=2;BYDAY=TU"; fuzzy.h says which are accepted. There is memory for `most`, whatever the rule has.
     public static func occurrences(_ rule: [UInt8], from start: Moment, most: UInt) throws -> [Moment] {
-        var start = start.lent
+        var start = start.forC
         var moments = [fuzzy_moment](repeating: fuzzy_moment(), count: Int(min(most, UInt(FUZZY_MOST_OCCURRENCES))))
         let room = UInt64(moments.count)
         let count = try answered(rule) { fuzzy_list($0, $1, &start, &moments, room) }
@@ -98,7 +98,7 @@ public enum Fuzzydate {
     /// Finds which occurrence comes next: the first at or after the asked moment, the start included. The occurrences before it are
     /// not gone through. Where none is left, by COUNT, UNTIL or the year 9999, it is refused.
     public static func next(_ rule: [UInt8], from start: Moment, asked: Moment) throws -> Moment {
-        var start = start.lent, asked = asked.lent, moment = fuzzy_moment()
+        var start = start.forC, asked = asked.forC, moment = fuzzy_moment()
         try answered(rule) { fuzzy_next($0, $1, &start, &asked, &moment) }
         return Moment(moment)
     }

@@ -19,7 +19,7 @@ extension Fuzzydate {
         }
 
         /// A copy as the library takes it, so that no two buffers of a call overlap.
-        var lent: fuzzy_moment {
+        var forC: fuzzy_moment {
             fuzzy_moment(year: year, month: month, day: day, hour: hour, minute: minute, second: second, millisecond: millisecond)
         }
     }
@@ -48,11 +48,11 @@ extension Fuzzydate {
             offset = stamp.west == 0 ? .east(stamp.offset) : stamp.offset == 0 ? .unknown : .west(stamp.offset)
         }
 
-        var lent: fuzzy_stamp {
+        var forC: fuzzy_stamp {
             switch offset {
-            case .east(let minutes): return fuzzy_stamp(moment: moment.lent, west: 0, offset: minutes)
-            case .west(let minutes): return fuzzy_stamp(moment: moment.lent, west: 1, offset: minutes)
-            case .unknown: return fuzzy_stamp(moment: moment.lent, west: 1, offset: 0)
+            case .east(let minutes): return fuzzy_stamp(moment: moment.forC, west: 0, offset: minutes)
+            case .west(let minutes): return fuzzy_stamp(moment: moment.forC, west: 1, offset: minutes)
+            case .unknown: return fuzzy_stamp(moment: moment.forC, west: 1, offset: 0)
             }
         }
     }
