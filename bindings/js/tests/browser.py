@@ -1,15 +1,18 @@
 """Uses each tab of the page in Chromium as a person would, at two widths, and compares what it shows with the archive of this machine.
 
-browser.py PAGE LIBRARY LIST ZONE SHOTS [COUNT]: the page's file, libfuzzydate.so made from the archive, a list of phrases with their
-nows, a zone's file, a folder for screenshots, and how many phrases are typed in.
+browser.py PAGE PACKAGE LIBRARY LIST ZONE SHOTS [COUNT]: the page's file, the module's folder, libfuzzydate.so made from the archive, a
+list of phrases with their nows, a zone's file, a folder for screenshots, and how many phrases are typed in.
 """
 
 import ctypes
+import functools
+import http.server
 import pathlib
 import random
 import re
 import statistics
 import sys
+import threading
 import time
 from urllib.parse import parse_qs, urlencode, urlsplit
 
@@ -45,6 +48,21 @@ for (const element of document.querySelectorAll("body *")) {
     if ((high + 0.05) / (low + 0.05) < least) faint.push(`${element.className}: ${element.textContent.slice(0, 30)}`);
 }
 return faint;
+"""
+
+
+# The module as a page of a host imports it, with Temporal where the browser has it.
+IMPORTED = """
+const [done] = arguments;
+const wrong = (call) => { try { call(); return "accepted"; } catch (error) { return error.name; } };
+import("/fuzzydate.mjs").then(({ load }) => load()).then((fuzzy) => {
+    const { Temporal } = globalThis, read = (now) => fuzzy.toISO(fuzzy.read(2, "next friday at 3 pm", now));
+    if (!Temporal) return done([fuzzy.version, read("2026-02-11T09:30:15"), "no Temporal"]);
+    const now = Temporal.PlainDateTime.from("2026-02-11T09:30:15"), zoned = now.toZonedDateTime("UTC");
+    const there = fuzzy.toTemporal(fuzzy.fromTemporal(now)).equals(now);
+    const refused = [now.with({ nanosecond: 1 }), zoned, now.toPlainDate()].map((value) => wrong(() => read(value)));
+    done([fuzzy.version, read(now), `${there} ${refused.join(" ")}`]);
+}).catch((error) => done(String(error)));
 """
 
 
@@ -357,6 +375,26 @@ def first_answer(page):
     check(min(shown) <= 100, "the first answer comes late:", shown)
 
 
+class Host(http.server.SimpleHTTPRequestHandler):
+    """A static host that says nothing."""
+
+    def log_message(self, *_):
+        pass
+
+
+def check_import(page, package):
+    """The module, imported from a static host, which it takes its WebAssembly from."""
+    host = http.server.ThreadingHTTPServer(("127.0.0.1", 0), functools.partial(Host, directory=package))
+    threading.Thread(target=host.serve_forever, daemon=True).start()
+    page.browser.get(f"http://127.0.0.1:{host.server_port}/package.json")
+    found = page.browser.execute_async_script(IMPORTED)
+    host.shutdown()
+    version = pathlib.Path("VERSION").read_text().strip()
+    temporal = ("true RangeError TypeError TypeError", "no Temporal")
+    check(found[:2] == [version, "2026-02-20T15:00:00"] and found[2] in temporal, "the module in a browser:", found)
+    print(f"the module imported from a host reads in the browser too; Temporal: {found[2]}")
+
+
 def check_alone(page):
     """The page loads nothing, and its policy holds: no connection, no other script."""
     page.visit(tab="try")
@@ -366,7 +404,7 @@ def check_alone(page):
     page.browser.get_log("browser")
 
 
-def main(path, library, listed, zone, shots, count="500"):
+def main(path, package, library, listed, zone, shots, count="500"):
     folder = pathlib.Path(shots)
     folder.mkdir(parents=True, exist_ok=True)
     page = Page(path, folder)
@@ -384,6 +422,7 @@ def main(path, library, listed, zone, shots, count="500"):
         first_answer(page)
         logs = page.browser.get_log("browser")
         check(not logs, "the console has words:", logs)
+        check_import(page, package)
         check_alone(page)
         print(f"each tab at {WIDTHS[0]} and {WIDTHS[1]} pixels, light and dark: no word in the console, pictures in {shots}")
     finally:
