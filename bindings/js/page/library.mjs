@@ -19,7 +19,7 @@ export const carried = JSON.parse(byId("carried").textContent);
 
 async function loaded() {
     try {
-        return await load(fromBase64(carried.wasm));
+        return await load(new WebAssembly.Module(fromBase64(carried.wasm)));
     } catch (error) {
         byId("failed").hidden = false;
         throw error;

@@ -364,7 +364,10 @@ def check_refusal(page, reading, phrase, expected):
 
 
 def first_answer(page):
-    """How soon the first answer is there, beside an empty page, in milliseconds: the median and the least of some visits."""
+    """How soon the first answer is there, beside an empty page, in milliseconds: the median and the least of some visits.
+
+    Beyond what an empty page takes it has 100 ms: a machine that is busy with other things delays both.
+    """
     empty = page.shots / "empty.html"
     empty.write_text("<!doctype html><title>empty</title><script type=module>"
                      "document.documentElement.dataset.ready = String(Math.round(performance.now()))</script>")
@@ -372,7 +375,7 @@ def first_answer(page):
     empty.unlink()
     shown, bare = zip(*times)
     print(f"first answer after {statistics.median(shown)} ms, at least {min(shown)}; an empty page {statistics.median(bare)}, {min(bare)}")
-    check(min(shown) <= 100, "the first answer comes late:", shown)
+    check(min(shown) - min(bare) <= 100, "the first answer comes late:", shown, bare)
 
 
 class Host(http.server.SimpleHTTPRequestHandler):
