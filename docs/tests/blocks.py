@@ -44,7 +44,10 @@ def blocks_of(file):
 
 def run(command, **options):
     """What a command writes; Wrong, with all that it said, where it fails."""
-    done = subprocess.run(command, cwd=ROOT, text=True, capture_output=True, **options)
+    try:
+        done = subprocess.run(command, cwd=ROOT, text=True, capture_output=True, **options)
+    except OSError as fault:
+        raise Wrong(str(fault)) from fault
     if done.returncode != 0:
         raise Wrong(f"{' '.join(map(str, command))}\n{done.stdout}{done.stderr}")
     return done.stdout
