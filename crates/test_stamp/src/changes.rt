@@ -17,7 +17,7 @@ struct Counts {
 
 impl Counts {
     // One refusal more.
-    fn add(mut self, k: u8) -> Counts {
+    fn add(mut self, k: u32) -> Counts {
         match k {
             12 => self.outside = wrapping_add_u64(self.outside, 1),
             14 => self.no_stamp = wrapping_add_u64(self.no_stamp, 1),
