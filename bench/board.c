@@ -3,6 +3,7 @@
  * `restore` does alone. `ready` makes the last reminder's phrase ready, as `add` does; `scan` runs every ready phrase at the now and keeps
  * the earliest. It fails where the head is another than the scan's, or a call is refused. */
 #include "fuzzy.h"
+#include "page.h"
 
 #include <stdlib.h>
 #include <string.h>
@@ -55,8 +56,9 @@ static uint64_t make_ready(size_t slot) {
     return fuzzy_make_ready(FUZZY_FIRST, phrase, strlen(phrase), ready[slot]);
 }
 
-/* The board as it was, but for the ready phrases, which no call here changes to others. */
-static void restore(const struct fuzzy_board *from) {
+/* The board as it was, but for the ready phrases, which no call here changes to others. Never compiled into its callers: its own
+ * instructions are taken off theirs. */
+static __attribute__((noinline)) void restore(const struct fuzzy_board *from) {
     memcpy(board.keys, from->keys, sizeof board.keys);
     memcpy(board.lengths, from->lengths, sizeof board.lengths);
     memcpy(board.state, from->state, sizeof board.state);
@@ -122,7 +124,7 @@ static int fill(size_t count) {
     uint64_t answer = fuzzy_board_make(&board, &now);
     size_t slot;
     for (slot = 0; slot < count; slot++) {
-        but_last = board;
+        if (slot == count - 1) but_last = board;
         answer = add(slot);
         if (!fuzzy_ok(answer) || fuzzy_length(answer) != slot) return 0;
         lengths[slot] = fuzzy_length(make_ready(slot));
@@ -132,7 +134,7 @@ static int fill(size_t count) {
     return fuzzy_board_head(&board, &moment) == answer && memcmp(&moment, &first, sizeof first) == 0;
 }
 
-int main(int count, char **arguments) {
+static int make_calls(int count, char **arguments) {
     size_t i, reminders_kept;
     unsigned long rounds;
     if (count != 4) return 2;
@@ -146,4 +148,8 @@ int main(int count, char **arguments) {
         return 0;
     }
     return 2;
+}
+
+int main(int count, char **arguments) {
+    return on_a_page(make_calls, count, arguments);
 }

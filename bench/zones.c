@@ -2,6 +2,7 @@
  * zone's file each call is at 2026-02-11T14:30:15.250Z there, without one at 2026-02-11 09:30:15.250, which New York's clocks show then.
  * It fails where one is refused. */
 #include "fuzzy.h"
+#include "page.h"
 
 #include <stdio.h>
 #include <stdlib.h>
@@ -45,7 +46,7 @@ static uint64_t call(const struct phrase *p, int run, int zoned) {
     return fuzzy_read_in_zone(FUZZY_FIRST, p->text, p->length, zone, zone_length, SECOND, MILLISECOND, &due, &local);
 }
 
-int main(int words, char **word) {
+static int make_calls(int words, char **word) {
     FILE *from = words < 4 ? NULL : fopen(word[1], "r"), *file = words < 5 ? NULL : fopen(word[4], "rb");
     int run = words > 2 && strcmp(word[2], "run") == 0;
     unsigned long rounds;
@@ -59,4 +60,8 @@ int main(int words, char **word) {
         }
     }
     return count == 0;
+}
+
+int main(int words, char **word) {
+    return on_a_page(make_calls, words, word);
 }

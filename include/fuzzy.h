@@ -1,8 +1,8 @@
 /* fuzzy.h: reads reminder phrases such as "next friday at 3 pm" at a now that the caller gives. Version 1.0.0.
  *
  * Link with libfuzzydate.a of your target. No function allocates memory, keeps state, or reads a clock, a locale or a
- * file, so every function may run in any thread. The library calls only C's memcpy, memmove and memset (on iOS also
- * bzero).
+ * file, so every function may run in any thread. The library calls only C's memcpy, memmove and memset (on Apple's
+ * systems bzero too), and on 32-bit Arm the division helpers of the compiler's own runtime.
  *
  * What is true of every call
  *   - Every byte string, every number and every ready phrase gets an answer: there is nothing to check before a call.

@@ -98,7 +98,7 @@ static void compare(const char *expected, uint64_t answer, const struct fuzzy_mo
 /* One line of n bytes, without its line feed. */
 static void take_listing(const char *text, size_t n, struct listing *l) {
     struct fuzzy_moment *s = &l->start;
-    unsigned room;
+    unsigned room = 0;
     if (n - HEAD > MOST_RULE ||
         sscanf(text, "%4" SCNu32 "-%2" SCNu32 "-%2" SCNu32 " %2" SCNu32 ":%2" SCNu32 ":%2" SCNu32 " %4" SCNu32 " %4u", &s->year, &s->month,
                &s->day, &s->hour, &s->minute, &s->second, &s->millisecond, &room) != 8) {

@@ -1,7 +1,7 @@
-/* The functions of fuzzydate.Calls over fuzzy.h. Arrays are copied in and out, so that the buffers of a call never overlap, and nothing is kept between
- * calls, so that they may run in any thread. An array that is null or too short, and a copy that there is no memory for, leave one
- * exception, and then nothing is called. A board is the memory of a direct buffer, which is not copied: calls on one board may not run at
- * the same time. */
+/* The functions of fuzzydate.Calls over fuzzy.h. Arrays are copied in and out, so that the buffers of a call never overlap, and nothing is
+ * kept between calls, so that they may run in any thread. An array that is null or too short, and a copy that there is no memory for, leave
+ * one exception, and then nothing is called. A board is the memory of a direct buffer, which is not copied: calls on one board may not run
+ * at the same time. */
 #include "fuzzy.h"
 
 #include <jni.h>
@@ -17,6 +17,9 @@
 #endif
 typedef char board_size[fuzzydate_Calls_BOARD_SIZE == sizeof(struct fuzzy_board) ? 1 : -1];
 #endif
+
+/* A native method of fuzzydate.Calls. */
+#define METHOD(type, name) JNIEXPORT type JNICALL Java_fuzzydate_Calls_##name
 
 static void raise_exception(JNIEnv *env, const char *name, const char *words) {
     jclass found = (*env)->FindClass(env, name);
@@ -84,14 +87,14 @@ static int take_both(JNIEnv *env, jbyteArray one, struct bytes *first, jbyteArra
 /* The board that a direct buffer is, else NULL with an exception. */
 static struct fuzzy_board *take_board(JNIEnv *env, jobject buffer) {
     void *board;
+    jlong capacity;
     if (buffer == NULL) {
         raise_exception(env, "java/lang/NullPointerException", "a board is null");
         return NULL;
     }
     board = (*env)->GetDirectBufferAddress(env, buffer);
-    if (board != NULL && (*env)->GetDirectBufferCapacity(env, buffer) == (jlong)sizeof(struct fuzzy_board) && (uintptr_t)board % sizeof(uint64_t) == 0) {
-        return board;
-    }
+    capacity = (*env)->GetDirectBufferCapacity(env, buffer);
+    if (board != NULL && capacity == (jlong)sizeof(struct fuzzy_board) && (uintptr_t)board % sizeof(uint64_t) == 0) return board;
     raise_exception(env, "java/lang/IllegalArgumentException", "a board is not a direct buffer of its size");
     return NULL;
 }
@@ -128,7 +131,7 @@ static uint64_t room_of(JNIEnv *env, jbyteArray text, uint64_t most) {
     return room < most ? room : most;
 }
 
-JNIEXPORT jlong JNICALL Java_fuzzydate_Calls_read(JNIEnv *env, jclass calls, jint reading, jbyteArray phrase, jintArray now, jintArray moment) {
+METHOD(jlong, read)(JNIEnv *env, jclass calls, jint reading, jbyteArray phrase, jintArray now, jintArray moment) {
     struct fuzzy_moment n, m;
     struct bytes p;
     uint64_t answer;
@@ -139,7 +142,7 @@ JNIEXPORT jlong JNICALL Java_fuzzydate_Calls_read(JNIEnv *env, jclass calls, jin
     return give_moment(env, answer, moment, &m);
 }
 
-JNIEXPORT jlong JNICALL Java_fuzzydate_Calls_makeReady(JNIEnv *env, jclass calls, jint reading, jbyteArray phrase, jbyteArray ready) {
+METHOD(jlong, makeReady)(JNIEnv *env, jclass calls, jint reading, jbyteArray phrase, jbyteArray ready) {
     uint8_t r[FUZZY_READY_SIZE];
     struct bytes p;
     uint64_t answer;
@@ -150,7 +153,7 @@ JNIEXPORT jlong JNICALL Java_fuzzydate_Calls_makeReady(JNIEnv *env, jclass calls
     return give_bytes(env, answer, ready, r);
 }
 
-JNIEXPORT jlong JNICALL Java_fuzzydate_Calls_run(JNIEnv *env, jclass calls, jbyteArray ready, jintArray now, jintArray moment) {
+METHOD(jlong, run)(JNIEnv *env, jclass calls, jbyteArray ready, jintArray now, jintArray moment) {
     struct fuzzy_moment n, m;
     struct bytes r;
     uint64_t answer;
@@ -161,7 +164,7 @@ JNIEXPORT jlong JNICALL Java_fuzzydate_Calls_run(JNIEnv *env, jclass calls, jbyt
     return give_moment(env, answer, moment, &m);
 }
 
-JNIEXPORT jlong JNICALL Java_fuzzydate_Calls_readStamp(JNIEnv *env, jclass calls, jbyteArray text, jintArray stamp) {
+METHOD(jlong, readStamp)(JNIEnv *env, jclass calls, jbyteArray text, jintArray stamp) {
     struct fuzzy_stamp s;
     struct bytes t;
     uint64_t answer;
@@ -172,7 +175,7 @@ JNIEXPORT jlong JNICALL Java_fuzzydate_Calls_readStamp(JNIEnv *env, jclass calls
     return give_numbers(env, answer, stamp, FUZZY_STAMP_NUMBERS, &s);
 }
 
-JNIEXPORT jlong JNICALL Java_fuzzydate_Calls_writeStamp(JNIEnv *env, jclass calls, jintArray stamp, jbyteArray text) {
+METHOD(jlong, writeStamp)(JNIEnv *env, jclass calls, jintArray stamp, jbyteArray text) {
     struct fuzzy_stamp s;
     char t[FUZZY_STAMP_SIZE];
     uint64_t answer;
@@ -182,7 +185,7 @@ JNIEXPORT jlong JNICALL Java_fuzzydate_Calls_writeStamp(JNIEnv *env, jclass call
     return give_bytes(env, answer, text, t);
 }
 
-JNIEXPORT jlong JNICALL Java_fuzzydate_Calls_findWord(JNIEnv *env, jclass calls, jint reading, jbyteArray word, jintArray found) {
+METHOD(jlong, findWord)(JNIEnv *env, jclass calls, jint reading, jbyteArray word, jintArray found) {
     uint32_t f[FUZZY_FOUND_NUMBERS];
     struct bytes w;
     uint64_t answer;
@@ -193,7 +196,7 @@ JNIEXPORT jlong JNICALL Java_fuzzydate_Calls_findWord(JNIEnv *env, jclass calls,
     return give_numbers(env, answer, found, FUZZY_FOUND_NUMBERS, f);
 }
 
-JNIEXPORT jlong JNICALL Java_fuzzydate_Calls_writePhrase(JNIEnv *env, jclass calls, jintArray moment, jbyteArray text) {
+METHOD(jlong, writePhrase)(JNIEnv *env, jclass calls, jintArray moment, jbyteArray text) {
     struct fuzzy_moment m;
     char t[FUZZY_PHRASE_SIZE];
     uint64_t answer;
@@ -203,7 +206,7 @@ JNIEXPORT jlong JNICALL Java_fuzzydate_Calls_writePhrase(JNIEnv *env, jclass cal
     return give_bytes(env, answer, text, t);
 }
 
-JNIEXPORT jlong JNICALL Java_fuzzydate_Calls_listIn(JNIEnv *env, jclass calls, jbyteArray rule, jintArray start, jintArray moments) {
+METHOD(jlong, listIn)(JNIEnv *env, jclass calls, jbyteArray rule, jintArray start, jintArray moments) {
     struct fuzzy_moment s;
     uint32_t *m;
     struct bytes r;
@@ -225,7 +228,7 @@ JNIEXPORT jlong JNICALL Java_fuzzydate_Calls_listIn(JNIEnv *env, jclass calls, j
     return (jlong)answer;
 }
 
-JNIEXPORT jlong JNICALL Java_fuzzydate_Calls_next(JNIEnv *env, jclass calls, jbyteArray rule, jintArray start, jintArray asked, jintArray moment) {
+METHOD(jlong, next)(JNIEnv *env, jclass calls, jbyteArray rule, jintArray start, jintArray asked, jintArray moment) {
     struct fuzzy_moment s, a, m;
     struct bytes r;
     uint64_t answer;
@@ -237,8 +240,8 @@ JNIEXPORT jlong JNICALL Java_fuzzydate_Calls_next(JNIEnv *env, jclass calls, jby
     return give_moment(env, answer, moment, &m);
 }
 
-JNIEXPORT jlong JNICALL Java_fuzzydate_Calls_runInZone(JNIEnv *env, jclass calls, jbyteArray ready, jbyteArray zone, jlong second, jint millisecond,
-                                                       jlongArray due, jintArray local) {
+METHOD(jlong, runInZone)(JNIEnv *env, jclass calls, jbyteArray ready, jbyteArray zone, jlong second, jint millisecond, jlongArray due,
+                         jintArray local) {
     struct fuzzy_local l;
     int64_t d = 0;
     struct bytes r, z;
@@ -251,8 +254,8 @@ JNIEXPORT jlong JNICALL Java_fuzzydate_Calls_runInZone(JNIEnv *env, jclass calls
     return give_local(env, answer, due, d, local, &l);
 }
 
-JNIEXPORT jlong JNICALL Java_fuzzydate_Calls_readInZone(JNIEnv *env, jclass calls, jint reading, jbyteArray phrase, jbyteArray zone, jlong second,
-                                                        jint millisecond, jlongArray due, jintArray local) {
+METHOD(jlong, readInZone)(JNIEnv *env, jclass calls, jint reading, jbyteArray phrase, jbyteArray zone, jlong second, jint millisecond,
+                          jlongArray due, jintArray local) {
     struct fuzzy_local l;
     int64_t d = 0;
     struct bytes p, z;
@@ -265,7 +268,7 @@ JNIEXPORT jlong JNICALL Java_fuzzydate_Calls_readInZone(JNIEnv *env, jclass call
     return give_local(env, answer, due, d, local, &l);
 }
 
-JNIEXPORT jlong JNICALL Java_fuzzydate_Calls_boardMake(JNIEnv *env, jclass calls, jobject board, jintArray now) {
+METHOD(jlong, boardMake)(JNIEnv *env, jclass calls, jobject board, jintArray now) {
     struct fuzzy_moment n;
     struct fuzzy_board *b = take_board(env, board);
     (void)calls;
@@ -273,7 +276,7 @@ JNIEXPORT jlong JNICALL Java_fuzzydate_Calls_boardMake(JNIEnv *env, jclass calls
     return (jlong)fuzzy_board_make(b, &n);
 }
 
-JNIEXPORT jlong JNICALL Java_fuzzydate_Calls_boardAdd(JNIEnv *env, jclass calls, jobject board, jint reading, jbyteArray phrase) {
+METHOD(jlong, boardAdd)(JNIEnv *env, jclass calls, jobject board, jint reading, jbyteArray phrase) {
     struct fuzzy_board *b = take_board(env, board);
     struct bytes p;
     uint64_t answer;
@@ -284,13 +287,13 @@ JNIEXPORT jlong JNICALL Java_fuzzydate_Calls_boardAdd(JNIEnv *env, jclass calls,
     return (jlong)answer;
 }
 
-JNIEXPORT jlong JNICALL Java_fuzzydate_Calls_boardRemove(JNIEnv *env, jclass calls, jobject board, jint slot) {
+METHOD(jlong, boardRemove)(JNIEnv *env, jclass calls, jobject board, jint slot) {
     struct fuzzy_board *b = take_board(env, board);
     (void)calls;
     return b == NULL ? 0 : (jlong)fuzzy_board_remove(b, (uint32_t)slot);
 }
 
-JNIEXPORT jlong JNICALL Java_fuzzydate_Calls_boardAgain(JNIEnv *env, jclass calls, jobject board, jintArray now) {
+METHOD(jlong, boardAgain)(JNIEnv *env, jclass calls, jobject board, jintArray now) {
     struct fuzzy_moment n;
     struct fuzzy_board *b = take_board(env, board);
     (void)calls;
@@ -298,7 +301,7 @@ JNIEXPORT jlong JNICALL Java_fuzzydate_Calls_boardAgain(JNIEnv *env, jclass call
     return (jlong)fuzzy_board_again(b, &n);
 }
 
-JNIEXPORT jlong JNICALL Java_fuzzydate_Calls_boardHead(JNIEnv *env, jclass calls, jobject board, jintArray moment) {
+METHOD(jlong, boardHead)(JNIEnv *env, jclass calls, jobject board, jintArray moment) {
     struct fuzzy_moment m;
     struct fuzzy_board *b = take_board(env, board);
     (void)calls;
@@ -306,7 +309,7 @@ JNIEXPORT jlong JNICALL Java_fuzzydate_Calls_boardHead(JNIEnv *env, jclass calls
     return give_moment(env, fuzzy_board_head(b, &m), moment, &m);
 }
 
-JNIEXPORT jlong JNICALL Java_fuzzydate_Calls_boardOrder(JNIEnv *env, jclass calls, jobject board, jintArray slots) {
+METHOD(jlong, boardOrder)(JNIEnv *env, jclass calls, jobject board, jintArray slots) {
     uint32_t s[FUZZY_BOARD_SLOTS];
     struct fuzzy_board *b = take_board(env, board);
     uint64_t answer;
@@ -316,30 +319,30 @@ JNIEXPORT jlong JNICALL Java_fuzzydate_Calls_boardOrder(JNIEnv *env, jclass call
     return give_numbers(env, answer, slots, (jsize)fuzzy_length(answer), s);
 }
 
-JNIEXPORT jint JNICALL Java_fuzzydate_Calls_number(JNIEnv *env, jclass calls, jlong answer) {
+METHOD(jint, number)(JNIEnv *env, jclass calls, jlong answer) {
     (void)env;
     (void)calls;
     return (jint)fuzzy_number((uint64_t)answer);
 }
 
-JNIEXPORT jint JNICALL Java_fuzzydate_Calls_place(JNIEnv *env, jclass calls, jlong answer) {
+METHOD(jint, place)(JNIEnv *env, jclass calls, jlong answer) {
     (void)env;
     (void)calls;
     return (jint)fuzzy_place((uint64_t)answer);
 }
 
-JNIEXPORT jint JNICALL Java_fuzzydate_Calls_length(JNIEnv *env, jclass calls, jlong answer) {
+METHOD(jint, length)(JNIEnv *env, jclass calls, jlong answer) {
     (void)env;
     (void)calls;
     return (jint)fuzzy_length((uint64_t)answer);
 }
 
-JNIEXPORT jstring JNICALL Java_fuzzydate_Calls_words(JNIEnv *env, jclass calls, jint number) {
+METHOD(jstring, words)(JNIEnv *env, jclass calls, jint number) {
     (void)calls;
     return (*env)->NewStringUTF(env, fuzzy_words((uint32_t)number));
 }
 
-JNIEXPORT jint JNICALL Java_fuzzydate_Calls_version(JNIEnv *env, jclass calls) {
+METHOD(jint, version)(JNIEnv *env, jclass calls) {
     (void)env;
     (void)calls;
     return (jint)fuzzy_version();

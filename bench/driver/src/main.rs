@@ -1,6 +1,7 @@
 //! Reads each phrase of a file at one now, over and over, by one of the two libraries: driver PHRASES MODE ROUNDS
-//! Modes: `rust` reads by the Rust, `ours` by ours, `ready` runs what was made ready before the first round. It prints the moments of
-//! the last round, so that two modes can be compared, and a sum of all rounds, so that none is left out.
+//! Modes: `rust` reads by the Rust, `ours` by ours, `make` makes ready, `ready` runs what was made ready before the first round. It prints
+//! the moments of the last round, for `make` those of running what it made, so that all modes can be compared, and a sum of all rounds, so
+//! that none is left out.
 
 #[allow(dead_code)]
 mod ast;
@@ -40,20 +41,32 @@ fn by_ours(phrase: &str) -> Moment {
     moment
 }
 
-fn made_ready(phrase: &str) -> Vec<u8> {
-    let mut bytes = [0; 384];
-    // SAFETY: the pointers are those of a slice and of an array of the size that the function may write
-    let answer = unsafe { fuzzy_make_ready(1, phrase.as_ptr(), phrase.len() as u64, &mut bytes) };
-    assert!(answer & 0xffff == 0, "{phrase}");
-    bytes[..(answer >> 32) as usize].to_vec()
+/// A ready phrase: its bytes and how many they are
+struct Ready {
+    bytes: [u8; 384],
+    length: u64,
 }
 
-fn by_ready(ready: &[u8]) -> Moment {
+fn make_ready(phrase: &str, ready: &mut Ready) {
+    // SAFETY: the pointers are those of a slice and of an array of the size that the function may write
+    let answer = unsafe { fuzzy_make_ready(1, phrase.as_ptr(), phrase.len() as u64, &mut ready.bytes) };
+    assert!(answer & 0xffff == 0, "{phrase}");
+    ready.length = answer >> 32;
+}
+
+fn by_ready(ready: &Ready) -> Moment {
     let mut moment = [0; 7];
-    // SAFETY: the pointers are those of a slice and of arrays of the sizes that the function reads and writes
-    let answer = unsafe { fuzzy_run(ready.as_ptr(), ready.len() as u64, &NOW, &mut moment) };
+    // SAFETY: the pointers are those of arrays of the sizes that the function reads and writes, and no length passes its array's
+    let answer = unsafe { fuzzy_run(ready.bytes.as_ptr(), ready.length, &NOW, &mut moment) };
     assert!(answer == 0);
     moment
+}
+
+fn print(moments: &[Moment], sum: u64) {
+    for m in moments {
+        println!("{:04}-{:02}-{:02} {:02}:{:02}:{:02}.{:03}", m[0], m[1], m[2], m[3], m[4], m[5], m[6]);
+    }
+    eprintln!("sum {sum}");
 }
 
 /// All phrases, so many times; the moments of the last round are printed
@@ -68,13 +81,39 @@ fn rounds<P>(phrases: &[P], rounds: usize, read: impl Fn(&P) -> Moment) {
             last.push(moment);
         }
     }
-    for m in last {
-        println!("{:04}-{:02}-{:02} {:02}:{:02}:{:02}.{:03}", m[0], m[1], m[2], m[3], m[4], m[5], m[6]);
-    }
-    eprintln!("sum {sum}");
+    print(&last, sum);
 }
 
+/// So many places for ready phrases
+fn places(count: usize) -> Vec<Ready> {
+    (0..count).map(|_| Ready { bytes: [0; 384], length: 0 }).collect()
+}
+
+/// All phrases made ready, so many times, each into the place that it has in `made`
+fn make_rounds(phrases: &[&str], rounds: usize, made: &mut [Ready]) -> u64 {
+    let mut sum = 0;
+    for _ in 0..rounds {
+        for (phrase, ready) in phrases.iter().zip(made.iter_mut()) {
+            make_ready(phrase, ready);
+            sum += ready.length;
+        }
+    }
+    sum
+}
+
+/// So many bytes at the start of a page: they put the stack of what is called there, whatever the size of the environment, since how many
+/// instructions a copy takes depends on where its bytes lie
+#[repr(align(4096))]
+struct Page([u8; 4096]);
+
 fn main() {
+    let page = Page([0; 4096]);
+    measure();
+    std::hint::black_box(&page.0);
+}
+
+#[inline(never)]
+fn measure() {
     let arguments: Vec<String> = std::env::args().collect();
     let text = std::fs::read_to_string(&arguments[1]).unwrap();
     let phrases: Vec<&str> = text.lines().collect();
@@ -84,9 +123,15 @@ fn main() {
     match arguments[2].as_str() {
         "rust" => rounds(&phrases, count, |p| by_rust(p, now)),
         "ours" => rounds(&phrases, count, |p| by_ours(p)),
+        "make" => {
+            let mut made = places(phrases.len());
+            let sum = make_rounds(&phrases, count, &mut made);
+            print(&made.iter().map(by_ready).collect::<Vec<Moment>>(), sum);
+        }
         "ready" => {
-            let ready: Vec<Vec<u8>> = phrases.iter().map(|p| made_ready(p)).collect();
-            rounds(&ready, count, |r| by_ready(r));
+            let mut made = places(phrases.len());
+            make_rounds(&phrases, 1, &mut made);
+            rounds(&made, count, by_ready);
         }
         other => panic!("no mode {other}"),
     }

@@ -2,6 +2,7 @@
 
 import ctypes
 import math
+import pickle
 import random
 import re
 import sys
@@ -9,7 +10,7 @@ from concurrent.futures import ThreadPoolExecutor
 from datetime import datetime, timedelta, timezone
 
 import fuzzydate
-from fuzzydate import Board, Due, FoundWord, Local, Reading, Reason, Refusal, Stamp
+from fuzzydate import Board, Due, FoundWord, Local, Reading, Reason, Refusal, Stamp, _library
 
 NOW = datetime(2026, 2, 11, 9, 30, 15, 250_000)
 LEAP_DAY = datetime(2024, 2, 29, 12)
@@ -42,7 +43,7 @@ def refused(reason, call, *arguments):
     return refusal
 
 
-def lent(*numbers):
+def array(*numbers):
     """Numbers as the library takes them."""
     return (ctypes.c_uint32 * len(numbers))(*numbers)
 
@@ -66,22 +67,25 @@ def moments():
 def refusals():
     cases = [
         (b" " * 257, Reason.TOO_LONG, 0, b"", "longer than 256 bytes"),
-        (b"forty days ago", Reason.UNKNOWN, 0, b"forty", "not understood: b'forty' at byte 0"),
-        (b"in\0two days", Reason.UNKNOWN, 2, b"\0", "not understood: b'\\x00' at byte 2"),
-        ("at \u00e9", Reason.UNKNOWN, 3, b"\xc3", "not understood: b'\\xc3' at byte 3"),
-        (b"4294967296 days ago", Reason.LARGE_DIGITS, 0, b"4294967296", "number too large: b'4294967296' at byte 0"),
-        (b"1 " * 65, Reason.TOO_MANY, 128, b"1", "more than 64 words, numbers and marks: b'1' at byte 128"),
+        (b"forty days ago", Reason.UNKNOWN, 0, b"forty", "not understood\n    forty days ago\n    ^^^^^"),
+        (b"in\ttwo\0days", Reason.UNKNOWN, 6, b"\0", "not understood\n    in two\\x00days\n          ^^^^"),
+        ("at \u00e9, noon", Reason.UNKNOWN, 3, b"\xc3", "not understood\n    at \u00e9, noon\n       ^"),
+        (b"at \xc3\xff", Reason.UNKNOWN, 3, b"\xc3", "not understood\n    at \\xc3\\xff\n       ^^^^"),
+        (b"4294967296 days ago", Reason.LARGE_DIGITS, 0, b"4294967296", "number too large\n    4294967296 days ago\n    ^^^^^^^^^^"),
+        (b"1 " * 65, Reason.TOO_MANY, 128, b"1", f"more than 64 words, numbers and marks\n    {'1 ' * 65}\n{' ' * 132}^"),
         (b"", Reason.NOTHING, 0, b"", "no date or time in it"),
-        (b"five billion days ago", Reason.LARGE_SUM, 0, b"", "number in words too large"),
-        (b"5/2", Reason.LEFT_OVER, 1, b"/2", "not part of the date or time: b'/2' at byte 1"),
-        (b"this month", Reason.NO_SENSE, 0, b"", "makes no sense"),
-        (b"1000/1/1", Reason.NO_DATE, 0, b"", "no such month or day"),
-        (b"january 1, 99", Reason.NO_TIME, 0, b"", "no such time of day"),
-        (b"four billion days ago", Reason.OUTSIDE, 0, b"", "outside the years 1 to 9999"),
+        (b"five billion days ago", Reason.LARGE_SUM, 0, b"", "number in words too large\n    five billion days ago"),
+        (b"5/2", Reason.LEFT_OVER, 1, b"/2", "not part of the date or time\n    5/2\n     ^^"),
+        (b"this month", Reason.NO_SENSE, 0, b"", "makes no sense\n    this month"),
+        (b"1000/1/1", Reason.NO_DATE, 0, b"", "no such month or day\n    1000/1/1"),
+        (b"january 1, 99", Reason.NO_TIME, 0, b"", "no such time of day\n    january 1, 99"),
+        (b"four billion days ago", Reason.OUTSIDE, 0, b"", "outside the years 1 to 9999\n    four billion days ago"),
     ]
     for phrase, reason, place, part, message in cases:
         refusal = refused(reason, fuzzydate.read, 1, phrase, NOW)
         expect((refusal.place, refusal.part, str(refusal)) == (place, part, message), str(refusal))
+        expect((refusal.number, refusal.name, refusal.words) == (reason.value, reason.name, reason.words), message)
+        expect(str(pickle.loads(pickle.dumps(refusal))) == message, "a refusal that was sent")
         if reason <= Reason.LEFT_OVER:
             expect(str(refused(reason, fuzzydate.make_ready, 1, phrase)) == message, message)
         else:
@@ -89,7 +93,8 @@ def refusals():
     for byte in range(128, 256):
         expect(refused(Reason.UNKNOWN, fuzzydate.read, 2, bytes([byte]), NOW).part == bytes([byte]), "a byte above 127")
     refused(Reason.NO_LEAP_DAY, fuzzydate.read, 1, "a year from now", LEAP_DAY)
-    refused(Reason.NO_STAMP, fuzzydate.read_stamp, "2026-02-30T09:30:15Z")
+    no_stamp = refused(Reason.NO_STAMP, fuzzydate.read_stamp, "2026-02-30T09:30:15Z")
+    expect(str(no_stamp) == "not an RFC 3339 date and time\n    2026-02-30T09:30:15Z", str(no_stamp))
     refused(Reason.OUTSIDE, fuzzydate.read_stamp, b"0000-02-29T00:00:00Z")
     refused(Reason.NOT_WHOLE, fuzzydate.write_phrase, NOW)
 
@@ -98,16 +103,17 @@ def below():
     """What datetime, Reading and the buffers of this binding keep from arising."""
     moment, text = (ctypes.c_uint32 * 7)(), ctypes.create_string_buffer(29)
     answers = {
-        Reason.INVALID_MOMENT: fuzzydate._read(1, b"today", 5, lent(2026, 2, 30, 0, 0, 0, 0), moment),
-        Reason.NO_READING: fuzzydate._read(3, b"today", 5, lent(2026, 2, 11, 0, 0, 0, 0), moment),
-        Reason.NO_ROOM: fuzzydate._write_phrase(lent(2026, 3, 4, 9, 5, 0, 0), text, 19),
-        Reason.NO_STAMP: fuzzydate._write_stamp(lent(2026, 3, 4, 9, 5, 0, 0, 2, 0), text, 29),
+        Reason.INVALID_MOMENT: _library.read(1, b"today", 5, array(2026, 2, 30, 0, 0, 0, 0), moment),
+        Reason.NO_READING: _library.read(3, b"today", 5, array(2026, 2, 11, 0, 0, 0, 0), moment),
+        Reason.NO_ROOM: _library.write_phrase(array(2026, 3, 4, 9, 5, 0, 0), text, 19),
+        Reason.NO_STAMP: _library.write_stamp(array(2026, 3, 4, 9, 5, 0, 0, 2, 0), text, 29),
     }
     for reason, answer in answers.items():
         refused(reason, fuzzydate._checked, answer)
     expect(list(moment) == [0] * 7 and text.raw == bytes(29), "nothing written")
     newer = refused(None, fuzzydate._checked, 2 << 32 | 1 << 16 | 999, b"next")
-    expect((newer.number, newer.place, newer.part, newer.words) == (999, 1, b"ex", "a refusal of a newer library"), "a newer library")
+    expect((newer.number, newer.name, newer.place, newer.part) == (999, None, 1, b"ex"), "a newer library")
+    expect(str(newer) == "a refusal of a newer library: 999\n    next\n     ^^", str(newer))
 
 
 def stamps():
@@ -127,7 +133,9 @@ def stamps():
 
 
 def words():
-    cases = [(1, "Friday", 123, 7), (2, b"th", 160, 4), (1, "forty", None, 7), (2, "FORTY", 40, 5), (1, b"", None, 7), (2, b"fri\xff", None, 7)]
+    cases = [
+        (1, "Friday", 123, 7), (2, b"th", 160, 4), (1, "forty", None, 7), (2, "FORTY", 40, 5), (1, b"", None, 7), (2, b"fri\xff", None, 7),
+    ]
     for reading, word, code, comparisons in cases:
         expect(fuzzydate.find_word(reading, word) == FoundWord(code, comparisons), word)
 
@@ -170,6 +178,23 @@ def rules():
         expect(fuzzydate.next(TUESDAYS, TUESDAY, asked) == TUESDAY, "asked before the start")
 
 
+def parts_of_milliseconds():
+    """An asked moment is rounded up, past the last millisecond too; another datetime is cut only by a call that says so."""
+    later = TUESDAY.replace(day=24)
+    for microseconds, wanted in [(-1000, TUESDAY), (-999, TUESDAY), (-1, TUESDAY), (0, TUESDAY), (1, later), (1000, later)]:
+        asked = TUESDAY + timedelta(microseconds=microseconds)
+        expect(fuzzydate.next(TUESDAYS, TUESDAY, asked) == wanted, asked)
+    start, after_last = datetime.max.replace(microsecond=999_000), datetime.max.replace(microsecond=999_001)
+    expect(fuzzydate.next("FREQ=DAILY", start, start) == start, "the last millisecond")
+    refused(Reason.NO_NEXT, fuzzydate.next, "FREQ=DAILY", start, after_last)
+    refused(Reason.NO_RULE, fuzzydate.next, "FREQ=YEARLY", start, after_last)
+    refused(Reason.NO_START, fuzzydate.next, "FREQ=MONTHLY;BYMONTHDAY=1", start, after_last)
+    for zone in (None, timezone.utc):
+        time = NOW.replace(microsecond=250_999, tzinfo=zone, fold=1)
+        cut = fuzzydate.cut_to_milliseconds(time)
+        expect(cut == NOW.replace(tzinfo=zone) and cut.tzinfo is zone and cut.fold == 1, "a datetime cut")
+
+
 def unlisted(reason, rule):
     """A rule that both calls refuse alike, with room and without."""
     for most in (0, 2):
@@ -196,8 +221,8 @@ def rows():
         (mondays, start, Reason.NO_START, []),
         (b"FREQ=YEARLY", no_day, Reason.INVALID_MOMENT, []),
     ]:
-        listed = lent(*kept)
-        expect(fuzzydate._list_in(rule, len(rule), lent(*given), listed, 20) == answer, rule)
+        listed = array(*kept)
+        expect(_library.list_in(rule, len(rule), array(*given), listed, 20) == answer, rule)
         expect(list(listed) == written + kept[len(written) :], rule)
     for rule, given, asked, answer, written in [
         (daily, start, later, 0, [*later]),
@@ -207,8 +232,8 @@ def rows():
         (mondays, no_day, later, Reason.INVALID_MOMENT, []),
         (daily, start, no_day, Reason.INVALID_MOMENT, []),
     ]:
-        found = lent(*kept)
-        expect(fuzzydate._next(rule, len(rule), lent(*given), lent(*asked), found) == answer, rule)
+        found = array(*kept)
+        expect(_library.next(rule, len(rule), array(*given), array(*asked), found) == answer, rule)
         expect(list(found) == written + kept[len(written) :], rule)
 
 
@@ -302,7 +327,7 @@ def zone_files():
     undue(Reason.NO_ZONE, "now", longest + b"\0", BEFORE_GAP)
 
 
-def lent_in_zones():
+def buffers_in_zones():
     """The buffers of both calls: written on success, and unchanged on a refusal."""
     ready = fuzzydate.make_ready(1, "now")
     for zone, second, millisecond, answer in [
@@ -312,8 +337,8 @@ def lent_in_zones():
         (NEW_YORK, 2**63 - 1, 0, Reason.PAST_LAST),
         (b"TZif2", 1772951400, 1000, Reason.NO_ZONE),
     ]:
-        for call, given in [(fuzzydate._read_in_zone, (1, b"now", 3)), (fuzzydate._run_in_zone, (ready, len(ready)))]:
-            due, local = ctypes.c_int64(0xA5), lent(*[0xA5] * 10)
+        for call, given in [(_library.read_in_zone, (1, b"now", 3)), (_library.run_in_zone, (ready, len(ready)))]:
+            due, local = ctypes.c_int64(0xA5), array(*[0xA5] * 10)
             expect(call(*given, zone, len(zone), second, millisecond, due, local) == answer, second)
             written = [2026, 3, 8, 1, 30, 0, 999, 1, 18000] if answer == 0 else [0xA5] * 9
             expect(due.value == (second if answer == 0 else 0xA5) and list(local) == [*written, 0xA5], second)
@@ -360,14 +385,14 @@ def refused_boards():
     expect(board.order() == [*range(1, 256), 0], "the order of a full board")
     expect(board.remove(77) is None and board.add(1, "now") == 77 and board.head() == Due(77, NOW), "a slot of a full board")
     # what datetime and Reading keep from arising
-    before, no_day = memory(board), lent(2026, 2, 30, 0, 0, 0, 0)
+    before, no_day = memory(board), array(2026, 2, 30, 0, 0, 0, 0)
     answers = {
-        Reason.INVALID_MOMENT: fuzzydate._board_again(board._ready, board._lengths, board._keys, board._state, no_day),
-        Reason.NO_READING: fuzzydate._board_add(board._ready, board._lengths, board._keys, board._state, 3, b"now", 3),
+        Reason.INVALID_MOMENT: _library.board_again(board._ready, board._lengths, board._keys, board._state, no_day),
+        Reason.NO_READING: _library.board_add(board._ready, board._lengths, board._keys, board._state, 3, b"now", 3),
     }
     for reason, answer in answers.items():
         refused(reason, fuzzydate._checked, answer)
-    refused(Reason.INVALID_MOMENT, fuzzydate._checked, fuzzydate._board_make(board._lengths, board._state, no_day))
+    refused(Reason.INVALID_MOMENT, fuzzydate._checked, _library.board_make(board._lengths, board._state, no_day))
     expect(memory(board) == before, "a board after what is refused")
 
 
@@ -397,6 +422,22 @@ def longest():
     expect(len(months) == 12 * 9999 and months[-1] == datetime(9999, 12, 1), "all months")
 
 
+def names_of_datetimes():
+    """An error names the parameter, and tells an aware datetime from a naive one and from a part of a millisecond."""
+    aware, part = NOW.replace(tzinfo=timezone.utc), NOW.replace(microsecond=1)
+    for error, words in [
+        (raises(ValueError, fuzzydate.read, 1, "today", aware), "now must be a naive datetime, and is an aware one"),
+        (raises(ValueError, fuzzydate.read, 1, "today", part), "now must have whole milliseconds, and has a part of one"),
+        (raises(ValueError, fuzzydate.next, TUESDAYS, aware, NOW), "start must be a naive datetime, and is an aware one"),
+        (raises(ValueError, fuzzydate.next, TUESDAYS, NOW, aware), "asked must be a naive datetime, and is an aware one"),
+        (raises(ValueError, fuzzydate.write_phrase, aware), "moment must be a naive datetime, and is an aware one"),
+        (raises(ValueError, fuzzydate.read_in_zone, 1, "today", NEW_YORK, NOW), "now must be an aware datetime, and is a naive one"),
+        (raises(TypeError, fuzzydate.read, 1, "today", NOW.date()), "now must be a datetime, and is a date"),
+        (raises(TypeError, fuzzydate.read_in_zone, 1, "today", NEW_YORK, NOW.date()), "now must be a datetime, and is a date"),
+    ]:
+        expect(str(error).startswith(words), str(error))
+
+
 def misused():
     ready = fuzzydate.make_ready(1, "today")
     for now in (NOW.replace(microsecond=1), NOW.replace(tzinfo=timezone.utc)):
@@ -406,7 +447,6 @@ def misused():
         raises(ValueError, fuzzydate.write_stamp, Stamp(now, 0))
         raises(ValueError, fuzzydate.occurrences, TUESDAYS, now, 1)
         raises(ValueError, fuzzydate.next, TUESDAYS, now, TUESDAY)
-        raises(ValueError, fuzzydate.next, TUESDAYS, TUESDAY, now)
         raises(ValueError, Board, now)
         raises(ValueError, Board(NOW).again, now)
     for now in (NOW, BEFORE_GAP.replace(microsecond=1), BEFORE_GAP.replace(tzinfo=timezone(timedelta(microseconds=1)))):
@@ -430,8 +470,8 @@ def misused():
         raises(TypeError, fuzzydate.run_in_zone, ready, phrase, LAST)
         raises(TypeError, Board(NOW).add, 1, phrase)
     raises(UnicodeEncodeError, fuzzydate.read, 1, "\ud800", NOW)
-    raises(AttributeError, fuzzydate.read, 1, "today", None)
-    raises(AttributeError, fuzzydate.read_in_zone, 1, "today", NEW_YORK, None)
+    raises(TypeError, fuzzydate.read, 1, "today", None)
+    raises(TypeError, fuzzydate.read_in_zone, 1, "today", NEW_YORK, None)
     raises(ValueError, fuzzydate.occurrences, TUESDAYS, TUESDAY, -1)
     raises(TypeError, Board(NOW).remove, None)
 
@@ -473,21 +513,28 @@ def as_the_header(header):
     wanted = {name: (numbers[name], said[name]) for name in numbers}
     expect({reason.name: (str(reason.value), reason.words) for reason in Reason} == wanted, "refusals of the header")
     sizes = re.findall(r"^#define FUZZY_(?!VERSION)(\w+) (\d+)$", header, re.M)
-    expect(sizes != [] and all(getattr(fuzzydate, "_" + name) == int(size) for name, size in sizes), "sizes of the header")
+    expect(sizes != [] and all(getattr(_library, name) == int(size) for name, size in sizes), "sizes of the header")
     newer = re.search(r"default: return \"(.*)\";", header)[1]
-    expect(Refusal(999, 0, b"").words == newer, "words of a newer library")
+    expect(Refusal(999, 0, 0, b"").words == newer, "words of a newer library")
 
 
 def versions(version):
     """The version of the binding is that of the repository, and the library says the same of itself."""
     expect(fuzzydate.__version__ == version, f"version {version} of the binding")
     expect(fuzzydate.version() == version, f"version {version} of the library")
+    for number in (1_000_000, 1_000_007, 1_999_000):
+        _library.check_version(number)
+    for number, said in [(999_999, "0.999.999"), (2_000_000, "2.0.0"), (0, "0.0.0")]:
+        error = raises(ImportError, _library.check_version, number)
+        expect("needs version 1.0.0 of its library" in str(error) and str(error).endswith(f" is {said}"), str(error))
 
 
 def every(seed):
-    for part in (moments, refusals, below, stamps, words, phrases, rules, refused_rules, rows):
+    for part in (moments, refusals, below, stamps, words, phrases, rules, parts_of_milliseconds, refused_rules, rows):
         part()
-    for part in (zones, refused_in_zones, zone_offsets, zone_files, lent_in_zones, boards, refused_boards, misused):
+    for part in (zones, refused_in_zones, zone_offsets, zone_files, buffers_in_zones):
+        part()
+    for part in (boards, refused_boards, names_of_datetimes, misused):
         part()
     garbage(seed)
     any_memory(seed)

@@ -75,7 +75,7 @@ extern "C" {
 /// What a call answers: one number, which has the number of a refusal, the place of the refused part and its length.
 #[repr(transparent)]
 #[derive(Clone, Copy)]
-pub struct Answer(u64);
+pub struct Answer(pub u64);
 
 impl Answer {
     /// The number of the refusal; 0 for success.

@@ -78,21 +78,35 @@
 //! ```
 //!
 //! Up to 256 reminders are kept on a [`Board`], which says all day what is due first.
+//!
+//! The features `chrono`, `time` and `serde` convert the types here to and from those of the crates of these names. What a type cannot hold
+//! is an error. The crate needs an allocator, and nothing else of the standard library.
 #![no_std]
+#![warn(missing_docs)]
 
 extern crate alloc;
 
 mod board;
 mod calls;
+#[cfg(any(feature = "chrono", feature = "time"))]
+mod conversion;
 mod moment;
 mod reading;
 mod ready;
 mod refusal;
 mod rule;
 mod stamp;
+#[cfg(feature = "chrono")]
+mod with_chrono;
+#[cfg(feature = "serde")]
+mod with_serde;
+#[cfg(feature = "time")]
+mod with_time;
 mod zone;
 
 pub use board::{Board, BOARD_SLOTS};
+#[cfg(any(feature = "chrono", feature = "time"))]
+pub use conversion::ConversionError;
 pub use moment::{write_phrase, Moment};
 pub use reading::{find_word, read, FoundWord, Reading};
 pub use ready::{make_ready, Ready, READY_SIZE};
@@ -102,6 +116,11 @@ pub use stamp::{read_stamp, write_stamp, Offset, Stamp};
 pub use zone::{read_in_zone, Instant, Local, Zone};
 
 pub(crate) use board::BOARD_READY_SIZE;
+
+/// Runs the lines of README.md as tests.
+#[cfg(doctest)]
+#[doc = include_str!("../README.md")]
+struct Readme;
 
 /// The version of this crate; [`version`] gives that of the library.
 pub const VERSION: &str = env!("CARGO_PKG_VERSION");

@@ -2,13 +2,12 @@ use alloc::string::String;
 use core::fmt;
 
 use crate::calls::{fuzzy_write_phrase, Answer};
-use crate::Refusal;
+use crate::{Reason, Refusal};
 
 /// The most bytes that a moment's phrase has.
 const PHRASE_SIZE: usize = 26;
 
-/// A date and time of the years 1 to 9999: month 1 to 12, day 1 to 31, hour 0 to 23, minute and second 0 to 59, millisecond 0 to 999. Other
-/// numbers may stand here too: such a moment is refused by every call.
+/// A date and time of the years 1 to 9999. Other numbers may stand here too: such a moment is refused by every call.
 ///
 /// Milliseconds are shown where they are not 0. Where a phrase states a time, noon and midnight included, second and millisecond are 0;
 /// else they are now's:
@@ -24,18 +23,30 @@ const PHRASE_SIZE: usize = 26;
 #[repr(C)]
 #[derive(Clone, Copy, Debug, PartialEq, Eq, PartialOrd, Ord, Hash)]
 pub struct Moment {
+    /// 1 to 9999.
     pub year: u32,
+    /// 1 to 12.
     pub month: u32,
+    /// 1 to 31, as far as the month goes.
     pub day: u32,
+    /// 0 to 23.
     pub hour: u32,
+    /// 0 to 59.
     pub minute: u32,
+    /// 0 to 59.
     pub second: u32,
+    /// 0 to 999.
     pub millisecond: u32,
 }
 
 impl Moment {
     /// To be written by a call.
     pub(crate) const NONE: Moment = Moment { year: 0, month: 0, day: 0, hour: 0, minute: 0, second: 0, millisecond: 0 };
+
+    /// Whether it is a date and time of the years 1 to 9999: every call refuses any other.
+    pub fn is_valid(self) -> bool {
+        !write_phrase(self).is_err_and(|refusal| refusal.reason() == Reason::InvalidMoment)
+    }
 }
 
 impl fmt::Display for Moment {

@@ -276,3 +276,30 @@ impl fmt::Debug for Refusal {
 }
 
 impl core::error::Error for Refusal {}
+
+#[cfg(test)]
+mod tests {
+    use alloc::string::ToString;
+
+    use super::*;
+
+    /// An answer as a library gives it.
+    fn answer(number: u64, place: u64, length: u64) -> Answer {
+        Answer(number | place << 16 | length << 32)
+    }
+
+    #[test]
+    fn carries_what_a_newer_library_refuses() {
+        let refusal = Refusal::new(answer(900, 3, 1), b"at 5");
+        assert_eq!((refusal.number(), refusal.reason(), refusal.place(), refusal.part()), (900, Reason::Other(900), 3, &b"5"[..]));
+        assert_eq!(refusal.to_string(), "a refusal of a newer library\n  at 5\n     ^");
+    }
+
+    #[test]
+    fn has_no_part_outside_the_phrase() {
+        for (place, length) in [(0, 5), (4, 1), (5, 0), (0xffff, 0xffff_ffff)] {
+            let refusal = Refusal::new(answer(2, place, length), b"at 5");
+            assert_eq!((refusal.part(), refusal.to_string().as_str()), (&b""[..], "not understood"));
+        }
+    }
+}

@@ -36,6 +36,28 @@ impl Offset {
             Offset::Unknown => (1, 0),
         }
     }
+
+    /// The offset of seconds east of UTC, where they are whole minutes.
+    #[cfg(any(feature = "chrono", feature = "time"))]
+    pub(crate) fn from_seconds(seconds: i32) -> Result<Offset, crate::ConversionError> {
+        let minutes = seconds.unsigned_abs() / 60;
+        match seconds % 60 {
+            0 if seconds < 0 => Ok(Offset::West(minutes)),
+            0 => Ok(Offset::East(minutes)),
+            _ => Err(crate::ConversionError::OffsetWithSeconds),
+        }
+    }
+
+    /// The seconds east of UTC, where the offset is known and one of a stamp.
+    #[cfg(any(feature = "chrono", feature = "time"))]
+    pub(crate) fn seconds(self) -> Result<i32, crate::ConversionError> {
+        match self {
+            Offset::Unknown | Offset::West(0) => Err(crate::ConversionError::UnknownOffset),
+            Offset::East(minutes @ 0..=1439) => Ok(60 * minutes as i32),
+            Offset::West(minutes @ 0..=1439) => Ok(-60 * (minutes as i32)),
+            _ => Err(crate::ConversionError::OutOfRange),
+        }
+    }
 }
 
 /// A moment as RFC 3339 text has it, and its offset from UTC. Milliseconds are written as a fraction of three digits, and 0 as none.
@@ -52,7 +74,9 @@ impl Offset {
 /// ```
 #[derive(Clone, Copy, Debug, PartialEq, Eq, Hash)]
 pub struct Stamp {
+    /// The moment as it is written.
     pub moment: Moment,
+    /// How far it is from UTC.
     pub offset: Offset,
 }
 

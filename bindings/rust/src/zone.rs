@@ -9,7 +9,9 @@ use crate::{Moment, Reading, Ready, Reason, Refusal};
 /// milliseconds may stand here too: such a now is refused.
 #[derive(Clone, Copy, Debug, PartialEq, Eq, PartialOrd, Ord, Hash)]
 pub struct Instant {
+    /// The second since 1970-01-01T00:00:00Z.
     pub second: i64,
+    /// The millisecond of it, 0 to 999.
     pub millisecond: u32,
 }
 
@@ -64,8 +66,11 @@ impl Zone {
 /// ```
 #[derive(Clone, Copy, Debug, PartialEq, Eq, Hash)]
 pub struct Local {
+    /// The instant.
     pub instant: Instant,
+    /// The moment as the clocks show it.
     pub moment: Moment,
+    /// The offset from UTC in seconds: above -25 and below 26 hours.
     pub offset: i32,
 }
 

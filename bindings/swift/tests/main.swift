@@ -1,12 +1,27 @@
-// Every function with good, damaged and empty input, each refusal that can arise here, and all of it in eight threads: every ZONE VERSION.
+// Every function with good, damaged and empty input, each refusal that can arise here, and all of it in eight threads:
+// every FUZZY_H ZONE VERSION.
 import CFuzzydate
 import Dispatch
 import Foundation
 
+@testable import Fuzzydate
+
+typealias Board = Fuzzydate.Board
+typealias Due = Fuzzydate.Due
+typealias FoundWord = Fuzzydate.FoundWord
+typealias Instant = Fuzzydate.Instant
+typealias Local = Fuzzydate.Local
+typealias Moment = Fuzzydate.Moment
+typealias Offset = Fuzzydate.Offset
+typealias Reading = Fuzzydate.Reading
+typealias Reason = Fuzzydate.Reason
+typealias Refusal = Fuzzydate.Refusal
+typealias Stamp = Fuzzydate.Stamp
+
 let now = Moment(year: 2026, month: 2, day: 11, hour: 9, minute: 30, second: 15, millisecond: 250)
-let leapDay = Moment(year: 2024, month: 2, day: 29, hour: 12, minute: 0, second: 0, millisecond: 0)
-let whole = Moment(year: 2026, month: 3, day: 4, hour: 9, minute: 5, second: 0, millisecond: 0)
-let noDay = Moment(year: 2026, month: 2, day: 30, hour: 0, minute: 0, second: 0, millisecond: 0)
+let leapDay = Moment(year: 2024, month: 2, day: 29, hour: 12)
+let whole = Moment(year: 2026, month: 3, day: 4, hour: 9, minute: 5)
+let noDay = Moment(year: 2026, month: 2, day: 30)
 
 func expect(_ holds: Bool, _ what: String) {
     if !holds {
@@ -41,10 +56,126 @@ func moments() throws {
     }
 }
 
+func momentsInOrder() throws {
+    let inOrder = [on(1, 12, 31), on(2025, 12, 31), on(2026, 2, 10), on(2026, 2, 10, 251), now, on(2026, 3, 1)].map { $0 }
+    for (i, one) in inOrder.enumerated() {
+        for (k, other) in inOrder.enumerated() {
+            expect((one < other) == (i < k) && (one == other) == (i == k), "\(one) and \(other)")
+        }
+        expect(try JSONDecoder().decode(Moment.self, from: JSONEncoder().encode(one)) == one, "\(one) sent")
+    }
+    expect("\(now), \(Moment(year: 1, month: 2, day: 3))" == "2026-02-11T09:30:15.250, 0001-02-03T00:00:00", "moments as text")
+}
+
+/// What a conversion says that cannot hold what it is given.
+func unheld(_ words: String, _ call: () throws -> Any) {
+    do {
+        let given = try call()
+        fatalError("\(given), and not: \(words)")
+    } catch let error as Fuzzydate.ConversionError {
+        expect(error.description == words && error.localizedDescription == words, "\(error), and not: \(words)")
+    } catch {
+        fatalError("\(error)")
+    }
+}
+
+func components() throws {
+    for moment in [now, whole, leapDay, noDay, on(9999, 12, 31, 999)] {
+        expect(try Moment(moment.components) == moment, "\(moment) as components")
+    }
+    var given = DateComponents(year: 2026, month: 3, day: 4)
+    expect(try Moment(given) == Moment(year: 2026, month: 3, day: 4), "a date alone")
+    given.nanosecond = 250_999_999
+    unheld("nanosecond 250999999 is not of whole milliseconds") { try Moment(given) }
+    expect(try Moment(cuttingToMilliseconds: given).millisecond == 250, "nanoseconds cut")
+    (given.nanosecond, given.calendar, given.era) = (nil, Calendar(identifier: .gregorian), 1)
+    expect(try Moment(given) == Moment(year: 2026, month: 3, day: 4), "a Gregorian date")
+    given.era = 0
+    unheld("a moment has no place for era") { try Moment(given) }
+    (given.era, given.weekday) = (nil, 4)
+    unheld("a moment has no place for weekday") { try Moment(given) }
+    (given.weekday, given.timeZone) = (nil, TimeZone(secondsFromGMT: 0))
+    unheld("a moment has no place for timeZone") { try Moment(given) }
+    given.calendar = Calendar(identifier: .buddhist)
+    unheld("the calendar is not the Gregorian") { try Moment(given) }
+    unheld("there is no day") { try Moment(DateComponents(year: 2026, month: 3)) }
+    unheld("there is no month -1") { try Moment(DateComponents(year: 2026, month: -1, day: 1)) }
+    unheld("there is no year 4294967296") { try Moment(DateComponents(year: 4_294_967_296, month: 1, day: 1)) }
+}
+
+/// A date so many seconds after 1970, which need not be whole.
+func since1970(_ seconds: Double) -> Date { Date(timeIntervalSince1970: seconds) }
+
+func dates() throws {
+    let utc = TimeZone(secondsFromGMT: 0)!, east = TimeZone(secondsFromGMT: 19_800)!
+    let cases: [(Double, TimeZone, Moment)] = [
+        (1_770_802_215.25, utc, now),
+        (1_770_802_215.25 - 19_800, east, now),
+        (0, utc, Moment(year: 1970, month: 1, day: 1)),
+        (-0.25, utc, Moment(year: 1969, month: 12, day: 31, hour: 23, minute: 59, second: 59, millisecond: 750)),
+        (951_782_400, utc, Moment(year: 2000, month: 2, day: 29)),
+        (-62_135_596_800, utc, Moment(year: 1, month: 1, day: 1)),
+        (-12_219_292_800, utc, Moment(year: 1582, month: 10, day: 15)),
+        (-12_219_379_200, utc, Moment(year: 1582, month: 10, day: 14)),
+        (253_402_300_799, utc, Moment(year: 9999, month: 12, day: 31, hour: 23, minute: 59, second: 59)),
+    ]
+    for (seconds, zone, moment) in cases {
+        expect(try Moment(since1970(seconds), in: zone) == moment, "\(seconds): \(try Moment(since1970(seconds), in: zone))")
+        expect(try moment.date(in: zone) == since1970(seconds), "\(moment): \(try moment.date(in: zone))")
+    }
+    for day: UInt32 in 1...28 {
+        for (year, month) in [(1, 1), (4, 2), (1900, 2), (2000, 3), (2026, 12), (9999, 7)] as [(UInt32, UInt32)] {
+            let moment = on(year, month, day, 37 * day - 37)
+            expect(try Moment(moment.date(in: east), in: east) == moment, "\(moment) there and back")
+        }
+    }
+    unheld("1770802215.25 seconds since 1970 are not of whole milliseconds") {
+        try Moment(Date(timeIntervalSinceReferenceDate: (1_770_802_215.25 - 978_307_200).nextUp), in: utc)
+    }
+    for (part, millisecond) in [(0.25, 250), (0.2501, 250), (0.2509999, 250), (0.251, 251), (0.1, 100)] as [(Double, UInt32)] {
+        let cut = try Moment(cuttingToMilliseconds: Date(timeIntervalSinceReferenceDate: 792_495_015 + part), in: utc)
+        expect(cut == on(2026, 2, 11, millisecond), "\(part) cut: \(cut)")
+    }
+    expect(try Moment(cuttingToMilliseconds: Date(), in: utc) > now, "the clock")
+    for seconds in [-62_135_596_800.25, 253_402_300_800, 1e300, .infinity, .nan] {
+        unheld("the date is outside the years 1 to 9999") { try Moment(since1970(seconds), in: utc) }
+    }
+    if let clocks = TimeZone(identifier: "America/New_York") {
+        let skipped = Moment(year: 2026, month: 3, day: 8, hour: 2, minute: 30)
+        unheld("2026-03-08T02:30:00 is a time that the clocks of America/New_York skip") { try skipped.date(in: clocks) }
+        let twice = Moment(year: 2026, month: 11, day: 1, hour: 1, minute: 30)
+        expect(try twice.date(in: clocks) == since1970(1_793_511_000), "the earlier of two")
+        for seconds in [1_772_953_199, 1_772_953_200, 1_793_512_799, 1_793_516_400] as [Double] {
+            expect(try Moment(since1970(seconds), in: clocks).date(in: clocks) == since1970(seconds), "\(seconds) there and back")
+        }
+        expect(try Moment(since1970(1_793_514_600), in: clocks) == twice, "the later of two")
+    }
+    unheld("2026-02-30T00:00:00 is not a valid date and time") { try noDay.date(in: utc) }
+    unheld("2026-03-04T24:00:00 is not a valid date and time") { try Moment(year: 2026, month: 3, day: 4, hour: 24).date(in: utc) }
+}
+
+func instants() throws {
+    for (seconds, instant) in [(0, Instant(second: 0, millisecond: 0)), (-0.25, Instant(second: -1, millisecond: 750)),
+        (1_772_951_400.25, beforeGap)] as [(Double, Instant)]
+    {
+        expect(try Instant(since1970(seconds)) == instant && instant.date == since1970(seconds), "\(seconds)")
+    }
+    let part = Date(timeIntervalSinceReferenceDate: 0.0001)
+    unheld("978307200.0001 seconds since 1970 are not of whole milliseconds") { try Instant(part) }
+    expect(try Instant(cuttingToMilliseconds: part) == Instant(second: 978_307_200, millisecond: 0), "an instant cut")
+    expect(try Instant(cuttingToMilliseconds: since1970(-0.0001)) == Instant(second: -1, millisecond: 999), "an instant cut back")
+    expect(beforeGap < last && Instant(second: 0, millisecond: 1) > Instant(second: 0, millisecond: 0), "instants in order")
+    for instant in [Instant(second: .max, millisecond: 0), Instant(second: .min, millisecond: 0), Instant(second: 0, millisecond: 1000)] {
+        unheld("second \(instant.second) and millisecond \(instant.millisecond) are no Date") { try instant.date }
+    }
+    expect(try due(.first, "tomorrow", newYork, beforeGap).date == since1970(1_773_034_200.25), "the date of what is due")
+}
+
 func refusals() throws {
     let cases: [([UInt8], Reason, Int, [UInt8])] = [
         (Array(repeating: 32, count: 257), .tooLong, 0, []),
         (Array("forty days ago".utf8), .unknown, 0, Array("forty".utf8)),
+        (Array("in\ttwo\0days".utf8), .unknown, 6, [0]),
         (Array("at \u{e9}".utf8), .unknown, 3, [0xc3]),
         ([255], .unknown, 0, [255]),
         (Array("4294967296 days ago".utf8), .largeDigits, 0, Array("4294967296".utf8)),
@@ -58,9 +189,10 @@ func refusals() throws {
         (Array("four billion days ago".utf8), .outside, 0, []),
     ]
     for (phrase, reason, place, part) in cases {
-        let wanted = Refusal(number: reason.rawValue, place: place, part: part)
+        let wanted = Refusal(number: reason.number, place: place, length: part.count, text: phrase)
         expect(refusal(reason, "\(reason)") { try Fuzzydate.read(.first, phrase, now: now) } == wanted, "\(wanted)")
-        if reason.rawValue <= Reason.leftOver.rawValue {
+        expect(wanted.part == part && wanted.reason == reason && wanted.name == "\(reason)", "\(reason)")
+        if reason.number <= Reason.leftOver.number {
             expect(refusal(reason, "\(reason)") { try Fuzzydate.makeReady(.first, phrase) } == wanted, "\(wanted), made ready")
         }
     }
@@ -68,15 +200,48 @@ func refusals() throws {
     _ = refusal(.invalidMoment, "30 February") { try Fuzzydate.read(.first, "today", now: noDay) }
     _ = refusal(.invalidMoment, "30 February shown") { try Fuzzydate.writePhrase(noDay) }
     _ = refusal(.notWhole, "seconds shown") { try Fuzzydate.writePhrase(now) }
-    expect(Reason.unknown.words == "not understood" && Reason.noInstant.words == "the zone's clocks skip that time", "words")
-    expect(Reason.nothingDue.words == "no reminder has a moment", "words of the last reason")
-    let newer = Refusal(number: 999, place: 0, part: [])
-    expect(newer.reason == nil && newer.words == "a refusal of a newer library", "a newer library")
-    let unsaid = String(cString: fuzzy_words(0xffff))
-    for number: UInt32 in 1..<1000 {
-        expect((Reason(rawValue: number) == nil) == (String(cString: fuzzy_words(number)) == unsaid), "whether there is a reason \(number)")
+}
+
+/// The text of a refusal, and of one that only a newer library has, which does not stop the app.
+func shown() {
+    let cases: [(String, String)] = [
+        ("next forty", "not understood\n    next forty\n         ^^^^^"),
+        ("in\ttwo\0days", "not understood\n    in two\\0days\n          ^^"),
+        ("at \u{e9}, noon", "not understood\n    at \u{e9}, noon\n       ^"),
+        ("5/2", "not part of the date or time\n    5/2\n     ^^"),
+        ("this month", "makes no sense\n    this month"),
+        ("", "no date or time in it"),
+        (String(repeating: " ", count: 257), "longer than 256 bytes"),
+    ]
+    for (phrase, text) in cases {
+        do {
+            let given = try Fuzzydate.read(.first, phrase, now: now)
+            fatalError("\(phrase) gives \(given)")
+        } catch {
+            expect("\(error)" == text && error.localizedDescription == text, "\(error)")
+        }
     }
-    expect(Reason(rawValue: 0) == nil, "no reason 0")
+    let newer = Refusal(number: 999, place: 1, length: 2, text: Array("next".utf8))
+    expect(newer.reason == nil && newer.name == nil && newer.words == "a refusal of a newer library", "a newer library")
+    expect("\(newer)" == "a refusal of a newer library: 999\n    next\n     ^^", "\(newer)")
+    expect("\(Refusal(number: 999, place: 9, length: 9, text: Array("next".utf8)))".hasSuffix("    next"), "a place outside the text")
+}
+
+/// The names, numbers and words of the refusals are those of fuzzy.h.
+func asTheHeader() throws {
+    let header = try String(contentsOfFile: CommandLine.arguments[1], encoding: .utf8)
+    let expression = try NSRegularExpression(pattern: "^ *FUZZY_(\\w+) = (\\d+),? +/\\*", options: .anchorsMatchLines)
+    let found = expression.matches(in: header, range: NSRange(header.startIndex..., in: header)).map { match in
+        (1...2).map { String(header[Range(match.range(at: $0), in: header)!]) }
+    }
+    expect(found.count == Reason.allCases.count, "as many reasons as the header")
+    for (name, number) in found.map({ ($0[0], UInt32($0[1])!) }) {
+        let words = name.lowercased().split(separator: "_")
+        let own = String(words[0]) + words.dropFirst().map { $0.capitalized }.joined()
+        expect(Reason(number: number)?.rawValue == own && Reason(rawValue: own)?.number == number, name)
+        expect(header.contains("case FUZZY_\(name): return \"\(Reason(number: number)!.words)\";"), "words of \(name)")
+    }
+    expect(Reason(number: 0) == nil && Reason(number: UInt32(found.count) + 1) == nil && Reason(number: .max) == nil, "no reason")
 }
 
 func stamps() throws {
@@ -98,13 +263,16 @@ func stamps() throws {
 }
 
 func wordsAndPhrases() throws {
-    expect(Fuzzydate.findWord(.first, "Friday") == FoundWord(code: 123, comparisons: 7), "Friday")
-    expect(Fuzzydate.findWord(.second, "FORTY") == FoundWord(code: 40, comparisons: 5), "FORTY")
-    expect(Fuzzydate.findWord(.first, "") == FoundWord(code: nil, comparisons: 7), "an empty word")
+    expect(try Fuzzydate.findWord(.first, "Friday") == FoundWord(code: 123, comparisons: 7), "Friday")
+    expect(try Fuzzydate.findWord(.second, "FORTY") == FoundWord(code: 40, comparisons: 5), "FORTY")
+    expect(try Fuzzydate.findWord(.first, "") == FoundWord(code: nil, comparisons: 7), "an empty word")
     expect(try Fuzzydate.writePhrase(whole) == "march 4 2026 at 9:05", "a phrase")
     for reading in [Reading.first, .second] {
         expect(try Fuzzydate.read(reading, Fuzzydate.writePhrase(whole), now: now) == whole, "a phrase that was written")
     }
+    let early = Moment(year: 26, month: 3, day: 4, hour: 9, minute: 5), phrase = try Fuzzydate.writePhrase(early)
+    expect(try Fuzzydate.read(.first, phrase, now: now) == early, "a phrase of the year 26")
+    _ = refusal(.leftOver, "a phrase of the year 26 in the second reading") { try Fuzzydate.read(.second, phrase, now: now) }
 }
 
 /// A moment of 09:30:15 and so many milliseconds.
@@ -147,7 +315,7 @@ func rules() throws {
 
 /// A rule or a start that both calls refuse alike, with room and without.
 func unlisted(_ rule: [UInt8], _ start: Moment, _ reason: Reason) {
-    let wanted = Refusal(number: reason.rawValue, place: 0, part: [])
+    let wanted = Refusal(number: reason.number, place: 0, length: 0, text: rule)
     for most: UInt in [0, 2] {
         expect(refusal(reason, "\(rule)") { try Fuzzydate.occurrences(rule, from: start, most: most) } == wanted, "\(rule)")
     }
@@ -167,7 +335,7 @@ func refusedRules() {
 }
 
 /// 09:30:15.250 on a day of February 2026, as the library takes it.
-func lent(_ day: UInt32) -> fuzzy_moment {
+func february(_ day: UInt32) -> fuzzy_moment {
     fuzzy_moment(year: 2026, month: 2, day: day, hour: 9, minute: 30, second: 15, millisecond: 250)
 }
 
@@ -185,7 +353,7 @@ func rows() {
         let text = Array(rule.utf8), untouched = [UInt32](repeating: 0xa5, count: 20)
         var listed = untouched, next = fuzzy_moment()
         next.year = 0xa5
-        var start = lent(10), asked = lent(11)
+        var start = february(10), asked = february(11)
         let answer = characters(text) { fuzzy_list_in($0, $1, &start, &listed, 20) }
         expect(fuzzy_length(answer) == count && Array(listed[(7 * count)...]) == Array(untouched[(7 * count)...]), rule + ", listed")
         let found = characters(text) { fuzzy_next($0, $1, &start, &asked, &next) }
@@ -200,7 +368,7 @@ func longest() throws {
 }
 
 /// The bytes of bindings/zones/New_York.
-let newYork = [UInt8](FileManager.default.contents(atPath: CommandLine.arguments[1])!)
+let newYork = [UInt8](FileManager.default.contents(atPath: CommandLine.arguments[2])!)
 
 /// 01:30:00 on 8 March 2026 in New York, half an hour before clocks go forward; the last transition of the file.
 let beforeGap = Instant(second: 1_772_951_400, millisecond: 250)
@@ -237,10 +405,10 @@ func zones() throws {
 
 /// A phrase that both calls refuse alike.
 func undue(_ reason: Reason, _ phrase: String, _ zone: [UInt8], _ now: Instant) {
-    let wanted = Refusal(number: reason.rawValue, place: 0, part: [])
-    expect(refusal(reason, phrase) { try Fuzzydate.readInZone(.first, phrase, zone: zone, now: now) } == wanted, phrase)
+    func wanted(_ text: String) -> Refusal { Refusal(number: reason.number, place: 0, length: 0, text: Array(text.utf8)) }
+    expect(refusal(reason, phrase) { try Fuzzydate.readInZone(.first, phrase, zone: zone, now: now) } == wanted(phrase), phrase)
     let run = refusal(reason, phrase) { try Fuzzydate.runInZone(Fuzzydate.makeReady(.first, phrase), zone: zone, now: now) }
-    expect(run == wanted, phrase + ", made ready")
+    expect(run == wanted(""), phrase + ", made ready")
 }
 
 func refusedInZones() {
@@ -296,10 +464,10 @@ func zoneFiles() throws {
 }
 
 /// The buffers of both calls are unchanged on a refusal.
-func lentInZones() throws {
+func buffersInZones() throws {
     let ready = try Fuzzydate.makeReady(.first, "now")
     for (zone, number) in [(newYork, 22), ([], 21)] as [([UInt8], UInt32)] {
-        var due: Int64 = 0xa5, local = fuzzy_local(moment: lent(10), west: 0xa5, offset: 0xa5)
+        var due: Int64 = 0xa5, local = fuzzy_local(moment: february(10), west: 0xa5, offset: 0xa5)
         let read = characters(Array("now".utf8)) {
             fuzzy_read_in_zone(1, $0, $1, zone, UInt64(zone.count), last.second, 0, &due, &local)
         }
@@ -359,7 +527,7 @@ func refusedBoards() throws {
     _ = left(&board, .fullBoard) { try $0.add(.first, "now") }
     _ = left(&board, .leftOver) { try $0.add(.first, "5/2") }
     let answer = fuzzy_board_add_in(&board.ready, &board.lengths, &board.keys, &board.state, 3, nil, 0)
-    expect(fuzzy_number(answer) == Reason.noReading.rawValue, "no reading on a full board")
+    expect(fuzzy_number(answer) == Reason.noReading.number, "no reading on a full board")
     try board.remove(77)
     expect(try board.add(.first, "now") == 77 && board.head() == Due(slot: 77, moment: now), "a slot of a full board")
 }
@@ -390,7 +558,7 @@ func anyMemory() throws {
     answers(.nothingDue) { _ = try board.head() }
 }
 
-func garbage() {
+func garbage() throws {
     for length in 0...400 {
         let bytes = (0..<length).map { _ in UInt8.random(in: 0...255) }
         undue(.noZone, "now", bytes, beforeGap)
@@ -398,19 +566,33 @@ func garbage() {
         _ = refusal(.noSense, "random bytes as a ready phrase") { try Fuzzydate.run(bytes, now: now) }
         _ = refusal(.noStamp, "random bytes as a stamp") { try Fuzzydate.readStamp(bytes) }
         unlisted(bytes, tuesday, .noRule)
-        expect(Fuzzydate.findWord(.second, bytes).comparisons <= 8, "comparisons")
+        expect(try Fuzzydate.findWord(.second, bytes).comparisons <= 8, "comparisons")
     }
 }
 
 /// The version of the binding is that of the repository, and the library says the same of itself.
 func versions() throws {
-    let version = try String(contentsOfFile: CommandLine.arguments[2], encoding: .utf8).trimmingCharacters(in: .newlines)
+    let version = try String(contentsOfFile: CommandLine.arguments[3], encoding: .utf8).trimmingCharacters(in: .newlines)
     expect(Fuzzydate.version == version && Fuzzydate.libraryVersion == version, "version \(version)")
+    try Fuzzydate.checkVersion()
+    for library: UInt32 in [1_000_000, 1_000_007, 1_999_000] {
+        expect(Fuzzydate.versionError(of: library) == nil, "library \(library)")
+    }
+    for (library, said) in [(999_999, "0.999.999"), (2_000_000, "2.0.0"), (0, "0.0.0")] as [(UInt32, String)] {
+        let text = "fuzzydate 1.0.0 needs version 1.0.0 of its library or a later one of 1.*, and it is \(said)"
+        let error = Fuzzydate.versionError(of: library)!
+        expect("\(error)" == text && error.localizedDescription == text, "\(error)")
+    }
 }
 
 func every() throws {
     try moments()
+    try momentsInOrder()
+    try components()
+    try dates()
+    try instants()
     try refusals()
+    shown()
     try stamps()
     try wordsAndPhrases()
     try rules()
@@ -419,13 +601,14 @@ func every() throws {
     try zones()
     refusedInZones()
     try zoneFiles()
-    try lentInZones()
+    try buffersInZones()
     try boards()
     try refusedBoards()
-    garbage()
+    try garbage()
     try anyMemory()
 }
 
+try asTheHeader()
 try versions()
 try every()
 try longest()

@@ -2,7 +2,9 @@ package fuzzydate;
 
 import java.nio.ByteBuffer;
 import java.time.LocalDateTime;
+import java.time.temporal.ChronoUnit;
 import java.util.Arrays;
+import java.util.Optional;
 
 /**
  * Up to 256 ready reminders, each in a slot of 0 to 255, and the order of their moments at the board's now. A refused call leaves all of it
@@ -17,6 +19,11 @@ public final class Board {
     /** Makes an empty board at a now. */
     public Board(LocalDateTime now) throws Refusal {
         Refusal.check(Calls.boardMake(memory, Moments.numbers(now, Calls.MOMENT_NUMBERS)), NO_PHRASE);
+    }
+
+    /** Makes an empty board at a now that is cut to milliseconds, such as {@code LocalDateTime.now()}. */
+    public static Board cutToMillis(LocalDateTime now) throws Refusal {
+        return new Board(now.truncatedTo(ChronoUnit.MILLIS));
     }
 
     /**
@@ -42,14 +49,23 @@ public final class Board {
         Refusal.check(Calls.boardAgain(memory, Moments.numbers(now, Calls.MOMENT_NUMBERS)), NO_PHRASE);
     }
 
-    /**
-     * Finds what is due first: the earliest reminder at the board's now, and of equal ones the lowest slot. It is refused where none has a
-     * moment.
-     */
-    public synchronized Due head() throws Refusal {
+    /** Runs all reminders again at another now that is cut to milliseconds, such as {@code LocalDateTime.now()}. */
+    public void againCutToMillis(LocalDateTime now) throws Refusal {
+        again(now.truncatedTo(ChronoUnit.MILLIS));
+    }
+
+    /** Finds what is due first: the earliest reminder at the board's now, of equal ones the lowest slot; none where none has a moment. */
+    public synchronized Optional<Due> head() {
         int[] moment = new int[Calls.MOMENT_NUMBERS];
-        int slot = Calls.length(Refusal.check(Calls.boardHead(memory, moment), NO_PHRASE));
-        return new Due(slot, Moments.of(moment));
+        try {
+            int slot = Calls.length(Refusal.check(Calls.boardHead(memory, moment), NO_PHRASE));
+            return Optional.of(new Due(slot, Moments.of(moment)));
+        } catch (Refusal refusal) {
+            if (refusal.reason() == Reason.NOTHING_DUE) {
+                return Optional.empty();
+            }
+            throw new IllegalStateException(refusal);
+        }
     }
 
     /**

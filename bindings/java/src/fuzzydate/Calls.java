@@ -19,7 +19,7 @@ final class Calls {
     static final int BOARD_SIZE = 101408;
 
     static {
-        System.loadLibrary("fuzzydate_jni");
+        Library.load();
     }
 
     private Calls() {}

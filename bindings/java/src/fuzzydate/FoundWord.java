@@ -1,5 +1,6 @@
 package fuzzydate;
 
+import java.util.Objects;
 import java.util.OptionalInt;
 
 /** What looking a word up says. */
@@ -20,5 +21,20 @@ public final class FoundWord {
     /** How many words of the reading's table it was compared with: at most 8. */
     public int comparisons() {
         return comparisons;
+    }
+
+    @Override
+    public boolean equals(Object other) {
+        return other instanceof FoundWord && ((FoundWord) other).code == code && ((FoundWord) other).comparisons == comparisons;
+    }
+
+    @Override
+    public int hashCode() {
+        return Objects.hash(code, comparisons);
+    }
+
+    @Override
+    public String toString() {
+        return (code == 0 ? "no word" : "code " + code) + " by " + comparisons + " comparisons";
     }
 }

@@ -3,6 +3,7 @@ package fuzzydate;
 import java.nio.charset.StandardCharsets;
 import java.time.Instant;
 import java.time.LocalDateTime;
+import java.time.temporal.ChronoUnit;
 import java.util.ArrayList;
 import java.util.Arrays;
 import java.util.List;
@@ -11,9 +12,10 @@ import java.util.List;
  * Reminder phrases such as "next friday at 3 pm", read at a now that the caller gives.
  *
  * <p>A phrase is its bytes; a String stands for its UTF-8, in which a surrogate without its other half is "?". Any bytes and any moment get
- * an answer: what the call gives, or a {@link Refusal}. A moment has milliseconds: one with a part of a millisecond, as {@code
- * LocalDateTime.now()} may have, is an IllegalArgumentException, and {@code truncatedTo(ChronoUnit.MILLIS)} makes it whole; so with an
- * instant. All methods may run in any thread.
+ * an answer: what the call gives, or a {@link Refusal}. All methods may run in any thread.
+ *
+ * <p>A moment has milliseconds. One with a part of a millisecond, as {@code LocalDateTime.now()} may have, is an IllegalArgumentException,
+ * so that nothing is lost in silence; a method whose name ends with CutToMillis cuts it. So with an instant.
  */
 public final class Fuzzydate {
     /** The version of these classes; {@link #version} gives that of the library. */
@@ -43,6 +45,11 @@ public final class Fuzzydate {
         return read(reading, bytes(phrase), now);
     }
 
+    /** Reads a phrase at a now that is cut to milliseconds, such as {@code LocalDateTime.now()}. */
+    public static LocalDateTime readCutToMillis(Reading reading, String phrase, LocalDateTime now) throws Refusal {
+        return read(reading, phrase, now.truncatedTo(ChronoUnit.MILLIS));
+    }
+
     /**
      * Makes a phrase ready without a now, in bytes that can be stored, sent and run later. It is refused for {@link Reason#TOO_LONG} to
      * {@link Reason#LEFT_OVER}, as {@link #read} is.
@@ -62,6 +69,11 @@ public final class Fuzzydate {
         int[] moment = new int[Calls.MOMENT_NUMBERS];
         Refusal.check(Calls.run(ready, Moments.numbers(now, Calls.MOMENT_NUMBERS), moment), NO_PHRASE);
         return Moments.of(moment);
+    }
+
+    /** Runs a ready phrase at a now that is cut to milliseconds, such as {@code LocalDateTime.now()}. */
+    public static LocalDateTime runCutToMillis(byte[] ready, LocalDateTime now) throws Refusal {
+        return run(ready, now.truncatedTo(ChronoUnit.MILLIS));
     }
 
     /**
@@ -151,6 +163,14 @@ public final class Fuzzydate {
     }
 
     /**
+     * The next occurrence at or after an asked moment that may have a part of a millisecond, such as {@code LocalDateTime.now()}: it is
+     * rounded up, since cutting would move it back. In the last millisecond of year 9999 it is refused as {@link Reason#INVALID_MOMENT}.
+     */
+    public static LocalDateTime nextRoundedUpToMillis(String rule, LocalDateTime start, LocalDateTime asked) throws Refusal {
+        return next(rule, start, Moments.roundedUp(asked));
+    }
+
+    /**
      * Runs a ready phrase at an instant in a zone, which is the bytes of its TZif file; fuzzy.h says which are accepted. Dates, weekdays,
      * months and years go by the clocks. Minutes and hours are lengths of time. Days and weeks go by the clocks in "1 day ago" and after or
      * from today, tomorrow or a date, and are lengths in "1 day from now", "1 day before now", before anything else, and after a weekday.
@@ -162,6 +182,11 @@ public final class Fuzzydate {
         int[] local = new int[Calls.LOCAL_NUMBERS];
         Refusal.check(Calls.runInZone(ready, zone, now.getEpochSecond(), Moments.milliseconds(now), due, local), NO_PHRASE);
         return Moments.local(due[0], local);
+    }
+
+    /** Runs a ready phrase in a zone at an instant that is cut to milliseconds, such as {@code Instant.now()}. */
+    public static Local runInZoneCutToMillis(byte[] ready, byte[] zone, Instant now) throws Refusal {
+        return runInZone(ready, zone, now.truncatedTo(ChronoUnit.MILLIS));
     }
 
     /** Reads a phrase at an instant in a zone: gives what {@link #runInZone} gives for the phrase made ready. */
@@ -176,6 +201,11 @@ public final class Fuzzydate {
     /** Reads a phrase at an instant in a zone. */
     public static Local readInZone(Reading reading, String phrase, byte[] zone, Instant now) throws Refusal {
         return readInZone(reading, bytes(phrase), zone, now);
+    }
+
+    /** Reads a phrase in a zone at an instant that is cut to milliseconds, such as {@code Instant.now()}. */
+    public static Local readInZoneCutToMillis(Reading reading, String phrase, byte[] zone, Instant now) throws Refusal {
+        return readInZone(reading, phrase, zone, now.truncatedTo(ChronoUnit.MILLIS));
     }
 
     static byte[] bytes(String text) {

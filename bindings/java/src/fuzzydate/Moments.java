@@ -2,25 +2,35 @@ package fuzzydate;
 
 import java.time.Instant;
 import java.time.LocalDateTime;
+import java.time.temporal.ChronoUnit;
 
 /** A moment, and an instant in a zone, as java.time has them and as the numbers of fuzzy.h. */
 final class Moments {
     private static final int NANOS = 1_000_000;
+    private static final int LAST_YEAR = 9999;
+
+    private static final String LOST = "a part of a millisecond would be lost, which truncatedTo(ChronoUnit.MILLIS) cuts: ";
 
     private Moments() {}
 
     /** The moment itself, if its nanoseconds are whole milliseconds: fuzzy.h has no others, and none are lost. */
     static LocalDateTime whole(LocalDateTime moment) {
         if (moment.getNano() % NANOS != 0) {
-            throw new IllegalArgumentException("a moment has whole milliseconds, by truncatedTo(ChronoUnit.MILLIS): " + moment);
+            throw new IllegalArgumentException(LOST + moment);
         }
         return moment;
+    }
+
+    /** The first moment of whole milliseconds at or after this one; a year after 9999, which is refused, stays as it is. */
+    static LocalDateTime roundedUp(LocalDateTime moment) {
+        LocalDateTime cut = moment.truncatedTo(ChronoUnit.MILLIS);
+        return cut.equals(moment) || cut.getYear() > LAST_YEAR ? cut : cut.plus(1, ChronoUnit.MILLIS);
     }
 
     /** The milliseconds of an instant, if it has no part of one. */
     static int milliseconds(Instant instant) {
         if (instant.getNano() % NANOS != 0) {
-            throw new IllegalArgumentException("an instant has whole milliseconds, by truncatedTo(ChronoUnit.MILLIS): " + instant);
+            throw new IllegalArgumentException(LOST + instant);
         }
         return instant.getNano() / NANOS;
     }

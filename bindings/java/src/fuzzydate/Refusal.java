@@ -54,7 +54,7 @@ public final class Refusal extends Exception {
         return text.append(marks).toString();
     }
 
-    /** The character that begins at a place of some UTF-8; none where that is another byte, or a control character, which is shown by its number. */
+    /** The character of UTF-8 that begins at a place; none for another byte, and for a control character, which are shown by number. */
     private static String characterAt(byte[] bytes, int place) {
         for (int length = 1; length <= Math.min(LONGEST_CHARACTER, bytes.length - place); length++) {
             String text = new String(bytes, place, length, StandardCharsets.UTF_8);

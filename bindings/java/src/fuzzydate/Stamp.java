@@ -3,6 +3,7 @@ package fuzzydate;
 import java.time.LocalDateTime;
 import java.time.OffsetDateTime;
 import java.time.ZoneOffset;
+import java.time.temporal.ChronoUnit;
 import java.util.Objects;
 import java.util.Optional;
 
@@ -34,6 +35,15 @@ public final class Stamp {
             throw new IllegalArgumentException("a stamp's offset has no seconds: " + time.getOffset());
         }
         return new Stamp(time.toLocalDateTime(), seconds < 0 ? Offset.west(-seconds / 60) : Offset.east(seconds / 60));
+    }
+
+    /**
+     * The stamp of a time that is cut to milliseconds, such as {@code OffsetDateTime.now()}.
+     *
+     * @throws IllegalArgumentException for an offset with seconds, which would be lost
+     */
+    public static Stamp ofCutToMillis(OffsetDateTime time) {
+        return of(time.truncatedTo(ChronoUnit.MILLIS));
     }
 
     /** The moment as it is written. */

@@ -25,7 +25,7 @@ import java.util.concurrent.ExecutorService;
 import java.util.concurrent.Executors;
 import java.util.concurrent.Future;
 
-/** Every call with good, damaged, empty and missing input, each refusal at least once, and all of it in eight threads at once: Every ZONE VERSION. */
+/** Every call with good, damaged, empty and missing input, each refusal at least once, all of it in eight threads: Every ZONE VERSION. */
 final class Every {
     private static final LocalDateTime NOW = LocalDateTime.of(2026, 2, 11, 9, 30, 15, 250_000_000);
     private static final LocalDateTime LEAP_DAY = LocalDateTime.of(2024, 2, 29, 12, 0);
@@ -168,8 +168,9 @@ final class Every {
         }
         Refusal accent = refusal(Reason.UNKNOWN, () -> Fuzzydate.read(Reading.FIRST, "at \u00e9", NOW), "a letter of two bytes");
         same(accent.getMessage(), "not understood\n  at \u00e9\n     ^", "a letter of two bytes");
-        Refusal clock = refusal(Reason.UNKNOWN, () -> Fuzzydate.read(Reading.FIRST, "5 \ud83d\udd52\u0085 pm", NOW), "a letter of four bytes");
-        same(clock.getMessage(), "not understood\n  5 \ud83d\udd52\\xc2\\x85 pm\n    ^", "a letter of four bytes");
+        String clock = "5 \ud83d\udd52\u0085 pm", shown = "not understood\n  5 \ud83d\udd52\\xc2\\x85 pm\n    ^";
+        Refusal four = refusal(Reason.UNKNOWN, () -> Fuzzydate.read(Reading.FIRST, clock, NOW), "a letter of four bytes");
+        same(four.getMessage(), shown, "a letter of four bytes");
         Refusal half = refusal(Reason.UNKNOWN, () -> Fuzzydate.read(Reading.FIRST, "at \ud800", NOW), "half of a surrogate pair");
         same(half.getMessage(), "not understood\n  at ?\n     ^", "half of a surrogate pair");
     }
@@ -217,13 +218,17 @@ final class Every {
         }
         same(Arrays.asList(Offset.UNKNOWN, Offset.east(0), Offset.west(300)).toString(), "[Unknown, East(0), West(300)]", "offsets shown");
         expect(!Offset.UNKNOWN.isKnown() && Offset.east(0).isKnown() && Offset.west(1).isKnown(), "which offsets are known");
-        throwsA(IllegalArgumentException.class, () -> Stamp.of(OffsetDateTime.parse("2026-02-11T09:30:15+00:00:30")), "an offset with seconds");
+        OffsetDateTime seconds = OffsetDateTime.parse("2026-02-11T09:30:15+00:00:30");
+        throwsA(IllegalArgumentException.class, () -> Stamp.of(seconds), "an offset with seconds");
     }
 
     private void found(Reading reading, String word, OptionalInt code, int comparisons) {
-        FoundWord found = Fuzzydate.findWord(reading, word);
+        FoundWord found = Fuzzydate.findWord(reading, word), same = new FoundWord(code.orElse(0), comparisons);
         same(found.code(), code, word);
         same(found.comparisons(), comparisons, word);
+        same(found, same, word);
+        same(found.hashCode(), same.hashCode(), word + ": its hash");
+        expect(!found.equals(new FoundWord(999, comparisons)) && !found.equals(new FoundWord(code.orElse(0), 9)), word + ": no other");
     }
 
     private void words() {
@@ -233,6 +238,8 @@ final class Every {
         found(Reading.SECOND, "FORTY", OptionalInt.of(40), 5);
         found(Reading.FIRST, "", OptionalInt.empty(), 7);
         expect(!Fuzzydate.findWord(Reading.FIRST, new byte[4096]).code().isPresent(), "a long word");
+        same(Fuzzydate.findWord(Reading.SECOND, "forty").toString(), "code 40 by 5 comparisons", "a word as text");
+        same(Fuzzydate.findWord(Reading.FIRST, "forty").toString(), "no word by 7 comparisons", "no word as text");
         for (int number = 1; number < 1000; number++) {
             boolean said = !Calls.words(number).equals(Calls.words(0xffff));
             same(said, Reason.of(number) != Reason.OTHER, "whether the header has words for refusal " + number);
@@ -264,7 +271,8 @@ final class Every {
     }
 
     private void phrases() throws Refusal {
-        for (LocalDateTime moment : new LocalDateTime[] {WHOLE, LEAP_DAY, LocalDateTime.of(9999, 12, 31, 23, 59), LocalDateTime.of(1000, 9, 30, 0, 0)}) {
+        LocalDateTime early = LocalDateTime.of(1000, 9, 30, 0, 0), late = LocalDateTime.of(9999, 12, 31, 23, 59);
+        for (LocalDateTime moment : new LocalDateTime[] {WHOLE, LEAP_DAY, early, late}) {
             for (Reading reading : Reading.values()) {
                 same(Fuzzydate.read(reading, Fuzzydate.writePhrase(moment), NOW), moment, "a phrase that was shown");
             }
@@ -281,7 +289,7 @@ final class Every {
         return next;
     }
 
-    /** What is listed from Tuesday on, at its time of day; and at each of these which one comes next, and behind it, unless more were not listed. */
+    /** What is listed from Tuesday on, at its time of day; and which one comes next at and after each, unless more were not listed. */
     private void listed(String rule, int most, String... dates) throws Refusal {
         List<LocalDateTime> wanted = new ArrayList<>();
         for (String date : dates) {
@@ -310,7 +318,8 @@ final class Every {
         listed("FREQ=MONTHLY;BYMONTHDAY=+10", 1, "2026-02-10");
         listed(TUESDAYS, 0);
         LocalDateTime last = LocalDateTime.of(9999, 12, 31, 9, 30, 15, 250_000_000);
-        same(Fuzzydate.occurrences("FREQ=DAILY", last.withDayOfMonth(30), 9), Arrays.asList(last.withDayOfMonth(30), last), "the last days");
+        LocalDateTime before = last.minusDays(1);
+        same(Fuzzydate.occurrences("FREQ=DAILY", before, 9), Arrays.asList(before, last), "the last days");
         same(coming("FREQ=DAILY", last), last, "the last day");
         refusal(Reason.NO_NEXT, () -> coming("FREQ=DAILY", last.plus(1, ChronoUnit.MILLIS)), "behind the last day");
         same(coming(TUESDAYS, LocalDateTime.of(1, 1, 1, 0, 0)), TUESDAY, "asked before the start");
@@ -336,7 +345,8 @@ final class Every {
     }
 
     private void refusedRules() {
-        for (String rule : new String[] {"", "FREQ=YEARLY", "RRULE:FREQ=DAILY", "FREQ=DAILY;", "FREQ=DAILY;COUNT=0", "FREQ=DAILY\0", "FREQ=DAILY\u00e9"}) {
+        String[] none = {"", "FREQ=YEARLY", "RRULE:FREQ=DAILY", "FREQ=DAILY;", "FREQ=DAILY;COUNT=0", "FREQ=DAILY\0", "FREQ=DAILY\u00e9"};
+        for (String rule : none) {
             unlisted(rule, TUESDAY, Reason.NO_RULE, "not a repeating rule that is accepted");
         }
         for (String rule : new String[] {"FREQ=WEEKLY;BYDAY=MO", "FREQ=MONTHLY;BYMONTHDAY=31", "FREQ=DAILY;UNTIL=20260210T093015"}) {
@@ -457,7 +467,8 @@ final class Every {
         }
         for (int seconds : new int[] {64_801, -64_801, 93_599, -89_999}) {
             Local local = due(Reading.FIRST, "now", withOffset(seconds), now);
-            same(local, new Local(now, LocalDateTime.parse("2026-02-01T12:00:00").plusSeconds(seconds), seconds), "an offset above 18 hours");
+            LocalDateTime shown = LocalDateTime.parse("2026-02-01T12:00:00").plusSeconds(seconds);
+            same(local, new Local(now, shown, seconds), "an offset above 18 hours");
             same(local.toOffsetDateTime(), Optional.empty(), "an offset that java.time does not have");
             same(local.toString(), local.moment() + ", " + seconds + " seconds from UTC", "an offset as text");
         }
@@ -474,7 +485,8 @@ final class Every {
         int kept = 0;
         for (int bit = 0; bit < 8 * zone.length; bit++) {
             byte[] damaged = flipped(zone, bit);
-            kept += refusedWithin(Reason.INVALID_MOMENT, Reason.NO_INSTANT, () -> due(Reading.SECOND, "tomorrow", damaged, BEFORE_GAP)) ? 0 : 1;
+            Call tomorrow = () -> due(Reading.SECOND, "tomorrow", damaged, BEFORE_GAP);
+            kept += refusedWithin(Reason.INVALID_MOMENT, Reason.NO_INSTANT, tomorrow) ? 0 : 1;
         }
         expect(kept > 0, "other zones");
         Local now = due(Reading.FIRST, "now", zone, BEFORE_GAP);
@@ -482,9 +494,13 @@ final class Every {
         undue(Reason.NO_ZONE, "now", Arrays.copyOf(zone, 65_537), BEFORE_GAP);
     }
 
-    private void heads(Board board, int slot, LocalDateTime moment, String what) throws Refusal {
-        same(board.head().slot(), slot, what);
-        same(board.head().moment(), moment, what);
+    private void heads(Board board, int slot, LocalDateTime moment, String what) {
+        Due head = board.head().get();
+        same(head, new Due(slot, moment), what);
+        same(head.hashCode(), new Due(slot, moment).hashCode(), what + ": its hash");
+        same(head.slot() + " " + head.moment(), slot + " " + moment, what);
+        same(head.toString(), "slot " + slot + " at " + moment, what + ": as text");
+        expect(!head.equals(new Due(slot + 1, moment)) && !head.equals(new Due(slot, moment.plusDays(1))), what + ": no other");
     }
 
     private void ordered(Board board, int... slots) {
@@ -517,11 +533,20 @@ final class Every {
         return refusal;
     }
 
+    /** A board that nothing is due on. */
+    private void headless(Board board, String what) {
+        same(board.head(), Optional.empty(), "the head of " + what);
+        int[] moment = new int[Calls.MOMENT_NUMBERS];
+        Call head = () -> Refusal.check(Calls.boardHead(board.memory, moment), new byte[0]);
+        same(left(board, Reason.NOTHING_DUE, head, what).getMessage(), "no reminder has a moment", "a message");
+        expect(Arrays.equals(moment, new int[Calls.MOMENT_NUMBERS]), "nothing written where nothing is due");
+    }
+
     private void refusedBoards() throws Refusal {
         Board board = new Board(LEAP_DAY);
-        left(board, Reason.NOTHING_DUE, board::head, "the head of an empty board");
+        headless(board, "an empty board");
         same(board.add(Reading.FIRST, "a year from now"), 0, "a phrase that refuses at the board's now");
-        same(left(board, Reason.NOTHING_DUE, board::head, "the head of no moment").getMessage(), "no reminder has a moment", "a message");
+        headless(board, "no moment");
         board.again(NOW);
         heads(board, 0, NOW.withYear(2027), "a moment at another now");
         for (int slot : new int[] {1, 255, 256, Integer.MAX_VALUE, -1, Integer.MIN_VALUE}) {
@@ -531,13 +556,15 @@ final class Every {
             refusal(Reason.INVALID_MOMENT, () -> new Board(NOW.withYear(year)), "a board in the year " + year);
             left(board, Reason.INVALID_MOMENT, () -> ranAgain(board, NOW.withYear(year)), "running again in the year " + year);
         }
-        same(left(board, Reason.UNKNOWN, () -> board.add(Reading.FIRST, "next forty"), "forty").place(), 5, "the place of a refused phrase");
+        Refusal forty = left(board, Reason.UNKNOWN, () -> board.add(Reading.FIRST, "next forty"), "forty");
+        same(forty.place(), 5, "the place of a refused phrase");
         for (int slot = 1; slot < Calls.BOARD_SLOTS; slot++) {
             same(board.add(Reading.SECOND, "tomorrow"), slot, "a board filled");
         }
         left(board, Reason.FULL_BOARD, () -> board.add(Reading.FIRST, "now"), "a full board");
         left(board, Reason.LEFT_OVER, () -> board.add(Reading.FIRST, "5/2"), "a refused phrase on a full board");
-        left(board, Reason.NO_READING, () -> Refusal.check(Calls.boardAdd(board.memory, 3, new byte[0]), new byte[0]), "no reading on a full board");
+        Call third = () -> Refusal.check(Calls.boardAdd(board.memory, 3, new byte[0]), new byte[0]);
+        left(board, Reason.NO_READING, third, "no reading on a full board");
         board.remove(77);
         same(board.add(Reading.FIRST, "now"), 77, "a slot of a full board");
         heads(board, 77, NOW, "the head of a full board");
@@ -560,14 +587,14 @@ final class Every {
         random.nextBytes(bytes);
         board.memory.duplicate().put(bytes);
         int slot = random.nextInt(258);
-        refusedWithin(Reason.NOTHING_DUE, Reason.NOTHING_DUE, board::head);
+        expect(board.head() != null, "the head of any memory");
         refusedWithin(Reason.EMPTY_SLOT, Reason.EMPTY_SLOT, () -> removed(board, slot));
         refusedWithin(Reason.FULL_BOARD, Reason.FULL_BOARD, () -> board.add(Reading.FIRST, "noon"));
         for (int ordered : board.order()) {
             expect(ordered >= 0 && ordered < Calls.BOARD_SLOTS, "an order of any memory");
         }
         board.again(NOW);
-        refusedWithin(Reason.NOTHING_DUE, Reason.NOTHING_DUE, board::head);
+        expect(board.head() != null, "the head of any memory, run again");
     }
 
     /** One board that all threads add to and remove from. */
@@ -599,7 +626,7 @@ final class Every {
             throwsA(IllegalArgumentException.class, () -> Fuzzydate.writePhrase(now), "showing nanoseconds");
             throwsA(IllegalArgumentException.class, () -> new Stamp(now, Offset.UNKNOWN), "a stamp with nanoseconds");
             throwsA(IllegalArgumentException.class, () -> Fuzzydate.occurrences("FREQ=DAILY", now, 1), "a start with nanoseconds");
-            throwsA(IllegalArgumentException.class, () -> Fuzzydate.next("FREQ=DAILY", now, WHOLE), "a start with nanoseconds to be asked from");
+            throwsA(IllegalArgumentException.class, () -> Fuzzydate.next("FREQ=DAILY", now, WHOLE), "asked from nanoseconds on");
             throwsA(IllegalArgumentException.class, () -> Fuzzydate.next("FREQ=DAILY", WHOLE, now), "asked at nanoseconds");
             throwsA(IllegalArgumentException.class, () -> new Board(now), "a board at nanoseconds");
             throwsA(IllegalArgumentException.class, () -> ranAgain(new Board(WHOLE), now), "running again at nanoseconds");
@@ -608,7 +635,37 @@ final class Every {
         same(Fuzzydate.run(ready, last), last, "999 milliseconds");
     }
 
-    /** What only Calls can be asked: other readings, short texts, arrays that are missing or too short; nothing is written by any of these. */
+    /** The methods whose names say that they cut or round do so, for what a clock gives too. */
+    private void clocks() throws Refusal {
+        LocalDateTime clock = WHOLE.withNano(250_999_999), cut = WHOLE.withNano(250_000_000);
+        byte[] ready = Fuzzydate.makeReady(Reading.FIRST, "now");
+        same(Fuzzydate.readCutToMillis(Reading.FIRST, "now", clock), cut, "a now that is cut");
+        same(Fuzzydate.runCutToMillis(ready, clock), cut, "a now that is cut, made ready");
+        Instant instant = BEFORE_GAP.plusNanos(999_999), before = Instant.parse("1969-12-31T23:59:59.999999999Z");
+        same(Fuzzydate.readInZoneCutToMillis(Reading.FIRST, "now", zone, instant).instant(), BEFORE_GAP, "an instant that is cut");
+        same(Fuzzydate.runInZoneCutToMillis(ready, zone, before).instant(), Instant.parse("1969-12-31T23:59:59.999Z"), "one before 1970");
+        OffsetDateTime time = clock.atOffset(ZoneOffset.ofHours(-5));
+        same(Stamp.ofCutToMillis(time).toString(), "2026-03-04T09:05:00.250-05:00", "a stamp that is cut");
+        Board board = Board.cutToMillis(clock);
+        board.add(Reading.FIRST, "now");
+        heads(board, 0, cut, "a board whose now is cut");
+        board.againCutToMillis(clock.plusDays(1));
+        heads(board, 0, cut.plusDays(1), "a board whose other now is cut");
+
+        String daily = "FREQ=DAILY";
+        same(Fuzzydate.nextRoundedUpToMillis(daily, cut, cut), cut, "asked at an occurrence");
+        same(Fuzzydate.nextRoundedUpToMillis(daily, cut, cut.minusNanos(1)), cut, "asked a nanosecond before an occurrence");
+        same(Fuzzydate.nextRoundedUpToMillis(daily, cut, cut.plusNanos(1)), cut.plusDays(1), "asked a nanosecond after an occurrence");
+        LocalDateTime last = LocalDateTime.of(9999, 12, 31, 23, 59, 59, 999_000_000);
+        same(Fuzzydate.nextRoundedUpToMillis(daily, last, last), last, "asked at the last moment");
+        for (LocalDateTime none : new LocalDateTime[] {last.plusNanos(1), LocalDateTime.MAX, LocalDateTime.MIN}) {
+            refusal(Reason.INVALID_MOMENT, () -> Fuzzydate.nextRoundedUpToMillis(daily, last, none), "asked at " + none);
+        }
+        expect(Fuzzydate.readCutToMillis(Reading.SECOND, "tomorrow", LocalDateTime.now()).getNano() % 1_000_000 == 0, "a clock");
+        expect(Fuzzydate.nextRoundedUpToMillis(daily, cut, LocalDateTime.now()).getNano() == cut.getNano(), "a clock that is asked");
+    }
+
+    /** What only Calls can be asked: other readings, short texts, arrays that are missing or too short; none of these writes anything. */
     private void calls() {
         byte[] today = "today".getBytes(StandardCharsets.UTF_8), bytes = new byte[Calls.READY_SIZE];
         int[] now = Moments.numbers(WHOLE, 9), numbers = new int[9];
@@ -619,10 +676,12 @@ final class Every {
             refusal(Reason.NO_READING, () -> Refusal.check(Calls.read(reading, today, now, numbers), today), "reading " + reading);
             refusal(Reason.NO_READING, () -> Refusal.check(Calls.makeReady(reading, today, bytes), today), "making ready " + reading);
             refusal(Reason.NO_READING, () -> Refusal.check(Calls.findWord(reading, today, numbers), today), "a word of reading " + reading);
-            refusal(Reason.NO_READING, () -> Refusal.check(Calls.readInZone(reading, today, zone, 0, 0, due, numbers), today), "in a zone " + reading);
+            Call inZone = () -> Refusal.check(Calls.readInZone(reading, today, zone, 0, 0, due, numbers), today);
+            refusal(Reason.NO_READING, inZone, "in a zone " + reading);
         }
         for (int millisecond : new int[] {1000, -1}) {
-            refusal(Reason.INVALID_MOMENT, () -> Refusal.check(Calls.readInZone(1, today, zone, 0, millisecond, due, numbers), today), "no millisecond");
+            Call inZone = () -> Refusal.check(Calls.readInZone(1, today, zone, 0, millisecond, due, numbers), today);
+            refusal(Reason.INVALID_MOMENT, inZone, "no millisecond");
         }
         for (int room : new int[] {0, 19}) {
             byte[] text = new byte[room];
@@ -631,7 +690,8 @@ final class Every {
             expect(Arrays.equals(text, new byte[room]), "nothing written where there is no room");
         }
         byte[] exact = new byte[20];
-        expect(Calls.number(Calls.writeStamp(now, exact)) == 0 && Calls.number(Calls.writePhrase(now, exact)) == 0, "room for exactly the text");
+        expect(Calls.number(Calls.writeStamp(now, exact)) == 0, "room for exactly a stamp");
+        expect(Calls.number(Calls.writePhrase(now, exact)) == 0, "room for exactly a phrase");
 
         Class<NullPointerException> none = NullPointerException.class;
         throwsA(none, () -> Calls.read(1, null, now, numbers), "no phrase");
@@ -678,8 +738,8 @@ final class Every {
         throwsA(none, () -> Calls.boardHead(board, null), "no moment of a head");
         throwsA(none, () -> Calls.boardOrder(null, numbers), "no board in order");
         throwsA(none, () -> Calls.boardOrder(board, null), "no slots");
-        ByteBuffer direct = ByteBuffer.allocateDirect(Calls.BOARD_SIZE + 8);
-        for (ByteBuffer other : new ByteBuffer[] {ByteBuffer.allocate(Calls.BOARD_SIZE), ByteBuffer.allocateDirect(Calls.BOARD_SIZE - 1), direct}) {
+        ByteBuffer smaller = ByteBuffer.allocateDirect(Calls.BOARD_SIZE - 1), larger = ByteBuffer.allocateDirect(Calls.BOARD_SIZE + 8);
+        for (ByteBuffer other : new ByteBuffer[] {ByteBuffer.allocate(Calls.BOARD_SIZE), smaller, larger}) {
             throwsA(IllegalArgumentException.class, () -> Calls.boardRemove(other, 0), "a board that is none");
         }
 
@@ -840,6 +900,7 @@ final class Every {
         boards();
         refusedBoards();
         nanoseconds();
+        clocks();
         calls();
         nulls();
         garbage(seed);
@@ -869,7 +930,7 @@ final class Every {
         for (Future<Void> end : ended) {
             end.get();
         }
-        System.out.println("bindings/java: every call answered as it should, by " + first.checks + " checks, and " + ROUNDS + " times in each of " + THREADS
-                + " threads at once");
+        System.out.println("bindings/java: every call answered as it should, by " + first.checks + " checks, and " + ROUNDS
+                + " times in each of " + THREADS + " threads at once");
     }
 }

@@ -1,0 +1,26 @@
+# Says whether this version will do for find_package(fuzzydate VERSION): the same major version, and not an older one. The version is the
+# header's.
+file(STRINGS "${CMAKE_CURRENT_LIST_DIR}/../../../include/fuzzy.h" PACKAGE_VERSION REGEX "^#define FUZZY_VERSION \"")
+string(REGEX REPLACE "^.*\"(.*)\"$" "\\1" PACKAGE_VERSION "${PACKAGE_VERSION}")
+string(REGEX MATCH "^[0-9]+" fuzzydate_major "${PACKAGE_VERSION}")
+
+if(PACKAGE_FIND_VERSION_RANGE)
+    set(fuzzydate_least "${PACKAGE_FIND_VERSION_MIN}")
+    set(fuzzydate_least_major "${PACKAGE_FIND_VERSION_MIN_MAJOR}")
+else()
+    set(fuzzydate_least "${PACKAGE_FIND_VERSION}")
+    set(fuzzydate_least_major "${PACKAGE_FIND_VERSION_MAJOR}")
+endif()
+
+set(PACKAGE_VERSION_COMPATIBLE FALSE)
+if(NOT PACKAGE_VERSION VERSION_LESS fuzzydate_least AND fuzzydate_least_major EQUAL fuzzydate_major)
+    set(PACKAGE_VERSION_COMPATIBLE TRUE)
+endif()
+if(PACKAGE_FIND_VERSION_RANGE_MAX STREQUAL "INCLUDE" AND PACKAGE_VERSION VERSION_GREATER PACKAGE_FIND_VERSION_MAX)
+    set(PACKAGE_VERSION_COMPATIBLE FALSE)
+elseif(PACKAGE_FIND_VERSION_RANGE_MAX STREQUAL "EXCLUDE" AND NOT PACKAGE_VERSION VERSION_LESS PACKAGE_FIND_VERSION_MAX)
+    set(PACKAGE_VERSION_COMPATIBLE FALSE)
+endif()
+if(PACKAGE_FIND_VERSION VERSION_EQUAL PACKAGE_VERSION)
+    set(PACKAGE_VERSION_EXACT TRUE)
+endif()
