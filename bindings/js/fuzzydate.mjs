@@ -45,9 +45,11 @@ const NEWER = Object.freeze({ reason: null, words: "a refusal of a newer library
 // the UTF-16 units of a string, of whole characters.
 export class Refusal extends Error {
     constructor(number, place, length, text) {
-        const { reason, words } = REASONS[number] ?? NEWER;
-        const [index, end] = typeof text === "string" ? unitsOf(text, place, place + length) : [place, place + length];
-        super(`${reason === null ? `${words}: ${number}` : words}${underlined(text, index, end)}`);
+        const { reason, words } = REASONS[number] ?? NEWER, isPlain = place + length === 0 || typeof text !== "string" || isASCII(text);
+        let index = place, end = place + length;
+        if (!isPlain) [index, end] = unitsOf(text, index, end);
+        const part = partOf(text, index, end);
+        super(`${reason === null ? `${words}: ${number}` : words}${part.length === 0 ? "" : underlined(text, index, end, isPlain)}`);
         this.number = number;
         this.reason = reason;
         this.words = words;
@@ -55,10 +57,13 @@ export class Refusal extends Error {
         this.length = length;
         this.index = index;
         this.width = end - index;
-        this.part = partOf(text, index, end);
+        this.part = part;
     }
 }
 Object.defineProperty(Refusal.prototype, "name", { value: "Refusal", configurable: true, writable: true });
+
+// Whether a text is of printable characters of one byte each.
+const isASCII = (text) => !/[^ -~]/.test(text);
 
 // A part of a string, or a copy of a part of bytes.
 function partOf(text, begin, end) {
@@ -66,13 +71,12 @@ function partOf(text, begin, end) {
     return typeof text === "string" ? text.slice(begin, end) : Uint8Array.prototype.slice.call(text, begin, end);
 }
 
-// Two more lines of a message: the text, and marks below its refused part. Without a part there are none.
-function underlined(text, begin, end) {
-    if (begin === end || text === undefined) return "";
+// Two more lines of a message: the text, and marks below its refused part.
+function underlined(text, begin, end, isPlain) {
     if (typeof text !== "string") return ` at byte ${begin}`;
-    const plain = !/[^ -~]/.test(text), columns = (string) => (plain ? string.length : [...string].length);
-    const indent = " ".repeat(columns(text.slice(0, begin))), marks = "^".repeat(columns(text.slice(begin, end)));
-    return `\n    ${plain ? text : text.replace(/\p{Cc}/gu, "\ufffd")}\n    ${indent}${marks}`;
+    if (isPlain) return `\n    ${text}\n    ${" ".repeat(begin)}${"^".repeat(end - begin)}`;
+    const columns = (string) => [...string].length, line = text.replace(/\p{Cc}/gu, "\ufffd");
+    return `\n    ${line}\n    ${" ".repeat(columns(text.slice(0, begin)))}${"^".repeat(columns(text.slice(begin, end)))}`;
 }
 
 // --- arguments

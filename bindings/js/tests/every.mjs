@@ -175,6 +175,8 @@ test("places of every character and byte, beside a slow count", () => {
         }
     }
     assert.deepEqual([new Refusal(2, 3, 0, text).index, new Refusal(2, 99, 0, text).index], [2, text.length]);
+    const long = `${"ß".repeat(300)}christmas`;
+    assert.deepEqual([new Refusal(2, 600, 9, long).index, new Refusal(2, 600, 9, long).part], [300, "christmas"]);
 });
 
 test("a refusal of a newer library is carried", () => {

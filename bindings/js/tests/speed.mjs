@@ -1,12 +1,13 @@
 // What a read through the module costs beside the bare call of the WebAssembly, over the phrases of the replayed list:
 // node speed.mjs FOLDER [OTHER]. Fails where it is over 3 times. OTHER is another fuzzydate.wasm, as of another level of
-// optimization: then it says how much slower the module's own is. Time of the processor is counted, the least of many rounds.
+// optimization: then it says how much slower the module's own is. The least of many rounds is taken, which other work on the
+// machine does not lengthen.
 import { readFileSync } from "node:fs";
 import { resolve } from "node:path";
 import { pathToFileURL } from "node:url";
 import { lineOf, linesOf } from "./lent.mjs";
 
-const MOST = 3, ROUNDS = 15, PAGE = 65_536, PARTS = ["year", "month", "day", "hour", "minute", "second", "millisecond"];
+const MOST = 3, ROUNDS = 60, PAGE = 65_536, PARTS = ["year", "month", "day", "hour", "minute", "second", "millisecond"];
 const [folder, other] = process.argv.slice(2);
 const { load } = await import(pathToFileURL(resolve(folder, "fuzzydate.mjs")));
 
@@ -51,12 +52,12 @@ function leastOf(runs, count) {
     const least = runs.map(() => Infinity);
     for (let round = 0; round < ROUNDS; round += 1) {
         runs.forEach((run, i) => {
-            const { user } = process.cpuUsage();
-            for (let k = 0; k < 3; k += 1) run();
-            least[i] = Math.min(least[i], process.cpuUsage().user - user);
+            const begin = process.hrtime.bigint();
+            run();
+            least[i] = Math.min(least[i], Number(process.hrtime.bigint() - begin));
         });
     }
-    return least.map((time) => (1000 * time) / (3 * count));
+    return least.map((time) => time / count);
 }
 
 const moduleOf = (file) => new WebAssembly.Module(readFileSync(file)), own = moduleOf(resolve(folder, "fuzzydate.wasm"));
