@@ -1,8 +1,7 @@
 /* Fills a board with so many reminders and makes one call so many times: board CALL REMINDERS ROUNDS. `add` adds the last reminder to a
- * board that has the others, `add_ready` adds it made ready, `remove` removes the first; before each of these the board is put back, by
- * copying all but the ready phrases, which `restore` does alone. `ready` makes the last reminder's phrase ready, as `add` does; `moment`
- * finds the last slot's moment; `scan` runs every ready phrase at the now and keeps the earliest. It fails where the head is another than
- * the scan's, or a call is refused. */
+ * board that has the others, `remove` removes the first; before either the board is put back, by copying all but the ready phrases, which
+ * `restore` does alone. `ready` makes the last reminder's phrase ready, as `add` does; `scan` runs every ready phrase at the now and keeps
+ * the earliest. It fails where the head is another than the scan's, or a call is refused. */
 #include "fuzzy.h"
 #include "page.h"
 
@@ -85,11 +84,6 @@ static uint64_t call_add(size_t count) {
     return add(count - 1);
 }
 
-static uint64_t call_add_ready(size_t count) {
-    restore(&but_last);
-    return fuzzy_board_add_ready(&board, ready[count - 1], lengths[count - 1]);
-}
-
 static uint64_t call_remove(size_t count) {
     (void)count;
     restore(&all);
@@ -107,11 +101,6 @@ static uint64_t call_head(size_t count) {
     return fuzzy_board_head(&board, &moment);
 }
 
-static uint64_t call_moment(size_t count) {
-    struct fuzzy_moment moment;
-    return fuzzy_board_moment(&board, (uint32_t)(count - 1), &moment);
-}
-
 static uint64_t call_order(size_t count) {
     static uint32_t slots[FUZZY_BOARD_SLOTS];
     (void)count;
@@ -126,9 +115,8 @@ static uint64_t call_scan(size_t count) {
 static const struct {
     const char *name;
     uint64_t (*call)(size_t count);
-} calls[] = {{"make", call_make},     {"ready", call_ready}, {"restore", call_restore}, {"add", call_add},
-             {"remove", call_remove}, {"again", call_again}, {"head", call_head},       {"add_ready", call_add_ready},
-             {"moment", call_moment}, {"order", call_order}, {"scan", call_scan}};
+} calls[] = {{"make", call_make},   {"ready", call_ready}, {"restore", call_restore}, {"add", call_add},  {"remove", call_remove},
+             {"again", call_again}, {"head", call_head},   {"order", call_order},     {"scan", call_scan}};
 
 /* The reminders put on the board, and their ready phrases kept for the scan; the head must be the scan's. */
 static int fill(size_t count) {

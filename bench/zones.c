@@ -1,7 +1,6 @@
 /* Reads the phrases of a file, or runs them made ready, so many times: zones PHRASES CALL ROUNDS [ZONE]. CALL is `read` or `run`. With a
- * zone's file each call is at 2026-02-11T14:30:15.250Z there, without one at 2026-02-11 09:30:15.250, which New York's clocks show then. As
- * often as there are phrases, CALL `until` finds until when the file is good, and `find` finds America/New_York in it, which is then a
- * bundle. It fails where one is refused. */
+ * zone's file each call is at 2026-02-11T14:30:15.250Z there, without one at 2026-02-11 09:30:15.250, which New York's clocks show then.
+ * It fails where one is refused. */
 #include "fuzzy.h"
 #include "page.h"
 
@@ -35,60 +34,29 @@ static void take_phrases(FILE *from) {
     }
 }
 
-static uint64_t call_read(const struct phrase *p) {
+static uint64_t call(const struct phrase *p, int run, int zoned) {
     struct fuzzy_moment moment;
-    return fuzzy_read(FUZZY_FIRST, p->text, p->length, &now, &moment);
-}
-
-static uint64_t call_run(const struct phrase *p) {
-    struct fuzzy_moment moment;
-    return fuzzy_run(p->ready, p->ready_length, &now, &moment);
-}
-
-static uint64_t call_read_in_zone(const struct phrase *p) {
     struct fuzzy_local local;
     int64_t due;
+    if (!zoned) {
+        if (run) return fuzzy_run(p->ready, p->ready_length, &now, &moment);
+        return fuzzy_read(FUZZY_FIRST, p->text, p->length, &now, &moment);
+    }
+    if (run) return fuzzy_run_in_zone(p->ready, p->ready_length, zone, zone_length, SECOND, MILLISECOND, &due, &local);
     return fuzzy_read_in_zone(FUZZY_FIRST, p->text, p->length, zone, zone_length, SECOND, MILLISECOND, &due, &local);
 }
 
-static uint64_t call_run_in_zone(const struct phrase *p) {
-    struct fuzzy_local local;
-    int64_t due;
-    return fuzzy_run_in_zone(p->ready, p->ready_length, zone, zone_length, SECOND, MILLISECOND, &due, &local);
-}
-
-static uint64_t call_until(const struct phrase *p) {
-    int64_t until;
-    (void)p;
-    return fuzzy_zone_until(zone, zone_length, &until);
-}
-
-static uint64_t call_find(const struct phrase *p) {
-    uint64_t place[FUZZY_PLACE_NUMBERS];
-    (void)p;
-    return fuzzy_find_zone(zone, zone_length, "America/New_York", 16, place);
-}
-
-/* The calls by their names, with a zone's file or without one. */
-static const struct {
-    const char *name;
-    int zoned;
-    uint64_t (*call)(const struct phrase *p);
-} calls[] = {{"read", 0, call_read},        {"run", 0, call_run},     {"read", 1, call_read_in_zone},
-             {"run", 1, call_run_in_zone}, {"until", 1, call_until}, {"find", 1, call_find}};
-
 static int make_calls(int words, char **word) {
     FILE *from = words < 4 ? NULL : fopen(word[1], "r"), *file = words < 5 ? NULL : fopen(word[4], "rb");
+    int run = words > 2 && strcmp(word[2], "run") == 0;
     unsigned long rounds;
-    size_t i, chosen = 0, most = sizeof calls / sizeof calls[0];
+    size_t i;
     if (from == NULL || (words > 4 && file == NULL)) return 2;
-    while (chosen < most && (strcmp(word[2], calls[chosen].name) != 0 || calls[chosen].zoned != (file != NULL))) chosen++;
-    if (chosen == most) return 2;
     take_phrases(from);
     if (file != NULL) zone_length = fread(zone, 1, sizeof zone, file);
     for (rounds = strtoul(word[3], NULL, 10); rounds > 0; rounds--) {
         for (i = 0; i < count; i++) {
-            if (!fuzzy_ok(calls[chosen].call(&phrases[i]))) return 1;
+            if (!fuzzy_ok(call(&phrases[i], run, file != NULL))) return 1;
         }
     }
     return count == 0;

@@ -1,4 +1,4 @@
-/* fuzzy.h: reads reminder phrases such as "next friday at 3 pm" at a now that the caller gives. Version 1.1.0.
+/* fuzzy.h: reads reminder phrases such as "next friday at 3 pm" at a now that the caller gives. Version 1.0.0.
  *
  * Link with libfuzzydate.a of your target. No function allocates memory, keeps state, or reads a clock, a locale or a
  * file, so every function may run in any thread. The library calls only C's memcpy, memmove and memset (on Apple's
@@ -24,9 +24,9 @@
 #include <stdint.h>
 
 /* The version of this header; fuzzy_version() gives that of the library. */
-#define FUZZY_VERSION "1.1.0"
+#define FUZZY_VERSION "1.0.0"
 #define FUZZY_VERSION_MAJOR 1
-#define FUZZY_VERSION_MINOR 1
+#define FUZZY_VERSION_MINOR 0
 #define FUZZY_VERSION_PATCH 0
 
 /* The numbers of a moment, of a stamp, and of what a zone's clocks show. */
@@ -37,15 +37,10 @@
 /* What fuzzy_find_word writes. */
 #define FUZZY_FOUND_NUMBERS 2
 
-/* What fuzzy_find_zone writes. */
-#define FUZZY_PLACE_NUMBERS 2
-
-/* The buffers that are always large enough, in bytes: for a ready phrase, for a stamp's text, for a moment's phrase, and for a
- * word. */
+/* The buffers that are always large enough, in bytes: for a ready phrase, for a stamp's text, and for a moment's phrase. */
 #define FUZZY_READY_SIZE 384
 #define FUZZY_STAMP_SIZE 29
 #define FUZZY_PHRASE_SIZE 26
-#define FUZZY_WORD_SIZE 11
 
 /* The reminders of a board, and the bytes of their ready phrases. */
 #define FUZZY_BOARD_SLOTS 256
@@ -140,13 +135,10 @@ enum fuzzy_refusal {
     FUZZY_NO_INSTANT = 23,    /* a time that the zone's clocks skip */
     FUZZY_FULL_BOARD = 24,    /* no slot of the board is free */
     FUZZY_EMPTY_SLOT = 25,    /* the slot is empty */
-    FUZZY_NOTHING_DUE = 26,   /* no reminder of the board has a moment */
-    FUZZY_NO_WORD = 27,       /* no word of the reading begins so, or not so many do */
-    FUZZY_NO_BUNDLE = 28,     /* not a bundle of zones */
-    FUZZY_UNKNOWN_ZONE = 29   /* the bundle has no zone of that name */
+    FUZZY_NOTHING_DUE = 26    /* no reminder of the board has a moment */
 };
 
-/* The library's version: 1001000 for 1.1.0, by 1000000 * major + 1000 * minor + patch. */
+/* The library's version: 1000000 for 1.0.0, by 1000000 * major + 1000 * minor + patch. */
 uint32_t fuzzy_version(void);
 
 /* Reads a phrase at a now, in one of the two readings. Success: `moment` is the moment. Where the phrase states a time, noon
@@ -161,11 +153,6 @@ uint64_t fuzzy_make_ready(uint32_t reading, const char *phrase, uint64_t phrase_
 /* Runs a ready phrase at a now: gives what fuzzy_read gives for its phrase at that now. Bytes that are not a ready phrase are
  * refused with 9. */
 uint64_t fuzzy_run(const uint8_t *ready, uint64_t ready_length, const struct fuzzy_moment *now, struct fuzzy_moment *moment);
-
-/* Makes the ready phrase that gives this moment at every valid now, its second and millisecond included: for a reminder that is
- * read once at its author's now and must not move any more. Success: the first fuzzy_length bytes of `ready` are the ready phrase.
- * Refused with 8 for an invalid moment. A library of version 1.0 refuses such a ready phrase with 9. */
-uint64_t fuzzy_pin(const struct fuzzy_moment *moment, uint8_t ready[FUZZY_READY_SIZE]);
 
 /* Reads a whole text as an RFC 3339 stamp: "2026-02-11T09:30:15Z", or with an offset as in "2026-02-11T09:30:15+05:30", with
  * letters in either case. After the second there may be a "." and one to three digits: ".5" is 500 milliseconds, ".05" is 50.
@@ -182,14 +169,6 @@ uint64_t fuzzy_write_stamp(const struct fuzzy_stamp *stamp, char *text, uint64_t
  * for words of one meaning, or 0 where the reading has no such word; found[1] is the number of comparisons made, at most 8.
  * Letters in either case. Refused with 15. */
 uint64_t fuzzy_find_word(uint32_t reading, const char *word, uint64_t word_length, uint32_t found[FUZZY_FOUND_NUMBERS]);
-
-/* Lists a reading's words by their beginning, while a word is typed: the words that begin with the prefix, in alphabetical order,
- * `which` counted from 0. Letters in either case; the empty prefix is the beginning of all words. Success: the first fuzzy_length
- * bytes of `word` are the word, in small letters, the rest is unchanged, and `count` is how many such words there are. Refused, in
- * this order, with 15, 27 where there are not more than `which`, 17 for a buffer too short: FUZZY_WORD_SIZE bytes are always
- * enough. */
-uint64_t fuzzy_complete(uint32_t reading, const char *prefix, uint64_t prefix_length, uint32_t which, uint32_t *count, char *word,
-                        uint64_t word_length);
 
 /* Writes a moment as a phrase that people can edit: "march 4 2026 at 9:05". Success: the first fuzzy_length bytes of `text`, 15
  * to 26, are the phrase; the rest is unchanged. fuzzy_read gives the moment back at every now, in both readings for the years
@@ -249,25 +228,12 @@ uint64_t fuzzy_read_in_zone(uint32_t reading, const char *phrase, uint64_t phras
 uint64_t fuzzy_run_in_zone(const uint8_t *ready, uint64_t ready_length, const uint8_t *zone, uint64_t zone_length, int64_t second,
                            uint32_t millisecond, int64_t *due, struct fuzzy_local *local);
 
-/* Finds until when a zone's file is good: the second of its last transition, from which on every now is refused with 22. Success:
- * `until` is that second, counted as fuzzy_run_in_zone's. Refused with 21, and with 22 for a file without a transition. */
-uint64_t fuzzy_zone_until(const uint8_t *zone, uint64_t zone_length, int64_t *until);
-
-/* Finds a zone's file in a bundle of them (docs/FORMAT.md; bindings/zones/bundle writes one) by its name, such as
- * "America/New_York", with letters in either case. Success: the zone's bytes are the place[1] bytes of the bundle from place[0]
- * on: hand them to fuzzy_run_in_zone. Refused with 28 for bytes that are not a bundle, 29 for a name that the bundle has not. */
-uint64_t fuzzy_find_zone(const uint8_t *bundle, uint64_t bundle_length, const char *name, uint64_t name_length,
-                         uint64_t place[FUZZY_PLACE_NUMBERS]);
-
 /* What the calls for boards below are made of: the same calls on a board's parts. */
 uint64_t fuzzy_board_make_in(uint32_t lengths[FUZZY_BOARD_SLOTS], uint32_t state[FUZZY_MOMENT_NUMBERS + 1],
                              const struct fuzzy_moment *now);
 uint64_t fuzzy_board_add_in(uint8_t ready[FUZZY_BOARD_READY_SIZE], uint32_t lengths[FUZZY_BOARD_SLOTS],
                             uint64_t keys[FUZZY_BOARD_SLOTS], uint32_t state[FUZZY_MOMENT_NUMBERS + 1], uint32_t reading,
                             const char *phrase, uint64_t phrase_length);
-uint64_t fuzzy_board_add_ready_in(uint8_t board_ready[FUZZY_BOARD_READY_SIZE], uint32_t lengths[FUZZY_BOARD_SLOTS],
-                                  uint64_t keys[FUZZY_BOARD_SLOTS], uint32_t state[FUZZY_MOMENT_NUMBERS + 1], const uint8_t *ready,
-                                  uint64_t ready_length);
 uint64_t fuzzy_board_remove_in(uint32_t lengths[FUZZY_BOARD_SLOTS], uint64_t keys[FUZZY_BOARD_SLOTS],
                                uint32_t state[FUZZY_MOMENT_NUMBERS + 1], uint32_t slot);
 uint64_t fuzzy_board_again_in(const uint8_t ready[FUZZY_BOARD_READY_SIZE], const uint32_t lengths[FUZZY_BOARD_SLOTS],
@@ -275,8 +241,6 @@ uint64_t fuzzy_board_again_in(const uint8_t ready[FUZZY_BOARD_READY_SIZE], const
                               const struct fuzzy_moment *now);
 uint64_t fuzzy_board_head_in(const uint64_t keys[FUZZY_BOARD_SLOTS], const uint32_t state[FUZZY_MOMENT_NUMBERS + 1],
                              struct fuzzy_moment *moment);
-uint64_t fuzzy_board_moment_in(const uint8_t ready[FUZZY_BOARD_READY_SIZE], const uint32_t lengths[FUZZY_BOARD_SLOTS],
-                               const uint32_t state[FUZZY_MOMENT_NUMBERS + 1], uint32_t slot, struct fuzzy_moment *moment);
 uint64_t fuzzy_board_order_in(const uint64_t keys[FUZZY_BOARD_SLOTS], const uint32_t state[FUZZY_MOMENT_NUMBERS + 1],
                               uint32_t slots[FUZZY_BOARD_SLOTS]);
 
@@ -290,14 +254,6 @@ static inline uint64_t fuzzy_board_make(struct fuzzy_board *board, const struct 
  * it comes last, and may have a moment at another now. */
 static inline uint64_t fuzzy_board_add(struct fuzzy_board *board, uint32_t reading, const char *phrase, uint64_t phrase_length) {
     return fuzzy_board_add_in(board->ready, board->lengths, board->keys, board->state, reading, phrase, phrase_length);
-}
-
-/* Adds a reminder that is ready, as it is stored or sent: adding a phrase is making it ready and adding that. Success: it is in slot
- * fuzzy_length, the lowest that was free. Refused with 9 for bytes that are not a ready phrase, then with 24 for a full board: then
- * all is unchanged. Every reminder of a board is run at the board's now: one that must keep the moment of its author's now is read at
- * that now, pinned by fuzzy_pin and then added. */
-static inline uint64_t fuzzy_board_add_ready(struct fuzzy_board *board, const uint8_t *ready, uint64_t ready_length) {
-    return fuzzy_board_add_ready_in(board->ready, board->lengths, board->keys, board->state, ready, ready_length);
 }
 
 /* Removes a reminder: its slot is free again. Refused with 25 for an empty slot, and for 256 and above: then all is unchanged. */
@@ -317,12 +273,6 @@ static inline uint64_t fuzzy_board_head(const struct fuzzy_board *board, struct 
     return fuzzy_board_head_in(board->keys, board->state, moment);
 }
 
-/* Finds when a slot's reminder is due at the board's now. Success: `moment` is its moment. Refused with 25 for an empty slot, and for
- * 256 and above, else as fuzzy_run refuses the slot's ready phrase. */
-static inline uint64_t fuzzy_board_moment(const struct fuzzy_board *board, uint32_t slot, struct fuzzy_moment *moment) {
-    return fuzzy_board_moment_in(board->ready, board->lengths, board->state, slot, moment);
-}
-
 /* Lists the filled slots in order, each once: by moment and, for equal moments, by slot; after them those without a moment at the
  * board's now, by slot. It is never refused: the first fuzzy_length numbers of `slots` are written, the rest is unchanged. */
 static inline uint64_t fuzzy_board_order(const struct fuzzy_board *board, uint32_t slots[FUZZY_BOARD_SLOTS]) {
@@ -338,9 +288,8 @@ static inline int fuzzy_ok(uint64_t answer) { return fuzzy_number(answer) == 0; 
 /* Where the refused part of a text begins, in bytes. */
 static inline uint32_t fuzzy_place(uint64_t answer) { return (uint32_t)((answer >> 16) & 0xffffu); }
 
-/* How long the refused part is, in bytes; of a success, how many bytes fuzzy_make_ready, fuzzy_pin, fuzzy_write_stamp,
- * fuzzy_write_phrase or fuzzy_complete wrote, how many moments fuzzy_list or slots fuzzy_board_order did, or the slot of
- * fuzzy_board_add, fuzzy_board_add_ready and fuzzy_board_head. */
+/* How long the refused part is, in bytes; of a success, how many bytes fuzzy_make_ready, fuzzy_write_stamp or fuzzy_write_phrase
+ * wrote, how many moments fuzzy_list or slots fuzzy_board_order did, or the slot of fuzzy_board_add and fuzzy_board_head. */
 static inline uint32_t fuzzy_length(uint64_t answer) { return (uint32_t)(answer >> 32); }
 
 /* The words of a refusal, to be shown to people; "done" for 0. */
@@ -373,9 +322,6 @@ static inline const char *fuzzy_words(uint32_t number) {
     case FUZZY_FULL_BOARD: return "no slot is free";
     case FUZZY_EMPTY_SLOT: return "the slot is empty";
     case FUZZY_NOTHING_DUE: return "no reminder has a moment";
-    case FUZZY_NO_WORD: return "no word begins so";
-    case FUZZY_NO_BUNDLE: return "not a bundle of zones";
-    case FUZZY_UNKNOWN_ZONE: return "the bundle has no such zone";
     default: return "a refusal of a newer library";
     }
 }

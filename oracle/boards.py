@@ -7,18 +7,13 @@ A call is a line: `M` or `N` and `YYYY-MM-DD HH:MM:SS mmmm`, a board made at a n
 slot removed; a digit and a phrase, added in the reading of that number; `H`, the head; `O`, the order. An answer is its
 number, place and length; for `H` the seven numbers of the moment behind them, sevens where there is none; for `O` the
 slots, and a seven for the first number that stays as it was. What a phrase means is model.py's.
-
-Of version 1.1, for calls.py: `A` and bytes in hexadecimal, added as a ready phrase; `a` or `b` and a phrase, made ready in
-reading 1 or 2 and added; `S nnnn`, a slot's moment. What a list of records means is zones.py's, at clocks that never change.
 """
 
 import datetime
-import struct
 import sys
 
 import model
 import phrases
-import zones
 
 SLOTS = 256
 INVALID_MOMENT, FULL_BOARD, EMPTY_SLOT, NOTHING_DUE = 8, 24, 25, 26
@@ -43,49 +38,13 @@ def states_time(tree):
     return False
 
 
-class Always(zones.Zone):
-    """Clocks at UTC, known for ever: where a moment is all that is asked for."""
-
-    def __init__(self):
-        super().__init__([], [0])
-        self.last = float("inf")
-
-
-def pinned(moment):
-    """docs/FORMAT.md: one record of kind 12, with the day's number from 0 and the millisecond of the day."""
-    day, second, millisecond = moment
-    return struct.pack("<4I", 12, day - 1, 1000 * second + millisecond, 0)
-
-
-def run(ready, now):
-    """The moment of a list of records, as a day's number, a second and a millisecond; or a refusal."""
+def at_now(tree, now):
+    """The moment of a tree, as a day's number, a second and a millisecond; none where it is refused."""
     day, second, millisecond = now
-    reached, millisecond = zones.InZone(Always(), (day - zones.EPOCH) * zones.DAY + second, millisecond).run(ready)
-    days, second = divmod(reached, zones.DAY)
-    return days + zones.EPOCH, second, millisecond
-
-
-def reached(held, now):
-    """The moment of a tree or of a ready phrase, or a refusal."""
-    if isinstance(held, bytes):
-        return run(held, now)
-    day, second, millisecond = now
-    return *model.Evaluation((day, second)).date_time(held), 0 if states_time(held) else millisecond
-
-
-def at_now(held, now):
-    """The moment of a tree or of a ready phrase; none where it is refused."""
     try:
-        return reached(held, now)
+        return *model.Evaluation((day, second)).date_time(tree), 0 if states_time(tree) else millisecond
     except model.Refused:
         return None
-
-
-def numbers_of(moment):
-    """A moment's seven numbers."""
-    day, second, millisecond = moment
-    date = datetime.date.fromordinal(day)
-    return date.year, date.month, date.day, second // 3600, second // 60 % 60, second % 60, millisecond
 
 
 def now_of(text):
@@ -113,21 +72,10 @@ class Board:
             tree = made(reading, phrase)
         except model.Refused as refusal:
             return refusal.number, refusal.place, refusal.end - refusal.place
-        return self.enter(tree)
-
-    def add_ready(self, ready):
-        """9 for what is not a list of records, before 24. A start without sense has the form of now; it is refused when it is run."""
-        try:
-            zones.records_of(b"\1" + ready[1:] if ready[:1] == b"\2" else ready)
-        except model.Refused as refusal:
-            return refusal.number, 0, 0
-        return self.enter(ready)
-
-    def enter(self, held):
         free = [slot for slot in range(SLOTS) if slot not in self.held]
         if not free:
             return FULL_BOARD, 0, 0
-        self.held[free[0]] = held
+        self.held[free[0]] = tree
         return 0, 0, free[0]
 
     def remove(self, slot):
@@ -151,17 +99,9 @@ class Board:
                 found = slot, moment
         if found is None:
             return NOTHING_DUE, 0, 0, *[7] * 7
-        slot, moment = found
-        return 0, 0, slot, *numbers_of(moment)
-
-    def moment(self, slot):
-        """25, or what the slot's reminder says at the board's now."""
-        if slot not in self.held:
-            return EMPTY_SLOT, 0, 0, *[7] * 7
-        try:
-            return 0, 0, 0, *numbers_of(reached(self.held[slot], self.now))
-        except model.Refused as refusal:
-            return refusal.number, 0, 0, *[7] * 7
+        slot, (day, second, millisecond) = found
+        date = datetime.date.fromordinal(day)
+        return 0, 0, slot, date.year, date.month, date.day, second // 3600, second // 60 % 60, second % 60, millisecond
 
     def order(self):
         last = (datetime.date.max.toordinal() + 1, 0, 0)
@@ -181,12 +121,6 @@ class Board:
                 return self.head()
             case b"O":
                 return self.order()
-            case b"A":
-                return self.add_ready(bytes.fromhex(rest.decode()))
-            case b"S":
-                return self.moment(int(rest))
-            case b"a" | b"b":
-                return self.add(1 + b"ab".index(kind), rest)
         return self.add(int(kind), rest)
 
 

@@ -242,11 +242,6 @@ class InZone:
                  ("MonthNumDay", a, b), ("MonthNumDay", a, b), "Today", "Tomorrow", "Yesterday", "Empty"]
         return self.civil.date(dates[form])
 
-    def pinned(self, day, millisecond):
-        """The civil moment of a pinned start, whose days count from 0, and its millisecond."""
-        rest, millisecond = divmod(millisecond % (1000 * DAY), 1000)
-        return (self.civil.inside(day + 1), rest), millisecond
-
     def move(self, moment, record):
         """A step other than a fixed one on a civil moment."""
         kind, form, count = record[1], record[0], record[2]
@@ -268,9 +263,6 @@ class InZone:
             return self.walk(self.second, moves), self.millisecond
         if first[1] == 2:
             raise Refused(NO_SENSE)
-        if first[1] == 12:
-            moment, millisecond = self.pinned(*first[2:4])
-            return self.walk(self.settle(moment), moves), millisecond
         moment = self.start(*first), self.civil.now[1]
         at = next(k for k, record in enumerate(moves) if record[1] == 10)
         for record in moves[:at]:
@@ -294,9 +286,8 @@ def length_of(record):
 
 
 # how many forms a kind has, and how many numbers each of them
-FORMS = {1: [0], 2: [0], 3: [3, 3, 3, 3, 2, 2, 0, 0, 0, 0], 4: [1, 1, 1], 5: [1], 6: [2, 2], 7: [1, 1], 8: [1, 1], 9: [1], 10: [0, 2, 2, 2], 11: [1],
-         12: [2]}
-STARTS, TIMELESS, TIME = {1, 2, 3, 4, 5, 12}, {1, 2, 12}, 10
+FORMS = {1: [0], 2: [0], 3: [3, 3, 3, 3, 2, 2, 0, 0, 0, 0], 4: [1, 1, 1], 5: [1], 6: [2, 2], 7: [1, 1], 8: [1, 1], 9: [1], 10: [0, 2, 2, 2], 11: [1]}
+STARTS, TIME = {1, 2, 3, 4, 5}, 10
 
 
 def records_of(data):
@@ -310,7 +301,7 @@ def records_of(data):
             raise Refused(NO_SENSE)
         records.append((form, kind, *numbers))
     kinds = [record[1] for record in records]
-    times = 0 if kinds[0] in TIMELESS else 1
+    times = 0 if kinds[0] in (1, 2) else 1
     if kinds[0] not in STARTS or STARTS & set(kinds[1:]) or kinds.count(TIME) != times or kinds[0] == 2 and len(kinds) > 1:
         raise Refused(NO_SENSE)
     return records
@@ -533,9 +524,9 @@ class Lines:
     def records(self):
         """A list of records that could often be run, and sometimes not."""
         d = self.dice
-        start = d.pick([(1, 0), (1, 0), (3, d.below(10)), (4, d.below(3)), (5, 0), (2, 0), (12, 0), (d.below(14), d.below(4))])
+        start = d.pick([(1, 0), (1, 0), (3, d.below(10)), (4, d.below(3)), (5, 0), (2, 0), (d.below(13), d.below(4))])
         steps = [d.pick([(6, d.below(2)), (6, d.below(2)), (7, d.below(2)), (8, d.below(2)), (9, 0), (11, 0)]) for _ in range(d.below(5))]
-        if start[0] not in TIMELESS or d.one_in(12):
+        if start[0] not in (1, 2) or d.one_in(12):
             steps.insert(d.below(len(steps) + 1), (10, d.below(4)))
         return b"".join(self.record(*step) for step in [start, *steps])[:d.pick([400, 400, 400, 400, 400, 15, 16, 17])]
 
@@ -551,8 +542,6 @@ class Lines:
             numbers[1] = 0
         if kind == 10 and form and not d.one_in(5):
             numbers[:2] = [1 + d.below(12), d.below(60)]
-        if kind == 12 and form == 0 and not d.one_in(5):
-            numbers[:2] = [EPOCH - 1 + d.below(40_000), d.below(1000 * DAY)]
         if d.one_in(60):
             numbers[2] += 1
         return struct.pack("<4I", kind + 256 * form, *numbers)

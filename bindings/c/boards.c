@@ -4,13 +4,32 @@
  * board by a refused call. */
 #define _DEFAULT_SOURCE
 #include "fuzzy.h"
-#include "held.h"
+#include "lent.h"
 
 #define MOST_TEXT ((size_t)1 << 25)
 #define MOST_CALL 1024
 #define MOMENT_SIZE sizeof(struct fuzzy_moment)
 
-static struct field phrases, nows, moments, orders;
+static struct field boards, phrases, nows, moments, orders;
+static struct fuzzy_board *board, before;
+static uint64_t calls_made, refused;
+
+/* The board moved to one fence or the other, with what it holds. */
+static void move_board(void) {
+    if (board != NULL) before = *board;
+    board = lent(boards, sizeof *board, (int)random_below(2));
+    *board = before;
+}
+
+/* After each call: of the board's pages only the board was written, and not even that by a refused call or by one that asks. */
+static uint64_t answered(uint64_t answer, int asks) {
+    if (!kept_but(boards, board, sizeof *board, sizeof *board)) stop("something beside a board was written");
+    if ((asks || !fuzzy_ok(answer)) && memcmp(board, &before, sizeof before) != 0) stop("a board was written by refusing, or by asking");
+    add_number(answer);
+    calls_made++;
+    refused += !fuzzy_ok(answer);
+    return answer;
+}
 
 static uint64_t make(const struct fuzzy_moment *at) {
     const struct fuzzy_moment *now = lent_copy(nows, at, MOMENT_SIZE, (int)(calls_made % 2));
@@ -139,6 +158,23 @@ static void replay(const char *list, const char *answers) {
     fclose(out);
 }
 
+/* Memory that no call made: a board of the calls with some numbers of its parts changed, or all of a part. */
+static void random_memory(void) {
+    uint8_t *bytes = (uint8_t *)board;
+    size_t kind = random_below(4), changed = 1 + random_below(40), i;
+    if (kind == 0) {
+        for (i = 0; i < sizeof *board; i++) bytes[i] = (uint8_t)random_below(256);
+    }
+    for (i = 0; i < changed; i++) {
+        board->keys[random_below(FUZZY_BOARD_SLOTS)] = random_below((uint64_t)1 << 53) * 2048u + random_below(2048);
+        board->lengths[random_below(FUZZY_BOARD_SLOTS)] = (uint32_t)(kind < 2 ? random_below((uint64_t)1 << 32) : 16 * random_below(26));
+        board->ready[random_below(sizeof board->ready)] ^= (uint8_t)random_below(256);
+    }
+    if (kind != 3) {
+        board->state[random_below(FUZZY_MOMENT_NUMBERS + 1)] = (uint32_t)random_below(random_below(2) == 0 ? 300 : (uint64_t)1 << 32);
+    }
+}
+
 /* Whether an answer has one of three numbers. */
 static int is_one(uint64_t answer, unsigned a, unsigned b, unsigned c) {
     return fuzzy_number(answer) == a || fuzzy_number(answer) == b || fuzzy_number(answer) == c;
@@ -181,13 +217,16 @@ static void random_call(void) {
 }
 
 int main(int count, char **arguments) {
+    static struct fuzzy_board empty;
     unsigned long rounds, i, k;
     if (count != 4) stop("usage: boards CALLS ANSWERS ROUNDS");
+    boards = fenced(sizeof empty);
     phrases = fenced(MOST_CALL);
     nows = fenced(MOMENT_SIZE);
     moments = fenced(MOMENT_SIZE);
     orders = fenced(FUZZY_BOARD_SLOTS * sizeof(uint32_t));
-    hold_board();
+    before = empty;
+    move_board();
     replay(arguments[1], arguments[2]);
     rounds = strtoul(arguments[3], NULL, 10);
     for (i = 0; i < rounds; i++) {

@@ -129,6 +129,19 @@ static size_t random_phrase(char *phrase) {
     return n;
 }
 
+/* Mostly a valid moment, at times any numbers. */
+static struct fuzzy_moment random_now(void) {
+    static const uint32_t most[FUZZY_MOMENT_NUMBERS] = {9999, 12, 28, 24, 60, 60, 1000};
+    uint32_t numbers[FUZZY_MOMENT_NUMBERS];
+    struct fuzzy_moment now;
+    size_t i;
+    for (i = 0; i < FUZZY_MOMENT_NUMBERS; i++) numbers[i] = (uint32_t)random_below(most[i]) + (i < 3);
+    if (random_below(8) == 0) numbers[2] = (uint32_t)(29 + random_below(3));
+    if (random_below(32) == 0) numbers[random_below(FUZZY_MOMENT_NUMBERS)] = (uint32_t)random_below((uint64_t)1 << 32);
+    memcpy(&now, numbers, sizeof now);
+    return now;
+}
+
 int main(int count, char **arguments) {
     static char phrase[2 * MOST_PHRASE + 1];
     struct fuzzy_moment now, moment;
@@ -143,7 +156,7 @@ int main(int count, char **arguments) {
     rounds = strtoul(arguments[4], NULL, 10);
     for (i = 0; i < rounds; i++) {
         size_t n = random_phrase(phrase);
-        now = random_moment();
+        now = random_now();
         if (fuzzy_ok(answered(phrase, n, &now, &moment))) moments_read++;
     }
     printf("reading %u: %zu listed and %lu random phrases, %zu moments: digest %016" PRIx64 "\n", (unsigned)reading, listed, rounds,

@@ -1,5 +1,5 @@
-/* Calls every function with good, damaged and empty input, and looks at every byte that must not change: every ZONE BUNDLE, the files
- * bindings/zones/New_York and bindings/zones/sample.bundle. */
+/* Calls every function with good, damaged and empty input, and looks at every byte that must not change: every ZONE, the file
+ * bindings/zones/New_York. */
 #include "fuzzy.h"
 
 #include <stdio.h>
@@ -33,11 +33,9 @@ struct lent {
         struct fuzzy_stamp stamp;
         char text[2 * FUZZY_STAMP_SIZE];
         uint32_t found[FUZZY_FOUND_NUMBERS];
-        uint32_t count;
-        uint64_t place[FUZZY_PLACE_NUMBERS];
         struct fuzzy_moment moments[MOST_MOMENTS];
         uint32_t numbers[MOST_MOMENTS * FUZZY_MOMENT_NUMBERS];
-        int64_t due, until;
+        int64_t due;
         struct fuzzy_local local;
     } in;
     uint8_t after[GUARD];
@@ -244,82 +242,6 @@ static void words(const char *many, size_t n) {
     unfound(0);
     unfound(3);
     unfound(UINT32_MAX);
-}
-
-/* A call for a completion that is refused, and nothing written. */
-static void uncompleted(uint32_t reading, const char *prefix, size_t n, uint32_t which, size_t room, unsigned number) {
-    struct lent count = fresh(), word = fresh();
-    expect(fuzzy_complete(reading, prefix, n, which, &count.in.count, word.in.text, room) == number, "a completion that is refused");
-    expect(kept_from(&count, 0) && kept_from(&word, 0), "nothing written for a completion that is refused");
-}
-
-/* The words that begin with a prefix, with blanks between them: each with much room, with room for exactly that, and not with a byte less;
- * and no more words. */
-static void completed(uint32_t reading, const char *prefix, size_t n, uint32_t words, const char *wanted) {
-    uint32_t which;
-    for (which = 0; which < words; which++) {
-        size_t length = strcspn(wanted, " "), rooms[] = {length, length + 1, 2 * FUZZY_STAMP_SIZE}, i;
-        for (i = 0; i < sizeof rooms / sizeof rooms[0]; i++) {
-            struct lent count = fresh(), word = fresh();
-            uint64_t answer = fuzzy_complete(reading, prefix, n, which, &count.in.count, word.in.text, rooms[i]);
-            expect(answer == (uint64_t)length << 32, "a completion");
-            expect(memcmp(word.in.text, wanted, length) == 0 && kept_from(&word, length), "its word, and nothing else");
-            expect(count.in.count == words && kept_from(&count, sizeof words), "how many there are, and nothing else");
-        }
-        uncompleted(reading, prefix, n, which, length - 1, FUZZY_NO_ROOM);
-        uncompleted(reading, prefix, n, which, 0, FUZZY_NO_ROOM);
-        wanted += length + (wanted[length] == ' ');
-    }
-    expect(*wanted == '\0', "as many words as are wanted");
-    uncompleted(reading, prefix, n, words, FUZZY_WORD_SIZE, FUZZY_NO_WORD);
-    uncompleted(reading, prefix, n, words, 0, FUZZY_NO_WORD);
-    uncompleted(reading, prefix, n, UINT32_MAX, FUZZY_WORD_SIZE, FUZZY_NO_WORD);
-}
-
-/* All words of a reading by the empty prefix: in alphabetical order, each known to its reading, from "a" to "zero". */
-static void all_completed(uint32_t reading, uint32_t words) {
-    char last[FUZZY_WORD_SIZE + 1] = "", word[FUZZY_WORD_SIZE + 1];
-    uint32_t which, count = 0, found[FUZZY_FOUND_NUMBERS];
-    for (which = 0; which < words; which++) {
-        uint64_t answer = fuzzy_complete(reading, "", 0, which, &count, word, FUZZY_WORD_SIZE);
-        expect(fuzzy_ok(answer) && count == words, "a word of all");
-        word[fuzzy_length(answer)] = '\0';
-        expect(strcmp(last, word) < 0, "the order of all words");
-        expect(fuzzy_find_word(reading, word, strlen(word), found) == 0 && found[0] != 0, "a word that is found");
-        if (which == 0) expect(strcmp(word, "a") == 0, "the first word");
-        strcpy(last, word);
-    }
-    expect(strcmp(last, "zero") == 0, "the last word");
-    uncompleted(reading, "", 0, words, FUZZY_WORD_SIZE, FUZZY_NO_WORD);
-}
-
-static void completions(const char *many, size_t n) {
-    completed(FUZZY_FIRST, "frid", 4, 1, "friday");
-    completed(FUZZY_SECOND, "FRI", 3, 1, "friday");
-    completed(FUZZY_FIRST, "Friday", 6, 1, "friday");
-    completed(FUZZY_FIRST, "fridays", 7, 0, "");
-    completed(FUZZY_FIRST, "day", 3, 2, "day days");
-    completed(FUZZY_FIRST, "ay", 2, 0, "");
-    completed(FUZZY_FIRST, "fort", 4, 0, "");
-    completed(FUZZY_SECOND, "fort", 4, 2, "fortieth forty");
-    completed(FUZZY_FIRST, "eigh", 4, 5, "eight eighteen eighteenth eightieth eighty");
-    completed(FUZZY_SECOND, "eigh", 4, 6, "eight eighteen eighteenth eighth eightieth eighty");
-    completed(FUZZY_SECOND, "y", 1, 3, "year years yesterday");
-    completed(FUZZY_FIRST, "Z", 1, 1, "zero");
-    completed(FUZZY_FIRST, "seventeenth", 11, 1, "seventeenth");
-    completed(FUZZY_FIRST, "seventeenthxx", 12, 0, "");
-    completed(FUZZY_FIRST, "seventeenthxx", 13, 0, "");
-    completed(FUZZY_FIRST, "zero\0", 5, 0, "");
-    completed(FUZZY_FIRST, "\0", 1, 0, "");
-    completed(FUZZY_SECOND, "fri\xff", 4, 0, "");
-    completed(FUZZY_SECOND, "{", 1, 0, "");
-    completed(FUZZY_SECOND, "@", 1, 0, "");
-    completed(FUZZY_SECOND, many, n, 0, "");
-    all_completed(FUZZY_FIRST, 133);
-    all_completed(FUZZY_SECOND, 136);
-    uncompleted(0, "frid", 4, 0, FUZZY_WORD_SIZE, FUZZY_NO_READING);
-    uncompleted(3, "fort", 4, 0, 0, FUZZY_NO_READING);
-    uncompleted(UINT32_MAX, many, n, UINT32_MAX, 0, FUZZY_NO_READING);
 }
 
 /* A moment as a phrase, with room for exactly that, and not with a byte less; it is read back in both readings, or, in a year of fewer than
@@ -632,224 +554,11 @@ static void unready(const char *many) {
     expect(kept_from(&due, 0) && kept_from(&local, 0), "nothing written for what is not a ready phrase");
 }
 
-/* The bytes of a file; none where it is missing. */
-static size_t take_file(const char *name, uint8_t *bytes, size_t most) {
+static void take_zone(const char *name) {
     FILE *file = fopen(name, "rb");
-    size_t length = file == NULL ? 0 : fread(bytes, 1, most, file);
-    if (file != NULL) fclose(file);
-    return length;
-}
-
-/* A record of a ready phrase: its kind and form, and three numbers, little-endian. */
-static struct lent record(uint32_t kind, uint32_t first, uint32_t second, uint32_t third) {
-    const uint32_t numbers[] = {kind, first, second, third};
-    struct lent l = fresh();
-    size_t i;
-    for (i = 0; i < sizeof numbers; i++) l.in.ready[i] = (uint8_t)(numbers[i / 4] >> 8 * (i % 4));
-    return l;
-}
-
-/* A pinned moment is one record, of kind 12, with this day and this millisecond, and gives the moment at every valid now. */
-static void pinned(struct fuzzy_moment moment, uint32_t day, uint32_t millisecond) {
-    const struct fuzzy_moment nows[] = {{1, 1, 1, 0, 0, 0, 0}, {2026, 2, 11, 9, 30, 15, 250}, {9999, 12, 31, 23, 59, 59, 999}};
-    struct lent l = fresh(), wanted = record(12, day, millisecond, 0);
-    size_t i;
-    expect(fuzzy_pin(&moment, l.in.ready) == (uint64_t)16 << 32, "a moment that is pinned");
-    expect(memcmp(&l, &wanted, sizeof l) == 0, "its record, and nothing else");
-    for (i = 0; i < sizeof nows / sizeof nows[0]; i++) {
-        struct lent m = fresh();
-        expect(fuzzy_run(l.in.ready, 16, &nows[i], &m.in.moment) == 0, "a pinned moment that is run");
-        expect(memcmp(&m.in.moment, &moment, sizeof moment) == 0 && kept_from(&m, sizeof moment), "the moment, and nothing else");
-        m = fresh();
-        expect(fuzzy_run(l.in.ready, 15, &nows[i], &m.in.moment) == FUZZY_NO_SENSE, "a pinned moment cut short");
-        expect(kept_from(&m, 0), "nothing written for a pinned moment cut short");
-    }
-}
-
-/* What is no moment, and nothing written. */
-static void unpinned(const struct fuzzy_moment *moment) {
-    struct lent l = fresh();
-    expect(fuzzy_pin(moment, l.in.ready) == FUZZY_INVALID_MOMENT, "a moment that is not pinned");
-    expect(kept_from(&l, 0), "nothing written for a moment that is not pinned");
-}
-
-/* A record that is refused when it is run, and nothing written. */
-static void unrun(uint32_t kind, uint32_t first, uint32_t second, uint32_t third, unsigned number) {
-    struct lent l = record(kind, first, second, third), m = fresh();
-    expect(fuzzy_run(l.in.ready, 16, NOW, &m.in.moment) == number, "a record that is refused");
-    expect(kept_from(&m, 0), "nothing written for a record that is refused");
-}
-
-/* Any millisecond gives a moment of the day: from 86,400,000 on it stands for its remainder. */
-static void within_day(uint32_t millisecond, const struct fuzzy_moment *moment) {
-    struct lent l = record(12, 739657, millisecond, 0), m = fresh();
-    expect(fuzzy_run(l.in.ready, 16, NOW, &m.in.moment) == 0, "a record of any millisecond");
-    expect(memcmp(&m.in.moment, moment, sizeof *moment) == 0 && kept_from(&m, sizeof *moment), "its moment, and nothing else");
-}
-
-/* A pinned moment in the zone, by its clocks: one that they show, and one that they skip. */
-static void pinned_in_zone(void) {
-    struct lent shown = record(12, 739682, 12600250, 0), skipped = record(12, 739682, 9000250, 0), due = fresh(), local = fresh();
-    expect(fuzzy_run_in_zone(skipped.in.ready, 16, zone, zone_length, 0, 0, &due.in.due, &local.in.local) == FUZZY_NO_INSTANT,
-           "a pinned moment that the clocks skip");
-    expect(kept_from(&due, 0) && kept_from(&local, 0), "nothing written for a pinned moment that the clocks skip");
-    expect(fuzzy_run_in_zone(shown.in.ready, 16, zone, zone_length, 0, 0, &due.in.due, &local.in.local) == 0, "a pinned moment in a zone");
-    expect(due.in.due == 1772955000 && local.in.local.moment.hour == 3 && local.in.local.moment.millisecond == 250, "its instant");
-}
-
-static void pins(void) {
-    pinned(*AT(1, 1, 1, 0, 0, 0, 0), 0, 0);
-    pinned(*NOW, 739657, 34215250);
-    pinned(*AT(2024, 2, 29, 12, 0, 0, 1), 738944, 43200001);
-    pinned(*AT(9999, 12, 31, 23, 59, 59, 999), 3652058, 86399999);
-    unpinned(AT(0, 1, 1, 0, 0, 0, 0));
-    unpinned(AT(10000, 1, 1, 0, 0, 0, 0));
-    unpinned(AT(2026, 2, 29, 0, 0, 0, 0));
-    unpinned(AT(2026, 2, 11, 24, 0, 0, 0));
-    unpinned(AT(2026, 2, 11, 9, 30, 15, 1000));
-    unpinned(AT(2026, 2, 11, 9, 30, 15, UINT32_MAX));
-    within_day(86399999, AT(2026, 2, 11, 23, 59, 59, 999));
-    within_day(86400000, AT(2026, 2, 11, 0, 0, 0, 0));
-    within_day(UINT32_MAX, AT(2026, 2, 11, 17, 2, 47, 295));
-    unrun(12, 3652059, 0, 0, FUZZY_OUTSIDE);
-    unrun(12, UINT32_MAX, 0, 0, FUZZY_OUTSIDE);
-    unrun(12, 0, 0, 1, FUZZY_NO_SENSE);
-    unrun(12 | 1 << 8, 0, 0, 0, FUZZY_NO_SENSE);
-    unrun(13, 0, 0, 0, FUZZY_NO_SENSE);
-    pinned_in_zone();
-}
-
-/* The sample bundle, and room for a byte more. */
-static uint8_t bundle[65536];
-static size_t bundle_length;
-
-/* The bundle's own "until", and where its names and its files begin. */
-#define BUNDLE_UNTIL 4102444800
-#define BUNDLE_INDEX 68
-#define BUNDLE_FILES (BUNDLE_INDEX + 15 * 48)
-
-/* The zone of a name: so many bytes at a place of the bundle, which are good until the bundle's end, and nothing else written. */
-static void found_zone(const char *name, uint64_t place, uint64_t length) {
-    const uint64_t wanted[FUZZY_PLACE_NUMBERS] = {place, length};
-    struct lent l = fresh(), until = fresh();
-    expect(fuzzy_find_zone(bundle, bundle_length, name, strlen(name), l.in.place) == 0, "a zone of the bundle");
-    expect(memcmp(l.in.place, wanted, sizeof wanted) == 0 && kept_from(&l, sizeof wanted), "its place, and nothing else");
-    expect(fuzzy_zone_until(bundle + place, length, &until.in.until) == 0, "until when a zone of the bundle is good");
-    expect(until.in.until == BUNDLE_UNTIL && kept_from(&until, sizeof until.in.until), "the bundle's end, and nothing else");
-}
-
-/* A name that is not found, and nothing written. */
-static void unfound_zone(const char *name, size_t n, unsigned number) {
-    struct lent l = fresh();
-    expect(fuzzy_find_zone(bundle, bundle_length, name, n, l.in.place) == number, "a zone that is not found");
-    expect(kept_from(&l, 0), "nothing written for a zone that is not found");
-}
-
-/* The first 788 bytes, which are header and index, with each bit changed: another name, another place, or no bundle. */
-static void damaged_bundle(void) {
-    size_t i;
-    for (i = 0; i < 8 * BUNDLE_FILES; i++) {
-        struct lent l = fresh();
-        uint64_t answer;
-        bundle[i / 8] ^= (uint8_t)(1u << i % 8);
-        answer = fuzzy_find_zone(bundle, bundle_length, "asia/kolkata", 12, l.in.place);
-        expect(answer == 0 || answer == FUZZY_NO_BUNDLE || answer == FUZZY_UNKNOWN_ZONE, "an answer of a damaged bundle");
-        expect(i >= 64 || answer == FUZZY_NO_BUNDLE, "a bundle with another beginning");
-        if (answer == 0) expect(l.in.place[0] <= bundle_length && l.in.place[1] <= bundle_length - l.in.place[0], "a place in the bundle");
-        expect(kept_from(&l, answer == 0 ? sizeof l.in.place : 0), "nothing written but a place");
-        bundle[i / 8] ^= (uint8_t)(1u << i % 8);
-    }
-}
-
-/* The bundle cut short: no bundle up to the end of its index, then one without this zone's file, and at last one that has it. */
-static void cut_bundle(void) {
-    size_t whole = bundle_length;
-    for (bundle_length = 0; bundle_length < BUNDLE_FILES; bundle_length++) {
-        unfound_zone("Asia/Kolkata", 12, FUZZY_NO_BUNDLE);
-        unfound_zone("Asia/Bombay", 11, FUZZY_NO_BUNDLE);
-    }
-    unfound_zone("Asia/Kolkata", 12, FUZZY_NO_BUNDLE);
-    unfound_zone("Asia/Bombay", 11, FUZZY_UNKNOWN_ZONE);
-    bundle_length = 2588 + 116 - 1;
-    unfound_zone("Asia/Kolkata", 12, FUZZY_NO_BUNDLE);
-    bundle_length = 2588 + 116;
-    found_zone("Asia/Kolkata", 2588, 116);
-    bundle_length = whole;
-}
-
-static void bundles(const char *many, size_t n) {
-    found_zone("America/New_York", 788, 1800);
-    found_zone("aMERICA/nEW_yORK", 788, 1800);
-    found_zone("us/eastern", 788, 1800);
-    found_zone("Asia/Calcutta", 2588, 116);
-    found_zone("ASIA/KOLKATA", 2588, 116);
-    found_zone("Europe/London", 4720, 1998);
-    found_zone("GB", 4720, 1998);
-    found_zone("GB-Eire", 4720, 1998);
-    found_zone("UTC", 4604, 116);
-    unfound_zone("", 0, FUZZY_UNKNOWN_ZONE);
-    unfound_zone("G", 1, FUZZY_UNKNOWN_ZONE);
-    unfound_zone("GB-", 3, FUZZY_UNKNOWN_ZONE);
-    unfound_zone("GB-Eire\0", 8, FUZZY_UNKNOWN_ZONE);
-    unfound_zone("America/New_York ", 17, FUZZY_UNKNOWN_ZONE);
-    unfound_zone("America New_York", 16, FUZZY_UNKNOWN_ZONE);
-    unfound_zone("America/New_Yor", 15, FUZZY_UNKNOWN_ZONE);
-    unfound_zone("zz", 2, FUZZY_UNKNOWN_ZONE);
-    unfound_zone(many, 40, FUZZY_UNKNOWN_ZONE);
-    unfound_zone(many, n, FUZZY_UNKNOWN_ZONE);
-    cut_bundle();
-    damaged_bundle();
-}
-
-/* Until when a file is good; nothing else written, and on a refusal nothing. */
-static void good_until(const uint8_t *file, size_t n, int64_t until, unsigned number) {
-    struct lent l = fresh();
-    expect(fuzzy_zone_until(file, n, &l.in.until) == number, "whether a file is good until a second");
-    if (number == 0) expect(l.in.until == until, "until when a file is good");
-    expect(kept_from(&l, number == 0 ? sizeof until : 0), "nothing written but a second");
-}
-
-/* UTC as zic writes it: two headers, each with one type and its name, and a footer; with a transition to itself, or without one. */
-static size_t put_utc(uint8_t file[120], uint8_t transitions, int64_t second) {
-    size_t types = 95 + 9 * (size_t)transitions, i;
-    memset(file, 0, 120);
-    memcpy(file, "TZif2", 5);
-    file[39] = file[43] = 1;
-    memcpy(file + 51, "TZif2", 5);
-    file[86] = transitions;
-    file[90] = 1;
-    file[94] = 4;
-    for (i = 0; i < 8 * (size_t)transitions; i++) file[95 + i] = (uint8_t)((uint64_t)second >> (56 - 8 * i));
-    memcpy(file + types + 6, "UTC\0\nUTC0\n", 10);
-    return types + 16;
-}
-
-/* A file of one transition, and both sides of where one may be: not in the years 0 and 1, nor after 9998. */
-static void one_transition(int64_t second, unsigned number) {
-    uint8_t file[120];
-    good_until(file, put_utc(file, 1, second), second, number);
-}
-
-/* The zone's file; the same cut short; one without a transition; and bytes that are not a file. */
-static void untils(const char *many, size_t n) {
-    uint8_t utc[120];
-    size_t utc_length = put_utc(utc, 0, 0), i;
-    struct fuzzy_local local;
-    int64_t due;
-    good_until(zone, zone_length, LAST, 0);
-    for (i = 0; i < zone_length; i++) good_until(zone, i, 0, FUZZY_NO_ZONE);
-    good_until(utc, utc_length, 0, FUZZY_PAST_LAST);
-    expect(fuzzy_read_in_zone(FUZZY_FIRST, "now", 3, utc, utc_length, 0, 0, &due, &local) == FUZZY_PAST_LAST, "now without a transition");
-    good_until((const uint8_t *)many, n, 0, FUZZY_NO_ZONE);
-    good_until(bundle, bundle_length, 0, FUZZY_NO_ZONE);
-    one_transition(INT64_MIN, 0);
-    one_transition(-62167219201, 0);
-    one_transition(-62167219200, FUZZY_NO_ZONE);
-    one_transition(-62104060801, FUZZY_NO_ZONE);
-    one_transition(-62104060800, 0);
-    one_transition(253370764799, 0);
-    one_transition(253370764800, FUZZY_NO_ZONE);
-    one_transition(INT64_MAX, FUZZY_NO_ZONE);
+    if (file == NULL) return;
+    zone_length = fread(zone, 1, sizeof zone, file);
+    fclose(file);
 }
 
 /* A board between two guards, and how it was before a call. */
@@ -879,10 +588,6 @@ static uint64_t add_phrase(uint32_t reading, const char *phrase) {
     return fuzzy_board_add(&held.board, reading, phrase, strlen(phrase));
 }
 
-static uint64_t add_ready(const struct lent *l, uint64_t n) {
-    return fuzzy_board_add_ready(&held.board, l->in.ready, n);
-}
-
 static uint64_t again_at(uint32_t year, uint32_t month, uint32_t day, uint32_t millisecond) {
     return fuzzy_board_again(&held.board, AT(year, month, day, 0, 0, 0, millisecond));
 }
@@ -907,89 +612,6 @@ static void ordered(const uint32_t *slots, size_t count) {
     expect(memcmp(found, slots, count * sizeof *slots) == 0, "the slots of an order");
     for (i = count; i <= FUZZY_BOARD_SLOTS; i++) expect(found[i] == 0xa5a5a5a5u, "nothing written after an order");
     expect(memcmp(&held, &was, sizeof held) == 0, "asking leaves the board unchanged");
-}
-
-/* The moment of a slot, or its refusal, and nothing else written. */
-static void slot_is(uint32_t slot, unsigned number, const struct fuzzy_moment *moment) {
-    struct lent l = fresh();
-    size_t written = number == 0 ? sizeof *moment : 0;
-    expect(fuzzy_board_moment(&held.board, slot, &l.in.moment) == number, "whether a slot has a moment");
-    if (number == 0) expect(memcmp(&l.in.moment, moment, written) == 0, "the moment of a slot");
-    expect(kept_from(&l, written), "nothing written but the moment of a slot");
-    expect(memcmp(&held, &was, sizeof held) == 0, "asking leaves the board unchanged");
-}
-
-/* Slots that are empty, and numbers that are no slots. */
-static void empty_slots(uint32_t first) {
-    uint32_t slot;
-    for (slot = first; slot <= FUZZY_BOARD_SLOTS + 1; slot++) slot_is(slot, FUZZY_EMPTY_SLOT, NULL);
-    slot_is(UINT32_MAX, FUZZY_EMPTY_SLOT, NULL);
-}
-
-/* Ready bytes that are not added: none, too few, too many, damaged. */
-static void unadded_ready(void) {
-    static const uint8_t long_one[FUZZY_READY_SIZE + 16] = {1};
-    struct lent l = record(12, 0, 0, 0);
-    answered(add_ready(&l, 0), FUZZY_NO_SENSE, "adding no bytes");
-    answered(fuzzy_board_add_ready(&held.board, NULL, 0), FUZZY_NO_SENSE, "adding null bytes");
-    answered(add_ready(&l, 15), FUZZY_NO_SENSE, "adding 15 bytes");
-    answered(add_ready(&l, 17), FUZZY_NO_SENSE, "adding 17 bytes");
-    answered(add_ready(&l, FUZZY_READY_SIZE), FUZZY_NO_SENSE, "adding a record and a pattern");
-    answered(fuzzy_board_add_ready(&held.board, long_one, sizeof long_one), FUZZY_NO_SENSE, "adding 25 records");
-    l.in.ready[12] = 1;
-    answered(add_ready(&l, 16), FUZZY_NO_SENSE, "adding a damaged record");
-}
-
-/* "an hour from now" as a phrase, made ready, and pinned at its author's now: on the board the first two move with its now, the last stays.
- */
-static void ready_board(void) {
-    static const struct fuzzy_moment due = {2026, 2, 11, 10, 30, 15, 250}, moved = {2026, 2, 12, 1, 0, 0, 0};
-    struct lent ready = fresh(), pin = fresh();
-    uint64_t made = fuzzy_make_ready(FUZZY_FIRST, "an hour from now", 16, ready.in.ready);
-    answered(fuzzy_board_make(&held.board, NOW), 0, "a board");
-    empty_slots(0);
-    unadded_ready();
-    answered(add_phrase(1, "an hour from now"), IN_SLOT(0), "adding a phrase");
-    answered(add_ready(&ready, fuzzy_length(made)), IN_SLOT(1), "adding it made ready");
-    expect(fuzzy_pin(&due, pin.in.ready) == (uint64_t)16 << 32, "pinning its moment");
-    answered(add_ready(&pin, 16), IN_SLOT(2), "adding it pinned");
-    answered(add_phrase(2, "this month"), IN_SLOT(3), "adding what refuses at every now");
-    answered(add_phrase(1, "a year from now"), IN_SLOT(4), "adding what refuses on a leap day");
-    slot_is(0, 0, &due);
-    slot_is(1, 0, &due);
-    slot_is(2, 0, &due);
-    slot_is(3, FUZZY_NO_SENSE, NULL);
-    slot_is(4, 0, AT(2027, 2, 11, 9, 30, 15, 250));
-    empty_slots(5);
-    answered(again_at(2026, 2, 12, 0), 0, "running again at midnight");
-    slot_is(0, 0, &moved);
-    slot_is(1, 0, &moved);
-    slot_is(2, 0, &due);
-    heads(2, 2, 11, 10);
-    answered(again_at(2024, 2, 29, 0), 0, "running again on a leap day");
-    slot_is(2, 0, &due);
-    slot_is(4, FUZZY_NO_LEAP_DAY, NULL);
-    answered(fuzzy_board_remove(&held.board, 2), 0, "removing what is pinned");
-    slot_is(2, FUZZY_EMPTY_SLOT, NULL);
-}
-
-/* Adding a phrase is making it ready and adding that, also to a full board, which refuses other bytes before it says so. */
-static void full_of_ready(void) {
-    static struct fuzzy_board other;
-    struct lent ready = fresh();
-    uint64_t made = fuzzy_make_ready(FUZZY_SECOND, "2 months before 3 weeks after tomorrow at 5:00", 46, ready.in.ready);
-    uint32_t i;
-    answered(fuzzy_board_make(&held.board, NOW), 0, "a board");
-    for (i = 0; i < FUZZY_BOARD_SLOTS; i++) {
-        other = held.board;
-        fuzzy_board_add(&other, FUZZY_SECOND, "2 months before 3 weeks after tomorrow at 5:00", 46);
-        answered(add_ready(&ready, fuzzy_length(made)), IN_SLOT(i), "filling a board with what is ready");
-        expect(memcmp(&other, &held.board, sizeof other) == 0, "adding a phrase makes the same board");
-    }
-    slot_is(255, 0, AT(2026, 1, 5, 5, 0, 0, 0));
-    empty_slots(FUZZY_BOARD_SLOTS);
-    answered(add_ready(&ready, fuzzy_length(made)), FUZZY_FULL_BOARD, "adding what is ready to a full board");
-    unadded_ready();
 }
 
 /* What adding refuses before it looks for a slot, in either reading. */
@@ -1078,7 +700,6 @@ static void full_board(const char *many) {
 static void any_memory(uint8_t filling, uint32_t count) {
     static uint32_t slots[FUZZY_BOARD_SLOTS];
     struct fuzzy_moment moment, same;
-    struct lent ready = record(12, 739657, 0, 0);
     uint64_t answer;
     uint32_t slot;
     size_t i;
@@ -1092,12 +713,7 @@ static void any_memory(uint8_t filling, uint32_t count) {
     for (i = 0; i < fuzzy_length(answer); i++) expect(slots[i] < FUZZY_BOARD_SLOTS, "slots of any memory");
     answer = add_phrase(1, "next friday");
     expect(fuzzy_ok(answer) ? fuzzy_length(answer) < FUZZY_BOARD_SLOTS : answer == FUZZY_FULL_BOARD, "adding to any memory");
-    answer = add_ready(&ready, 16);
-    expect(fuzzy_ok(answer) ? fuzzy_length(answer) < FUZZY_BOARD_SLOTS : answer == FUZZY_FULL_BOARD, "adding what is ready to any memory");
     for (slot = 0; slot <= FUZZY_BOARD_SLOTS; slot++) {
-        answer = fuzzy_board_moment(&held.board, slot, &moment);
-        expect(answer <= FUZZY_NO_LEAP_DAY || answer == FUZZY_EMPTY_SLOT, "a slot of any memory");
-        if (answer == 0) expect(fuzzy_read(FUZZY_FIRST, "now", 3, &moment, &same) == 0, "a slot's moment is a valid one");
         answer = fuzzy_board_remove(&held.board, slot);
         expect(answer == 0 || answer == FUZZY_EMPTY_SLOT, "removing from any memory");
     }
@@ -1117,15 +733,12 @@ static void boards(const char *many) {
     was = held;
     small_board(many);
     full_board(many);
-    ready_board();
-    full_of_ready();
     for (i = 0; i < sizeof fillings; i++) {
         for (k = 0; k < sizeof counts / sizeof counts[0]; k++) any_memory(fillings[i], counts[k]);
     }
 }
 
-/* A null pointer with length 0 is an empty text, word, rule, ready phrase, zone, bundle or name, or no room, in every call that takes a
- * length. */
+/* A null pointer with length 0 is an empty text, word, rule, ready phrase or zone, or no room, in every call that takes a length. */
 static void nulls(void) {
     static const struct fuzzy_stamp stamp = {{2026, 2, 11, 9, 30, 15, 250}, 0, 0};
     static const struct fuzzy_moment whole = {2026, 2, 11, 9, 30, 0, 0};
@@ -1142,10 +755,6 @@ static void nulls(void) {
     expect(fuzzy_list("FREQ=DAILY", 10, &tuesday, NULL, 0) == 0, "listing into nothing");
     expect(fuzzy_list_in("FREQ=DAILY", 10, &tuesday, NULL, 0) == 0, "listing numbers into nothing");
     expect(fuzzy_next(NULL, 0, &tuesday, NOW, &l.in.moment) == FUZZY_NO_RULE, "asking a null rule");
-    expect(fuzzy_complete(FUZZY_FIRST, NULL, 0, 0, &l.in.count, NULL, 0) == FUZZY_NO_ROOM, "completing a null prefix into nothing");
-    expect(fuzzy_find_zone(NULL, 0, NULL, 0, l.in.place) == FUZZY_NO_BUNDLE, "a null name in a null bundle");
-    expect(fuzzy_find_zone(bundle, bundle_length, NULL, 0, l.in.place) == FUZZY_UNKNOWN_ZONE, "a null name");
-    expect(fuzzy_zone_until(NULL, 0, &l.in.until) == FUZZY_NO_ZONE, "until when a null zone is good");
     expect(kept_from(&l, 0) && kept_from(&ready, 0), "nothing written for a null pointer");
     found_as(FUZZY_FIRST, NULL, 0, 0, 7);
     found_as(FUZZY_SECOND, NULL, 0, 0, 7);
@@ -1181,13 +790,13 @@ static void refusals(void) {
     uint32_t i, k;
     expect(strcmp(fuzzy_words(0), "done") == 0, "the words of success");
     expect(strcmp(fuzzy_words(FUZZY_TOO_LONG), "longer than 256 bytes") == 0, "the words of the first refusal");
-    expect(strcmp(fuzzy_words(FUZZY_UNKNOWN_ZONE), "the bundle has no such zone") == 0, "the words of the last refusal");
-    for (i = 0; i <= FUZZY_UNKNOWN_ZONE; i++) {
+    expect(strcmp(fuzzy_words(FUZZY_NOTHING_DUE), "no reminder has a moment") == 0, "the words of the last refusal");
+    for (i = 0; i <= FUZZY_NOTHING_DUE; i++) {
         expect(fuzzy_words(i)[0] != '\0' && strcmp(fuzzy_words(i), unknown) != 0, "the words of a refusal");
         for (k = 0; k < i; k++) expect(strcmp(fuzzy_words(i), fuzzy_words(k)) != 0, "words of its own");
         expect(fuzzy_ok(i) == (i == 0) && fuzzy_number(i) == i && fuzzy_place(i) == 0 && fuzzy_length(i) == 0, "the parts of a refusal");
     }
-    expect(strcmp(fuzzy_words(FUZZY_UNKNOWN_ZONE + 1), unknown) == 0, "the words of the next number");
+    expect(strcmp(fuzzy_words(FUZZY_NOTHING_DUE + 1), unknown) == 0, "the words of the next number");
     expect(strcmp(fuzzy_words(UINT32_MAX), unknown) == 0, "the words of the last number");
     expect(fuzzy_number(UINT64_MAX) == 0xffff && fuzzy_place(UINT64_MAX) == 0xffff && fuzzy_length(UINT64_MAX) == UINT32_MAX,
            "the largest parts");
@@ -1253,19 +862,12 @@ int main(int count, char **arguments) {
     expect(kept_from(&l, 0), "nothing written by any of these");
     stamps();
     words(many, sizeof many);
-    completions(many, sizeof many);
     phrases();
     rules(many, sizeof many);
     asked_rules(many, sizeof many);
-    if (count == 3) {
-        zone_length = take_file(arguments[1], zone, sizeof zone);
-        bundle_length = take_file(arguments[2], bundle, sizeof bundle);
-    }
+    if (count == 2) take_zone(arguments[1]);
     zones(many, sizeof many);
     unready(many);
-    pins();
-    bundles(many, sizeof many);
-    untils(many, sizeof many);
     nulls();
     nulls_in_zone();
     files(many, sizeof many);

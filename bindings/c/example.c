@@ -1,6 +1,6 @@
-/* Reads phrases at one now, a ready phrase at two, one phrase in both readings, and stamps, looks words up and completes them, writes a
- * moment as a phrase, lists a rule's occurrences and finds which comes next, reads phrases in the zone of a file and of a bundle, and keeps
- * reminders on a board: example ZONE BUNDLE. Copy what you need. */
+/* Reads phrases at one now, a ready phrase at two, one phrase in both readings, and stamps, looks words up, writes a moment as a phrase,
+ * lists a rule's occurrences and finds which comes next, reads phrases in the zone of a file, and keeps reminders on a board: example ZONE.
+ * Copy what you need. */
 #include "fuzzy.h"
 
 #include <stdio.h>
@@ -84,22 +84,6 @@ static void show_word(const char *word) {
     }
 }
 
-/* Lists the words that begin so, as they may be offered while a word is typed. */
-static void show_completions(uint32_t reading, const char *prefix) {
-    char word[FUZZY_WORD_SIZE];
-    uint32_t which, count = 1;
-    printf("%s in reading %u:", prefix, (unsigned)reading);
-    for (which = 0; which < count; which++) {
-        uint64_t answer = fuzzy_complete(reading, prefix, strlen(prefix), which, &count, word, sizeof word);
-        if (!fuzzy_ok(answer)) {
-            printf(" %s", fuzzy_words(fuzzy_number(answer)));
-            break;
-        }
-        printf(" %.*s", (int)fuzzy_length(answer), word);
-    }
-    printf("\n");
-}
-
 /* Writes a moment as a phrase to be edited. */
 static void show_written(const char *name, const struct fuzzy_moment *moment) {
     char text[FUZZY_PHRASE_SIZE];
@@ -135,55 +119,32 @@ static void show_next(const char *rule, const struct fuzzy_moment *start, uint32
     show(rule, answer, &moment);
 }
 
-/* A zone's file or a bundle of them, and room for more than either has: all zones of tzdata in one bundle have half of that. */
-struct file {
-    uint8_t bytes[1048576];
+/* A zone's file, and room for one byte more than any has, so that a longer one is refused. */
+struct zone {
+    uint8_t bytes[65537];
     size_t length;
 };
 
-/* Reads a file; 0 where there is none. */
-static int read_file(const char *name, struct file *into) {
+/* Reads a zone's file; 0 where there is none. */
+static int read_zone(const char *name, struct zone *zone) {
     FILE *file = fopen(name, "rb");
     if (file == NULL) {
         return 0;
     }
-    into->length = fread(into->bytes, 1, sizeof into->bytes, file);
+    zone->length = fread(zone->bytes, 1, sizeof zone->bytes, file);
     fclose(file);
     return 1;
 }
 
 /* Reads a phrase at an instant in a zone: what its clocks show when it is due, and that instant's second. */
-static void show_in_zone(const uint8_t *zone, size_t length, const char *phrase, int64_t second) {
+static void show_in_zone(const struct zone *zone, const char *phrase, int64_t second) {
     struct fuzzy_local local;
     int64_t due;
-    uint64_t answer = fuzzy_read_in_zone(FUZZY_FIRST, phrase, strlen(phrase), zone, length, second, 0, &due, &local);
+    uint64_t answer = fuzzy_read_in_zone(FUZZY_FIRST, phrase, strlen(phrase), zone->bytes, zone->length, second, 0, &due, &local);
     show(phrase, answer, &local.moment);
     if (fuzzy_ok(answer)) {
         printf("  %u seconds %s of UTC, at the second %lld\n", (unsigned)local.offset, local.west == 0 ? "east" : "west", (long long)due);
     }
-}
-
-/* Says until when a zone's file is good, so that an app can warn before. */
-static void show_until(const char *name, const uint8_t *zone, size_t length) {
-    int64_t until;
-    uint64_t answer = fuzzy_zone_until(zone, length, &until);
-    if (fuzzy_ok(answer)) {
-        printf("%s is good until the second %lld\n", name, (long long)until);
-    } else {
-        print_refusal(name, answer);
-    }
-}
-
-/* Finds a zone in a bundle by its name, and reads a phrase there. The zone's bytes are a part of the bundle's: nothing is copied. */
-static void show_in_bundle(const struct file *bundle, const char *name, const char *phrase, int64_t second) {
-    uint64_t place[FUZZY_PLACE_NUMBERS];
-    uint64_t answer = fuzzy_find_zone(bundle->bytes, bundle->length, name, strlen(name), place);
-    if (!fuzzy_ok(answer)) {
-        print_refusal(name, answer);
-        return;
-    }
-    show_until(name, bundle->bytes + place[0], (size_t)place[1]);
-    show_in_zone(bundle->bytes + place[0], (size_t)place[1], phrase, second);
 }
 
 /* Shows what is due first on a board, or that nothing is. */
@@ -208,36 +169,7 @@ static void show_added(struct fuzzy_board *board, const char *phrase) {
     }
 }
 
-/* Adds a reminder that keeps the moment of its author's now: it is read there, pinned, and added ready. */
-static void show_pinned(struct fuzzy_board *board, const char *phrase, const struct fuzzy_moment *author_now) {
-    uint8_t ready[FUZZY_READY_SIZE];
-    struct fuzzy_moment moment;
-    uint64_t answer = fuzzy_read(FUZZY_FIRST, phrase, strlen(phrase), author_now, &moment);
-    if (fuzzy_ok(answer)) {
-        answer = fuzzy_pin(&moment, ready);
-    }
-    if (fuzzy_ok(answer)) {
-        answer = fuzzy_board_add_ready(board, ready, fuzzy_length(answer));
-    }
-    if (fuzzy_ok(answer)) {
-        printf("%s, pinned: in slot %u\n", phrase, (unsigned)fuzzy_length(answer));
-    } else {
-        print_refusal(phrase, answer);
-    }
-}
-
-/* Lists all reminders in order, with their moments, as a screen may show them. */
-static void show_list(const struct fuzzy_board *board) {
-    uint32_t slots[FUZZY_BOARD_SLOTS], i, count = fuzzy_length(fuzzy_board_order(board, slots));
-    struct fuzzy_moment moment;
-    for (i = 0; i < count; i++) {
-        printf("slot %u, ", (unsigned)slots[i]);
-        show("listed", fuzzy_board_moment(board, slots[i], &moment), &moment);
-    }
-}
-
-/* Four reminders on a board, one refused, one removed, and all run again at midnight: what is pinned stays, and "noon" is the next day's. A
- * board is large: not on a small stack. */
+/* Three reminders on a board, one refused, one removed, and all run again at midnight. A board is large: not on a small stack. */
 static void show_board(const struct fuzzy_moment *now) {
     static const struct fuzzy_moment midnight = {2026, 2, 12, 0, 0, 0, 0};
     static struct fuzzy_board board;
@@ -249,20 +181,18 @@ static void show_board(const struct fuzzy_moment *now) {
     show_added(&board, "noon");
     show_added(&board, "an hour from now");
     show_added(&board, "next fryday");
-    show_pinned(&board, "2 hours from now", now);
     show_head(&board);
     printf("slot 2 removed: %s\n", fuzzy_words(fuzzy_number(fuzzy_board_remove(&board, 2))));
     show_head(&board);
     printf("again at midnight: %s\n", fuzzy_words(fuzzy_number(fuzzy_board_again(&board, &midnight))));
     show_head(&board);
-    show_list(&board);
 }
 
 int main(int count, char **arguments) {
     static const struct fuzzy_moment now = {2026, 2, 11, 9, 30, 15, 250}, leap_day = {2024, 2, 29, 12, 0, 0, 0};
     static const struct fuzzy_moment start = {2026, 2, 10, 9, 30, 0, 0};
     static const struct fuzzy_moment whole = {2026, 3, 4, 9, 5, 0, 0}, not_whole = {2026, 3, 4, 9, 5, 30, 0};
-    static struct file new_york, bundle;
+    static struct zone new_york;
 
     /* a stated time has no milliseconds; without one now's are kept */
     show_phrase(FUZZY_FIRST, "next friday at 3 pm", &now);
@@ -287,9 +217,6 @@ int main(int count, char **arguments) {
     show_word("Friday");
     show_word("fort");
     show_word("forty");
-    show_completions(FUZZY_FIRST, "Frid");
-    show_completions(FUZZY_FIRST, "fort");
-    show_completions(FUZZY_SECOND, "fort");
 
     show_written("2026-03-04 09:05:00", &whole);
     show_written("2026-03-04 09:05:30", &not_whole);
@@ -306,20 +233,14 @@ int main(int count, char **arguments) {
     show_next("FREQ=DAILY;UNTIL=20260212", &start, 2027);
 
     /* half an hour before New York's clocks go forward, and in the hour that occurs twice, for the second time */
-    if (count != 3 || !read_file(arguments[1], &new_york) || !read_file(arguments[2], &bundle)) {
+    if (count != 2 || !read_zone(arguments[1], &new_york)) {
         return 1;
     }
-    show_in_zone(new_york.bytes, new_york.length, "an hour from now", 1772951400);
-    show_in_zone(new_york.bytes, new_york.length, "today 3:00", 1772951400);
-    show_in_zone(new_york.bytes, new_york.length, "today 2:30", 1772951400);
-    show_in_zone(new_york.bytes, new_york.length, "2 years from now", 1772951400);
-    show_in_zone(new_york.bytes, new_york.length, "today 1:30", 1793514600);
-    show_until("New York's file", new_york.bytes, new_york.length);
-
-    /* zones of a bundle, by names in either case */
-    show_in_bundle(&bundle, "America/New_York", "2 years from now", 1772951400);
-    show_in_bundle(&bundle, "asia/kolkata", "tomorrow at 9:00", 1772951400);
-    show_in_bundle(&bundle, "Asia/Bombay", "tomorrow at 9:00", 1772951400);
+    show_in_zone(&new_york, "an hour from now", 1772951400);
+    show_in_zone(&new_york, "today 3:00", 1772951400);
+    show_in_zone(&new_york, "today 2:30", 1772951400);
+    show_in_zone(&new_york, "2 years from now", 1772951400);
+    show_in_zone(&new_york, "today 1:30", 1793514600);
 
     show_board(&now);
     return 0;

@@ -90,25 +90,6 @@ static inline uint64_t random_below(uint64_t n) {
     return (state >> 11) % n;
 }
 
-/* One of n bytes becomes any: first the place is drawn, then the byte. */
-static inline void change_byte(void *bytes, size_t n) {
-    size_t place = random_below(n);
-    ((uint8_t *)bytes)[place] = (uint8_t)random_below(256);
-}
-
-/* Mostly a valid moment, at times any numbers. */
-static inline struct fuzzy_moment random_moment(void) {
-    static const uint32_t most[FUZZY_MOMENT_NUMBERS] = {9999, 12, 28, 24, 60, 60, 1000};
-    uint32_t numbers[FUZZY_MOMENT_NUMBERS];
-    struct fuzzy_moment moment;
-    size_t i;
-    for (i = 0; i < FUZZY_MOMENT_NUMBERS; i++) numbers[i] = (uint32_t)random_below(most[i]) + (i < 3);
-    if (random_below(8) == 0) numbers[2] = (uint32_t)(29 + random_below(3));
-    if (random_below(32) == 0) numbers[random_below(FUZZY_MOMENT_NUMBERS)] = (uint32_t)random_below((uint64_t)1 << 32);
-    memcpy(&moment, numbers, sizeof moment);
-    return moment;
-}
-
 /* FNV-1a, of 64 bits. */
 static uint64_t digest = 0xcbf29ce484222325u;
 

@@ -1,7 +1,6 @@
 /* Prints the most bytes of stack that reading, making ready and running, in a zone too, were seen to use, over the replayed list and over
- * phrases that nest as deeply as 256 bytes let them, those for rules over a rule of each FREQ, those for boards over such phrases, and the
- * others over a few words, a moment and the zones of a bundle: stack LIST ZONE BUNDLE. A call runs on a stack of its own that is full of a
- * pattern; what an empty call uses is taken off. */
+ * phrases that nest as deeply as 256 bytes let them, those for rules over a rule of each FREQ, and those for boards over such phrases:
+ * stack LIST ZONE. A call runs on a stack of its own that is full of a pattern; what an empty call uses is taken off. */
 #define _DEFAULT_SOURCE
 #include "fuzzy.h"
 #include "lent.h"
@@ -15,11 +14,8 @@ static struct line line;
 static uint8_t ready[FUZZY_READY_SIZE];
 static struct fuzzy_moment moment, moments[64];
 static uint64_t made;
-static uint8_t zone[65536], bundle[65536];
-static size_t zone_length, bundle_length;
-static char word[FUZZY_WORD_SIZE];
-static uint32_t number;
-static uint64_t place[FUZZY_PLACE_NUMBERS];
+static uint8_t zone[65536];
+static size_t zone_length;
 static int64_t due;
 static struct fuzzy_local local;
 static struct fuzzy_board board;
@@ -71,14 +67,6 @@ static void call_board_add(void) {
     fuzzy_board_add(&board, FUZZY_FIRST, line.phrase, line.length);
 }
 
-static void call_board_add_ready(void) {
-    fuzzy_board_add_ready(&board, ready, fuzzy_length(made));
-}
-
-static void call_board_moment(void) {
-    fuzzy_board_moment(&board, 0, &moment);
-}
-
 static void call_board_remove(void) {
     fuzzy_board_remove(&board, 0);
 }
@@ -95,22 +83,6 @@ static void call_board_order(void) {
     fuzzy_board_order(&board, slots);
 }
 
-static void call_complete(void) {
-    fuzzy_complete(FUZZY_SECOND, line.phrase, line.length, 0, &number, word, sizeof word);
-}
-
-static void call_pin(void) {
-    fuzzy_pin(&leap_day, ready);
-}
-
-static void call_find_zone(void) {
-    fuzzy_find_zone(bundle, bundle_length, line.phrase, line.length, place);
-}
-
-static void call_zone_until(void) {
-    fuzzy_zone_until(bundle + place[0], place[1], &due);
-}
-
 /* The bytes of stack that a call changes, counted from the top down to the lowest one. */
 static size_t used_by(void (*call)(void)) {
     uint8_t *p, *end = stack.first + stack.size;
@@ -125,12 +97,11 @@ static size_t used_by(void (*call)(void)) {
     return (size_t)(end - p);
 }
 
-/* The functions for phrases, of which the last two run what was made ready, those for rules, those for boards, and the others. */
+/* The functions for phrases, of which the last two run what was made ready, those for rules, and those for boards. */
 #define PHRASES 5
 #define RULES 2
-#define BOARDS 8
-#define OTHERS 4
-#define CALLS (PHRASES + RULES + BOARDS + OTHERS)
+#define BOARDS 6
+#define CALLS (PHRASES + RULES + BOARDS)
 static size_t most[CALLS];
 
 /* The functions for phrases on the phrase of `line`. */
@@ -145,8 +116,8 @@ static void measure(void) {
 
 /* The functions for boards, with the phrase of `line` as the only reminder. */
 static void keep(void) {
-    static void (*const calls[BOARDS])(void) = {call_board_make,  call_board_add,    call_board_again,     call_board_head,
-                                                call_board_order, call_board_moment, call_board_add_ready, call_board_remove};
+    static void (*const calls[BOARDS])(void) = {call_board_make, call_board_add,   call_board_again,
+                                                call_board_head, call_board_order, call_board_remove};
     size_t i;
     for (i = 0; i < BOARDS; i++) {
         size_t used = used_by(calls[i]);
@@ -176,35 +147,20 @@ static void repeat(const char *rule) {
     }
 }
 
-/* The others on a text, as a beginning of a word and as a zone's name. */
-static void look_up(const char *text) {
-    static void (*const calls[OTHERS])(void) = {call_complete, call_pin, call_find_zone, call_zone_until};
-    size_t i;
-    line.length = strlen(text);
-    memcpy(line.phrase, text, line.length);
-    for (i = 0; i < OTHERS; i++) {
-        size_t used = used_by(calls[i]);
-        if (used > most[PHRASES + RULES + BOARDS + i]) most[PHRASES + RULES + BOARDS + i] = used;
-    }
-}
-
 int main(int count, char **arguments) {
     static const char *const names[CALLS] = {
-        "fuzzy_read",       "fuzzy_make_ready",  "fuzzy_read_in_zone", "fuzzy_run",             "fuzzy_run_in_zone",
-        "fuzzy_list",       "fuzzy_next",        "fuzzy_board_make",   "fuzzy_board_add",       "fuzzy_board_again",
-        "fuzzy_board_head", "fuzzy_board_order", "fuzzy_board_moment", "fuzzy_board_add_ready", "fuzzy_board_remove",
-        "fuzzy_complete",   "fuzzy_pin",         "fuzzy_find_zone",    "fuzzy_zone_until",
+        "fuzzy_read",       "fuzzy_make_ready",  "fuzzy_read_in_zone", "fuzzy_run",       "fuzzy_run_in_zone",
+        "fuzzy_list",       "fuzzy_next",        "fuzzy_board_make",   "fuzzy_board_add", "fuzzy_board_again",
+        "fuzzy_board_head", "fuzzy_board_order", "fuzzy_board_remove",
     };
     static const char *const parts[] = {"million ",  "1 million ",  "a day after ", "1 day before ",
                                         "1day from", "1day after ", "1 day, ",      "1 day and "};
     static const char *const ends[] = {"days ago", "today", "noon", "1 day ago", "now", ""};
     static char text[8192];
     size_t i, j, nothing;
-    FILE *in = count == 4 ? fopen(arguments[1], "r") : NULL, *file = count == 4 ? fopen(arguments[2], "rb") : NULL;
-    FILE *zones = count == 4 ? fopen(arguments[3], "rb") : NULL;
-    if (in == NULL || file == NULL || zones == NULL) stop("usage: stack LIST ZONE BUNDLE");
+    FILE *in = count == 3 ? fopen(arguments[1], "r") : NULL, *file = count == 3 ? fopen(arguments[2], "rb") : NULL;
+    if (in == NULL || file == NULL) stop("usage: stack LIST ZONE");
     zone_length = fread(zone, 1, sizeof zone, file);
-    bundle_length = fread(bundle, 1, sizeof bundle, zones);
     stack = fenced(ROOM);
     memset(stack.first, PATTERN, stack.size);
     nothing = used_by(call_nothing);
@@ -219,10 +175,6 @@ int main(int count, char **arguments) {
     repeat("FREQ=WEEKLY;UNTIL=99991231T235959;BYDAY=MO,TU,WE,TH,FR,SA,SU;INTERVAL=2;WKST=MO");
     repeat("FREQ=WEEKLY;BYDAY=MO,TU,WE,TH,FR,SA,SU;INTERVAL=2;COUNT=3652058");
     repeat("FREQ=MONTHLY;BYMONTHDAY=+29;INTERVAL=12;COUNT=3652058");
-    look_up("");
-    look_up("seventeenth");
-    look_up("America/New_York");
-    look_up("utc");
-    for (i = 0; i < CALLS; i++) printf("%-21s %6zu bytes of stack\n", names[i], most[i] - nothing);
+    for (i = 0; i < CALLS; i++) printf("%-18s %6zu bytes of stack\n", names[i], most[i] - nothing);
     return 0;
 }

@@ -12,15 +12,11 @@
 #if fuzzydate_Calls_MOMENT_NUMBERS != FUZZY_MOMENT_NUMBERS || fuzzydate_Calls_STAMP_NUMBERS != FUZZY_STAMP_NUMBERS || \
     fuzzydate_Calls_FOUND_NUMBERS != FUZZY_FOUND_NUMBERS || fuzzydate_Calls_READY_SIZE != FUZZY_READY_SIZE || \
     fuzzydate_Calls_STAMP_SIZE != FUZZY_STAMP_SIZE || fuzzydate_Calls_PHRASE_SIZE != FUZZY_PHRASE_SIZE || \
-    fuzzydate_Calls_LOCAL_NUMBERS != FUZZY_LOCAL_NUMBERS || fuzzydate_Calls_PLACE_NUMBERS != FUZZY_PLACE_NUMBERS || \
-    fuzzydate_Calls_BOARD_SLOTS != FUZZY_BOARD_SLOTS
+    fuzzydate_Calls_LOCAL_NUMBERS != FUZZY_LOCAL_NUMBERS || fuzzydate_Calls_BOARD_SLOTS != FUZZY_BOARD_SLOTS
 #error "Calls.java and fuzzy.h have different sizes"
 #endif
 typedef char board_size[fuzzydate_Calls_BOARD_SIZE == sizeof(struct fuzzy_board) ? 1 : -1];
 #endif
-
-/* As many bytes as a phrase may have, so that no word of a newer library is too long. */
-#define MOST_WORD 256
 
 /* A native method of fuzzydate.Calls. */
 #define METHOD(type, name) JNIEXPORT type JNICALL Java_fuzzydate_Calls_##name
@@ -55,7 +51,7 @@ static int take_moment(JNIEnv *env, jintArray array, struct fuzzy_moment *moment
     return take_numbers(env, array, FUZZY_MOMENT_NUMBERS, moment);
 }
 
-/* A copy of an array's bytes: a text, a ready phrase, a zone or a bundle. */
+/* A copy of an array's bytes: a text, a ready phrase or a zone. */
 struct bytes {
     void *first;
     uint64_t length;
@@ -113,16 +109,12 @@ static jlong give_moment(JNIEnv *env, uint64_t answer, jintArray array, const st
     return give_numbers(env, answer, array, FUZZY_MOMENT_NUMBERS, moment);
 }
 
-/* The answer of a call that gives numbers of 64 bits, which go to the array where there is no refusal. */
-static jlong give_longs(JNIEnv *env, uint64_t answer, jlongArray array, jsize count, const void *numbers) {
-    if (fuzzy_ok(answer)) (*env)->SetLongArrayRegion(env, array, 0, count, numbers);
-    return (jlong)answer;
-}
-
 /* The answer of a call that gives an instant's second and what the clocks show, which go to their arrays where there is no refusal. */
 static jlong give_local(JNIEnv *env, uint64_t answer, jlongArray due, int64_t second, jintArray array,
                         const struct fuzzy_local *local) {
-    give_longs(env, answer, due, 1, &second);
+    jlong given = (jlong)second;
+    if (!fuzzy_ok(answer)) return (jlong)answer;
+    (*env)->SetLongArrayRegion(env, due, 0, 1, &given);
     if ((*env)->ExceptionCheck(env)) return 0;
     return give_numbers(env, answer, array, FUZZY_LOCAL_NUMBERS, local);
 }
@@ -172,16 +164,6 @@ METHOD(jlong, run)(JNIEnv *env, jclass calls, jbyteArray ready, jintArray now, j
     return give_moment(env, answer, moment, &m);
 }
 
-METHOD(jlong, pin)(JNIEnv *env, jclass calls, jintArray moment, jbyteArray ready) {
-    struct fuzzy_moment m;
-    uint8_t r[FUZZY_READY_SIZE];
-    uint64_t answer;
-    (void)calls;
-    if (!take_moment(env, moment, &m) || !has_room(env, ready, FUZZY_READY_SIZE)) return 0;
-    answer = fuzzy_pin(&m, r);
-    return give_bytes(env, answer, ready, r);
-}
-
 METHOD(jlong, readStamp)(JNIEnv *env, jclass calls, jbyteArray text, jintArray stamp) {
     struct fuzzy_stamp s;
     struct bytes t;
@@ -212,20 +194,6 @@ METHOD(jlong, findWord)(JNIEnv *env, jclass calls, jint reading, jbyteArray word
     answer = fuzzy_find_word((uint32_t)reading, w.first, w.length, f);
     free(w.first);
     return give_numbers(env, answer, found, FUZZY_FOUND_NUMBERS, f);
-}
-
-METHOD(jlong, complete)(JNIEnv *env, jclass calls, jint reading, jbyteArray prefix, jint which, jintArray count, jbyteArray word) {
-    char w[MOST_WORD];
-    uint32_t c;
-    struct bytes p;
-    uint64_t answer;
-    (void)calls;
-    if (!has_room(env, count, 1) || !has_room(env, word, 0) || !take_bytes(env, prefix, &p)) return 0;
-    answer = fuzzy_complete((uint32_t)reading, p.first, p.length, (uint32_t)which, &c, w, room_of(env, word, sizeof w));
-    free(p.first);
-    give_numbers(env, answer, count, 1, &c);
-    if ((*env)->ExceptionCheck(env)) return 0;
-    return give_bytes(env, answer, word, w);
 }
 
 METHOD(jlong, writePhrase)(JNIEnv *env, jclass calls, jintArray moment, jbyteArray text) {
@@ -300,29 +268,6 @@ METHOD(jlong, readInZone)(JNIEnv *env, jclass calls, jint reading, jbyteArray ph
     return give_local(env, answer, due, d, local, &l);
 }
 
-METHOD(jlong, zoneUntil)(JNIEnv *env, jclass calls, jbyteArray zone, jlongArray until) {
-    int64_t u;
-    struct bytes z;
-    uint64_t answer;
-    (void)calls;
-    if (!has_room(env, until, 1) || !take_bytes(env, zone, &z)) return 0;
-    answer = fuzzy_zone_until(z.first, z.length, &u);
-    free(z.first);
-    return give_longs(env, answer, until, 1, &u);
-}
-
-METHOD(jlong, findZone)(JNIEnv *env, jclass calls, jbyteArray bundle, jbyteArray name, jlongArray place) {
-    uint64_t p[FUZZY_PLACE_NUMBERS];
-    struct bytes b, n;
-    uint64_t answer;
-    (void)calls;
-    if (!has_room(env, place, FUZZY_PLACE_NUMBERS) || !take_both(env, bundle, &b, name, &n)) return 0;
-    answer = fuzzy_find_zone(b.first, b.length, n.first, n.length, p);
-    free(b.first);
-    free(n.first);
-    return give_longs(env, answer, place, FUZZY_PLACE_NUMBERS, p);
-}
-
 METHOD(jlong, boardMake)(JNIEnv *env, jclass calls, jobject board, jintArray now) {
     struct fuzzy_moment n;
     struct fuzzy_board *b = take_board(env, board);
@@ -339,17 +284,6 @@ METHOD(jlong, boardAdd)(JNIEnv *env, jclass calls, jobject board, jint reading, 
     if (b == NULL || !take_bytes(env, phrase, &p)) return 0;
     answer = fuzzy_board_add(b, (uint32_t)reading, p.first, p.length);
     free(p.first);
-    return (jlong)answer;
-}
-
-METHOD(jlong, boardAddReady)(JNIEnv *env, jclass calls, jobject board, jbyteArray ready) {
-    struct fuzzy_board *b = take_board(env, board);
-    struct bytes r;
-    uint64_t answer;
-    (void)calls;
-    if (b == NULL || !take_bytes(env, ready, &r)) return 0;
-    answer = fuzzy_board_add_ready(b, r.first, r.length);
-    free(r.first);
     return (jlong)answer;
 }
 
@@ -373,14 +307,6 @@ METHOD(jlong, boardHead)(JNIEnv *env, jclass calls, jobject board, jintArray mom
     (void)calls;
     if (b == NULL || !has_room(env, moment, FUZZY_MOMENT_NUMBERS)) return 0;
     return give_moment(env, fuzzy_board_head(b, &m), moment, &m);
-}
-
-METHOD(jlong, boardMoment)(JNIEnv *env, jclass calls, jobject board, jint slot, jintArray moment) {
-    struct fuzzy_moment m;
-    struct fuzzy_board *b = take_board(env, board);
-    (void)calls;
-    if (b == NULL || !has_room(env, moment, FUZZY_MOMENT_NUMBERS)) return 0;
-    return give_moment(env, fuzzy_board_moment(b, (uint32_t)slot, &m), moment, &m);
 }
 
 METHOD(jlong, boardOrder)(JNIEnv *env, jclass calls, jobject board, jintArray slots) {

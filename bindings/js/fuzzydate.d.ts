@@ -45,7 +45,7 @@ export type Reason =
     | "TOO_LONG" | "UNKNOWN" | "LARGE_DIGITS" | "TOO_MANY" | "NOTHING" | "LARGE_SUM" | "LEFT_OVER" | "INVALID_MOMENT"
     | "NO_SENSE" | "NO_DATE" | "NO_TIME" | "OUTSIDE" | "NO_LEAP_DAY" | "NO_STAMP" | "NO_READING" | "NOT_WHOLE" | "NO_ROOM"
     | "NO_RULE" | "NO_START" | "NO_NEXT" | "NO_ZONE" | "PAST_LAST" | "NO_INSTANT" | "FULL_BOARD" | "EMPTY_SLOT"
-    | "NOTHING_DUE" | "NO_WORD" | "NO_BUNDLE" | "UNKNOWN_ZONE";
+    | "NOTHING_DUE";
 
 /** The name and the words of each refusal, by its number; 0 is "DONE". */
 export declare const REASONS: readonly { readonly reason: Reason | "DONE"; readonly words: string }[];
@@ -107,9 +107,8 @@ export interface Due {
 }
 
 /**
- * Up to 256 reminders, each in a slot of 0 to 255, and the order of their moments at the board's now. Every reminder runs at the
- * board's now: "an hour from now", added at 9:30, is 01:00 after midnight's `again`. One that must keep the moment of its
- * author's now is read at that now, pinned by `pin`, and added by `addReady`. A refused call changes nothing.
+ * Up to 256 reminders, each in a slot of 0 to 255, and the order of their moments at the board's now. A refused call changes
+ * nothing.
  */
 export interface Board {
     /**
@@ -117,22 +116,18 @@ export interface Board {
      * comes last, and may have a moment at another now.
      */
     add(reading: Reading, phrase: Text): number;
-    /** Adds a reminder that is ready, as it was stored or sent: gives its slot, the lowest that was free. */
-    addReady(ready: Uint8Array): number;
     /** Removes a reminder: its slot is free again. */
     remove(slot: number): void;
     /** Runs all reminders again at another now, later or earlier, which is then the board's. */
     again(now: MomentLike): void;
     /** Finds what is due first: the earliest moment, and of equal ones the lowest slot. */
     head(): Due;
-    /** Finds when a slot's reminder is due at the board's now; refused for an empty slot, else as `run` refuses its phrase. */
-    moment(slot: number): Moment;
     /** Lists the filled slots, each once: by moment, and after them those without a moment at the board's now. */
     order(): number[];
 }
 
 export interface Fuzzydate {
-    /** The library's version, such as "1.1.0". */
+    /** The library's version, such as "1.0.0". */
     readonly version: string;
     /** Reads a phrase at a now. Where it states a time, second and millisecond are 0; else they are now's. */
     read(reading: Reading, phrase: Text, now: MomentLike): Moment;
@@ -140,19 +135,12 @@ export interface Fuzzydate {
     makeReady(reading: Reading, phrase: Text): Uint8Array;
     /** Runs a ready phrase at a now: gives what `read` gives for its phrase at that now. */
     run(ready: Uint8Array, now: MomentLike): Moment;
-    /**
-     * Makes the ready phrase that gives this moment at every now, for a reminder that must not move any more. A library of
-     * version 1.0 refuses to run it.
-     */
-    pin(moment: MomentLike): Uint8Array;
     /** Reads a whole text as an RFC 3339 stamp: "2026-02-11T09:30:15Z", or with an offset, and with up to three digits of a fraction. */
     readStamp(text: Text): Stamp;
     /** Writes a stamp as text, which reads back as the same. */
     writeStamp(stamp: { readonly moment: MomentLike; readonly offset: number | null }): string;
     /** Says of a word, while it is typed, whether it is one of a reading's words. */
     findWord(reading: Reading, word: Text): FoundWord;
-    /** Lists a reading's words that begin with a prefix, in alphabetical order: none where no word begins so, all for "". */
-    complete(reading: Reading, prefix: Text): string[];
     /** Writes a moment of whole minutes as a phrase that people can edit: "march 4 2026 at 9:05". */
     writePhrase(moment: MomentLike): string;
     /** Lists the occurrences of a rule of RFC 5545 from its start on, up to so many. */
@@ -163,10 +151,6 @@ export interface Fuzzydate {
     readInZone(reading: Reading, phrase: Text, zone: Uint8Array, now: InstantLike): Local;
     /** Runs a ready phrase at an instant in a zone. */
     runInZone(ready: Uint8Array, zone: Uint8Array, now: InstantLike): Local;
-    /** Finds until when a zone's file is good: its last transition, from which on every now is refused. */
-    zoneUntil(zone: Uint8Array): Date;
-    /** Finds a zone's file in a bundle of them by its name, letters in either case: a part of the bundle's own bytes, no copy. */
-    findZone(bundle: Uint8Array, name: Text): Uint8Array;
     /** A moment of ISO text without an offset. */
     fromISO(text: string): Moment;
     /** A moment as ISO text without an offset; the fraction only where there is one. */

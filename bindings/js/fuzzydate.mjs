@@ -3,8 +3,8 @@
 // are handed over. `load` gives the functions; fuzzydate.d.ts describes them.
 
 const PARTS = ["year", "month", "day", "hour", "minute", "second", "millisecond"];
-const READY_SIZE = 384, STAMP_SIZE = 29, PHRASE_SIZE = 26, WORD_SIZE = 11;
-const MOST_OCCURRENCES = 3_652_059, NO_WORD = 27;
+const READY_SIZE = 384, STAMP_SIZE = 29, PHRASE_SIZE = 26;
+const MOST_OCCURRENCES = 3_652_059;
 
 export const Reading = Object.freeze({ FIRST: 1, SECOND: 2 });
 
@@ -37,9 +37,6 @@ export const REASONS = Object.freeze([
     ["FULL_BOARD", "no slot is free"],
     ["EMPTY_SLOT", "the slot is empty"],
     ["NOTHING_DUE", "no reminder has a moment"],
-    ["NO_WORD", "no word begins so"],
-    ["NO_BUNDLE", "not a bundle of zones"],
-    ["UNKNOWN_ZONE", "the bundle has no such zone"],
 ].map(([reason, words]) => Object.freeze({ reason, words })));
 
 const NEWER = Object.freeze({ reason: null, words: "a refusal of a newer library" });
@@ -225,8 +222,8 @@ function instantOf(instant, name) {
 const PAGE = 65_536;
 
 // Where the buffers of a call stand, from the first page that is ours: two moments or a stamp that are given, the numbers
-// that are written, the second or place that is written, the text or ready phrase that is written, and texts that are given.
-const GIVEN = 0, ASKED = 64, NUMBERS = 128, LONGS = 192, WRITTEN = 256, TEXT = 1024;
+// that are written, the second that is written, the text or ready phrase that is written, and texts that are given.
+const GIVEN = 0, ASKED = 64, NUMBERS = 128, DUE = 192, WRITTEN = 256, TEXT = 1024;
 
 // The pages behind those that the module was made with: nothing but these calls uses them.
 class Room {
@@ -293,11 +290,6 @@ class Room {
 
     text(at, length) {
         return decoder.decode(this.bytes.subarray(at, at + length));
-    }
-
-    // A copy, which no later call writes over.
-    copy(at, length) {
-        return this.bytes.slice(at, at + length);
     }
 }
 
@@ -395,12 +387,7 @@ function phraseCalls(room, { momentNumbers }) {
         u32(reading, "reading");
         const length = room.put(base + TEXT, phrase, "phrase");
         const size = checked(exports.fuzzy_make_ready(reading, base + TEXT, BigInt(length), base + WRITTEN), phrase);
-        return room.copy(base + WRITTEN, size);
-    }
-
-    function pin(moment) {
-        room.putNumbers(base + GIVEN, momentNumbers(moment, "moment"));
-        return room.copy(base + WRITTEN, checked(exports.fuzzy_pin(base + GIVEN, base + WRITTEN)));
+        return room.bytes.slice(base + WRITTEN, base + WRITTEN + size);
     }
 
     function run(ready, now) {
@@ -418,25 +405,13 @@ function phraseCalls(room, { momentNumbers }) {
         return { code: code === 0 ? null : code, comparisons };
     }
 
-    // The words that begin with the prefix, asked for one by one: the first answer says how many there are.
-    function complete(reading, prefix) {
-        u32(reading, "reading");
-        const length = BigInt(room.put(base + TEXT, prefix, "prefix")), size = BigInt(WORD_SIZE), words = [];
-        for (let count = 1; words.length < count; count = room.number(base + NUMBERS)) {
-            const answer = exports.fuzzy_complete(reading, base + TEXT, length, words.length, base + NUMBERS, base + WRITTEN, size);
-            if (Number(answer & 0xffffn) === NO_WORD) return [];
-            words.push(room.text(base + WRITTEN, checked(answer)));
-        }
-        return words;
-    }
-
     function writePhrase(moment) {
         room.putNumbers(base + GIVEN, momentNumbers(moment, "moment"));
         const length = checked(exports.fuzzy_write_phrase(base + GIVEN, base + WRITTEN, BigInt(PHRASE_SIZE)));
         return room.text(base + WRITTEN, length);
     }
 
-    return { read, makeReady, run, pin, findWord, complete, writePhrase };
+    return { read, makeReady, run, findWord, writePhrase };
 }
 
 function ruleCalls(room, { momentNumbers }) {
@@ -477,7 +452,7 @@ function ruleCalls(room, { momentNumbers }) {
 function zoneCalls(room, { instantNumbers }) {
     const { exports, base } = room;
 
-    // Puts the bytes of a zone, or of a bundle, behind a text of so many bytes: where, and how many.
+    // Puts a zone's bytes behind a text of so many bytes: where, and how many.
     function putZone(length, zone) {
         const at = base + TEXT + length;
         return [at, BigInt(room.putBytes(at, zone))];
@@ -485,7 +460,7 @@ function zoneCalls(room, { instantNumbers }) {
 
     function local() {
         const moment = room.moment(base + NUMBERS), [west, distance] = room.numbers(base + NUMBERS + 28, 2), { millisecond } = moment;
-        const second = Number(room.view.getBigInt64(base + LONGS, true)), date = new Date(second * 1000 + millisecond);
+        const second = Number(room.view.getBigInt64(base + DUE, true)), date = new Date(second * 1000 + millisecond);
         return { second, millisecond, moment, offset: west === 0 ? distance : -distance, date };
     }
 
@@ -493,7 +468,7 @@ function zoneCalls(room, { instantNumbers }) {
         bytesOf(zone, "zone");
         const { second, millisecond } = instantNumbers(now, "now");
         const length = room.putBytes(base + TEXT, bytesOf(ready, "ready")), [at, size] = putZone(length, zone);
-        checked(exports.fuzzy_run_in_zone(base + TEXT, BigInt(length), at, size, second, millisecond, base + LONGS, base + NUMBERS));
+        checked(exports.fuzzy_run_in_zone(base + TEXT, BigInt(length), at, size, second, millisecond, base + DUE, base + NUMBERS));
         return local();
     }
 
@@ -502,28 +477,12 @@ function zoneCalls(room, { instantNumbers }) {
         bytesOf(zone, "zone");
         const { second, millisecond } = instantNumbers(now, "now");
         const length = room.put(base + TEXT, phrase, "phrase"), [at, size] = putZone(length, zone);
-        checked(exports.fuzzy_read_in_zone(reading, base + TEXT, BigInt(length), at, size, second, millisecond, base + LONGS,
+        checked(exports.fuzzy_read_in_zone(reading, base + TEXT, BigInt(length), at, size, second, millisecond, base + DUE,
             base + NUMBERS), phrase);
         return local();
     }
 
-    function zoneUntil(zone) {
-        const length = room.putBytes(base + TEXT, bytesOf(zone, "zone"));
-        checked(exports.fuzzy_zone_until(base + TEXT, BigInt(length), base + LONGS));
-        const second = room.view.getBigInt64(base + LONGS, true), date = new Date(1000 * Number(second));
-        if (Number.isNaN(date.getTime())) throw new RangeError(`zone ends at second ${second} from 1970 on, which no Date has`);
-        return date;
-    }
-
-    function findZone(bundle, name) {
-        bytesOf(bundle, "bundle");
-        const length = room.put(base + TEXT, name, "name"), [at, size] = putZone(length, bundle);
-        checked(exports.fuzzy_find_zone(at, size, base + TEXT, BigInt(length), base + LONGS), name);
-        const [begin, count] = [0, 8].map((place) => Number(room.view.getBigUint64(base + LONGS + place, true)));
-        return bundle.subarray(begin, begin + count);
-    }
-
-    return { runInZone, readInZone, zoneUntil, findZone };
+    return { runInZone, readInZone };
 }
 
 // The parts of struct fuzzy_board: what is asked often is 3,104 bytes at its beginning, and the ready phrases follow.
@@ -564,11 +523,6 @@ function boardClass(room, { momentNumbers }) {
                 () => exports.fuzzy_board_add_in(ready, lengths, keys, state, reading, at, length), phrase);
         }
 
-        addReady(given) {
-            const at = board + BOARD_SIZE, length = BigInt(room.putBytes(at, bytesOf(given, "ready")));
-            return this.#change(BOARD_SIZE, () => exports.fuzzy_board_add_ready_in(ready, lengths, keys, state, at, length));
-        }
-
         remove(slot) {
             u32(slot, "slot");
             this.#change(READY, () => exports.fuzzy_board_remove_in(lengths, keys, state, slot));
@@ -583,12 +537,6 @@ function boardClass(room, { momentNumbers }) {
         head() {
             const slot = checked(this.#ask(READY, () => exports.fuzzy_board_head_in(keys, state, base + NUMBERS)));
             return { slot, moment: room.moment(base + NUMBERS) };
-        }
-
-        moment(slot) {
-            u32(slot, "slot");
-            checked(this.#ask(BOARD_SIZE, () => exports.fuzzy_board_moment_in(ready, lengths, state, slot, base + NUMBERS)));
-            return room.moment(base + NUMBERS);
         }
 
         order() {
@@ -642,16 +590,13 @@ async function compiled(source = new URL("./fuzzydate.wasm", import.meta.url)) {
     return WebAssembly.compile(given);
 }
 
-const VERSION = "1.1.0";
-
-// The library's version as text. An older one lacks calls of this module, and another major version has others.
+// The library's version as text. Another major version has other calls.
 function versionOf(exports) {
-    const [major, minor] = VERSION.split(".").map(Number);
-    const needs = `fuzzydate ${VERSION} needs version ${VERSION} of fuzzydate.wasm or a later one of ${major}.*`;
-    if (exports.fuzzy_version === undefined) throw new TypeError(`${needs}, and this has no version`);
-    const number = exports.fuzzy_version(), parts = [number / 1e6, (number / 1000) % 1000, number % 1000].map(Math.floor);
-    if (parts[0] !== major || parts[1] < minor) throw new TypeError(`${needs}, and this is ${parts.join(".")}`);
-    return parts.join(".");
+    if (exports.fuzzy_version === undefined) throw new TypeError("this is not fuzzydate.wasm of version 1.0.0 or later");
+    const number = exports.fuzzy_version();
+    const version = [number / 1e6, (number / 1000) % 1000, number % 1000].map(Math.floor).join(".");
+    if (!version.startsWith("1.")) throw new TypeError(`fuzzydate.wasm is of version ${version}, and this module needs 1`);
+    return version;
 }
 
 export async function load(source) {

@@ -16,10 +16,6 @@
 #include "moments.h"
 #include "refused.h"
 
-#if !defined FUZZY_WORD_SIZE
-#error "fuzzydate.c needs fuzzy.h and libfuzzydate.a of version 1.1.0 or later"
-#endif
-
 PG_MODULE_MAGIC;
 
 /* The seconds from 1970 to 2000, where PostgreSQL begins to count. */
@@ -160,12 +156,6 @@ static void make_run(FunctionCallInfo fcinfo, struct made *made) {
     give_moment(fuzzy_run((const uint8_t *)ready.bytes, ready.length, &now, &moment), &moment, made);
 }
 
-static void make_pin(FunctionCallInfo fcinfo, struct made *made) {
-    struct fuzzy_moment moment = moment_of(PG_GETARG_DATUM(0), made);
-    uint8_t ready[FUZZY_READY_SIZE];
-    give_text(fuzzy_pin(&moment, ready), (const char *)ready, made);
-}
-
 static void make_next(FunctionCallInfo fcinfo, struct made *made) {
     struct part rule = part_of(PG_GETARG_DATUM(0));
     struct fuzzy_moment start = moment_of(PG_GETARG_DATUM(1), made), asked = moment_of(PG_GETARG_DATUM(2), made), moment;
@@ -220,22 +210,6 @@ static void make_local(FunctionCallInfo fcinfo, struct made *made) {
     struct fuzzy_local local;
     int64_t due;
     give_moment(read_in_zone(FUZZY_FIRST, now, &in, &due, &local), &local.moment, made);
-}
-
-/* A zone's bytes are a part of the bundle. */
-static void make_find_zone(FunctionCallInfo fcinfo, struct made *made) {
-    struct part bundle = part_of(PG_GETARG_DATUM(0)), name = part_of(PG_GETARG_DATUM(1));
-    uint64_t place[FUZZY_PLACE_NUMBERS];
-    made->answer = fuzzy_find_zone((const uint8_t *)bundle.bytes, bundle.length, name.bytes, name.length, place);
-    if (fuzzy_ok(made->answer)) made->given = PointerGetDatum(cstring_to_text_with_len(bundle.bytes + place[0], (int)place[1]));
-}
-
-static void make_zone_until(FunctionCallInfo fcinfo, struct made *made) {
-    struct part zone = part_of(PG_GETARG_DATUM(0));
-    struct fuzzy_local whole;
-    int64_t until;
-    memset(&whole, 0, sizeof whole);
-    give_instant(fuzzy_zone_until((const uint8_t *)zone.bytes, zone.length, &until), &until, &whole, made);
 }
 
 static void make_stamp(FunctionCallInfo fcinfo, struct made *made) {
@@ -330,9 +304,6 @@ FUNCTION(fuzzydate_local, given_or_raised, make_local);
 FUNCTION(fuzzydate_stamp, given_or_raised, make_stamp);
 FUNCTION(fuzzydate_read_stamp, given_or_raised, make_read_stamp);
 FUNCTION(fuzzydate_show, given_or_raised, make_show);
-FUNCTION(fuzzydate_pin, given_or_raised, make_pin);
-FUNCTION(fuzzydate_find_zone, given_or_raised, make_find_zone);
-FUNCTION(fuzzydate_zone_until, given_or_raised, make_zone_until);
 
 FUNCTION(fuzzydate_try_read, given_or_null, make_read);
 FUNCTION(fuzzydate_try_make_ready, given_or_null, make_ready);
@@ -344,9 +315,6 @@ FUNCTION(fuzzydate_try_local, given_or_null, make_local);
 FUNCTION(fuzzydate_try_stamp, given_or_null, make_stamp);
 FUNCTION(fuzzydate_try_read_stamp, given_or_null, make_read_stamp);
 FUNCTION(fuzzydate_try_show, given_or_null, make_show);
-FUNCTION(fuzzydate_try_pin, given_or_null, make_pin);
-FUNCTION(fuzzydate_try_find_zone, given_or_null, make_find_zone);
-FUNCTION(fuzzydate_try_zone_until, given_or_null, make_zone_until);
 
 FUNCTION(fuzzydate_why_read, refused_or_null, make_read);
 FUNCTION(fuzzydate_why_make_ready, refused_or_null, make_ready);
@@ -363,7 +331,7 @@ Datum fuzzydate_refusal(PG_FUNCTION_ARGS) {
     PG_RETURN_TEXT_P(cstring_to_text(fuzzy_words((uint32_t)PG_GETARG_INT32(0))));
 }
 
-/* The library's version, as 1.1.0. */
+/* The library's version, as 1.0.0. */
 PG_FUNCTION_INFO_V1(fuzzydate_version);
 Datum fuzzydate_version(PG_FUNCTION_ARGS) {
     uint32_t version = fuzzy_version();
@@ -432,51 +400,3 @@ static Datum next_occurrence(FunctionCallInfo fcinfo, bool raises) {
 
 FUNCTION(fuzzydate_occurrences, next_occurrence, true);
 FUNCTION(fuzzydate_try_occurrences, next_occurrence, false);
-
-/* The words of a reading that begin with a prefix: how many there are. */
-struct words {
-    uint32_t reading, count;
-    struct part prefix;
-};
-
-/* The word of a row, counted from 0. */
-static uint64_t word_at(struct words *words, uint64_t row, char word[FUZZY_WORD_SIZE]) {
-    const struct part *prefix = &words->prefix;
-    return fuzzy_complete(words->reading, prefix->bytes, prefix->length, (uint32_t)row, &words->count, word, FUZZY_WORD_SIZE);
-}
-
-/* Begins a list of words, in the memory that all its rows share. Where no word begins so, there are no rows. */
-static struct words *begin_words(FunctionCallInfo fcinfo, bool raises) {
-    struct made made = {0, 0, NULL, 0, false};
-    struct words *words = palloc0(sizeof *words);
-    char word[FUZZY_WORD_SIZE];
-    words->reading = (uint32_t)PG_GETARG_INT32(0);
-    words->prefix = part_of(PointerGetDatum(PG_GETARG_TEXT_P_COPY(1)));
-    made.answer = word_at(words, 0, word);
-    if (raises && !fuzzy_ok(made.answer) && fuzzy_number(made.answer) != FUZZY_NO_WORD) raise_refusal(&made);
-    return words;
-}
-
-/* One word after the other; another reading than 1 and 2 is raised, or has none. */
-static Datum next_word(FunctionCallInfo fcinfo, bool raises) {
-    FuncCallContext *context;
-    struct words *words;
-    MemoryContext before;
-    char word[FUZZY_WORD_SIZE];
-    Datum given;
-    if (SRF_IS_FIRSTCALL()) {
-        context = SRF_FIRSTCALL_INIT();
-        before = MemoryContextSwitchTo(context->multi_call_memory_ctx);
-        context->user_fctx = begin_words(fcinfo, raises);
-        MemoryContextSwitchTo(before);
-    }
-    context = SRF_PERCALL_SETUP();
-    words = context->user_fctx;
-    if (context->call_cntr >= words->count) SRF_RETURN_DONE(context);
-    /* worked out before the next line counts the row */
-    given = PointerGetDatum(cstring_to_text_with_len(word, (int)fuzzy_length(word_at(words, context->call_cntr, word))));
-    SRF_RETURN_NEXT(context, given);
-}
-
-FUNCTION(fuzzydate_complete, next_word, true);
-FUNCTION(fuzzydate_try_complete, next_word, false);

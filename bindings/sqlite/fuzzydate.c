@@ -4,10 +4,6 @@
 #include "moments.h"
 #include "refused.h"
 
-#if !defined FUZZY_WORD_SIZE
-#error "fuzzydate.c needs fuzzy.h and libfuzzydate.a of version 1.1.0 or later"
-#endif
-
 #include <sqlite3ext.h>
 SQLITE_EXTENSION_INIT1
 
@@ -17,7 +13,7 @@ SQLITE_EXTENSION_INIT1
 #define MOST_PARAMETERS 4
 
 /* What an argument is for. */
-enum kind { READING, PHRASE, PREFIX, NOW, READY, ZONE, INSTANT, BUNDLE, NAME, RULE, START, ASKED, MOST, STAMP, MOMENT, NUMBER };
+enum kind { READING, PHRASE, NOW, READY, ZONE, INSTANT, RULE, START, ASKED, MOST, STAMP, MOMENT, NUMBER };
 
 /* How an argument is named in errors, and of which type it must be. */
 static const struct parameter {
@@ -26,13 +22,10 @@ static const struct parameter {
 } parameters[] = {
     [READING] = {"reading", SQLITE_INTEGER},
     [PHRASE] = {"phrase", SQLITE_TEXT},
-    [PREFIX] = {"prefix", SQLITE_TEXT},
     [NOW] = {"now", SQLITE_TEXT},
     [READY] = {"ready", SQLITE_BLOB},
     [ZONE] = {"zone", SQLITE_BLOB},
     [INSTANT] = {"instant", SQLITE_TEXT},
-    [BUNDLE] = {"bundle", SQLITE_BLOB},
-    [NAME] = {"name", SQLITE_TEXT},
     [RULE] = {"rule", SQLITE_TEXT},
     [START] = {"start", SQLITE_TEXT},
     [ASKED] = {"asked", SQLITE_TEXT},
@@ -53,12 +46,11 @@ struct argument {
     int other_form;
 };
 
-/* What a call gives back, a text or a blob: it stands in `own`, or is a part of an argument. */
+/* What a call gives back: a text, or a blob. */
 struct result {
     int type;
-    const char *bytes;
     size_t length;
-    char own[FUZZY_READY_SIZE];
+    char bytes[FUZZY_READY_SIZE];
 };
 
 /* A call that was made: with what, what it gave, and the library's answer. */
@@ -95,15 +87,10 @@ static void take_argument(enum kind kind, sqlite3_value *value, struct argument 
     }
 }
 
-static void give_part(struct result *result, int type, const char *bytes, size_t length) {
-    result->type = type;
-    result->bytes = bytes;
-    result->length = length;
-}
-
 static void give_text(struct result *result, const char *text, size_t length) {
-    memcpy(result->own, text, length);
-    give_part(result, SQLITE_TEXT, result->own, length);
+    result->type = SQLITE_TEXT;
+    result->length = length;
+    memcpy(result->bytes, text, length);
 }
 
 static void give_moment(struct result *result, const struct fuzzy_moment *moment) {
@@ -127,8 +114,9 @@ static uint64_t make_read(const struct argument *given, struct result *result) {
 }
 
 static uint64_t make_ready(const struct argument *given, struct result *result) {
-    uint64_t answer = fuzzy_make_ready(given[0].reading, given[1].text, given[1].length, (uint8_t *)result->own);
-    if (fuzzy_ok(answer)) give_part(result, SQLITE_BLOB, result->own, fuzzy_length(answer));
+    uint64_t answer = fuzzy_make_ready(given[0].reading, given[1].text, given[1].length, (uint8_t *)result->bytes);
+    result->type = SQLITE_BLOB;
+    result->length = fuzzy_length(answer);
     return answer;
 }
 
@@ -136,12 +124,6 @@ static uint64_t make_run(const struct argument *given, struct result *result) {
     struct fuzzy_moment moment;
     uint64_t answer = fuzzy_run((const uint8_t *)given[0].text, given[0].length, &given[1].moment, &moment);
     if (fuzzy_ok(answer)) give_moment(result, &moment);
-    return answer;
-}
-
-static uint64_t make_pin(const struct argument *given, struct result *result) {
-    uint64_t answer = fuzzy_pin(&given[0].moment, (uint8_t *)result->own);
-    if (fuzzy_ok(answer)) give_part(result, SQLITE_BLOB, result->own, fuzzy_length(answer));
     return answer;
 }
 
@@ -157,15 +139,6 @@ static uint64_t make_list(const struct argument *given, struct result *result) {
     struct fuzzy_moment moment;
     uint64_t answer = fuzzy_list(given[0].text, given[0].length, &given[1].moment, &moment, 1);
     if (fuzzy_ok(answer)) give_moment(result, &moment);
-    return answer;
-}
-
-/* The first word of a reading that begins with a prefix: whether there is any; all of them are the table's to give. */
-static uint64_t make_complete(const struct argument *given, struct result *result) {
-    char word[FUZZY_WORD_SIZE];
-    uint32_t count;
-    uint64_t answer = fuzzy_complete(given[0].reading, given[1].text, given[1].length, 0, &count, word, sizeof word);
-    if (fuzzy_ok(answer)) give_text(result, word, fuzzy_length(answer));
     return answer;
 }
 
@@ -201,20 +174,6 @@ static uint64_t make_local(const struct argument *given, struct result *result) 
     return answer;
 }
 
-/* A zone's bytes are a part of the bundle. */
-static uint64_t make_find_zone(const struct argument *given, struct result *result) {
-    uint64_t place[FUZZY_PLACE_NUMBERS];
-    uint64_t answer = fuzzy_find_zone((const uint8_t *)given[0].text, given[0].length, given[1].text, given[1].length, place);
-    if (fuzzy_ok(answer)) give_part(result, SQLITE_BLOB, given[0].text + place[0], place[1]);
-    return answer;
-}
-
-static uint64_t make_zone_until(const struct argument *given, struct result *result) {
-    int64_t until;
-    uint64_t answer = fuzzy_zone_until((const uint8_t *)given[0].text, given[0].length, &until);
-    return fuzzy_ok(answer) ? give_instant(result, until, 0) : answer;
-}
-
 static uint64_t make_stamp(const struct argument *given, struct result *result) {
     struct fuzzy_stamp stamp;
     char text[FUZZY_STAMP_SIZE];
@@ -239,34 +198,24 @@ static uint64_t make_show(const struct argument *given, struct result *result) {
     return answer;
 }
 
-/* The functions that may refuse. fuzzy_why takes the one that is named, or else the first whose number of arguments and type of the first
- * argument are those given; fuzzy_occurrences and fuzzy_complete are tables of their own, and stand here for fuzzy_why. */
+/* The functions that may refuse. fuzzy_why takes the first whose number of arguments and type of the first argument are those given;
+ * fuzzy_occurrences is a table of its own, and stands here for fuzzy_why. */
 static const struct call calls[] = {
     {"fuzzy_read", 3, {READING, PHRASE, NOW}, make_read},
     {"fuzzy_make_ready", 2, {READING, PHRASE}, make_ready},
     {"fuzzy_run", 2, {READY, NOW}, make_run},
     {"fuzzy_next", 3, {RULE, START, ASKED}, make_next},
     {"fuzzy_occurrences", 2, {RULE, START}, make_list},
-    {"fuzzy_complete", 2, {READING, PREFIX}, make_complete},
     {"fuzzy_read_in_zone", 4, {READING, PHRASE, ZONE, INSTANT}, make_read_in_zone},
     {"fuzzy_run_in_zone", 3, {READY, ZONE, INSTANT}, make_run_in_zone},
     {"fuzzy_stamp", 1, {STAMP}, make_stamp},
     {"fuzzy_read_stamp", 1, {STAMP}, make_read_stamp},
     {"fuzzy_show", 1, {MOMENT}, make_show},
     {"fuzzy_local", 2, {ZONE, INSTANT}, make_local},
-    {"fuzzy_pin", 1, {MOMENT}, make_pin},
-    {"fuzzy_find_zone", 2, {BUNDLE, NAME}, make_find_zone},
-    {"fuzzy_zone_until", 1, {ZONE}, make_zone_until},
 };
 
 #define CALLS (sizeof calls / sizeof calls[0])
 #define OCCURRENCES (&calls[4])
-#define COMPLETE (&calls[5])
-
-/* Whether a function is a table. */
-static int is_table(const struct call *call) {
-    return call == OCCURRENCES || call == COMPLETE;
-}
 
 static const char *type_name(int type) {
     static const char *const names[] = {
@@ -323,7 +272,7 @@ static void give_answer(sqlite3_context *context, int count, sqlite3_value **val
     (void)count;
     if (!make_call(context, sqlite3_user_data(context), values, &made) || !fuzzy_ok(made.answer)) return;
     if (made.result.type == SQLITE_BLOB) {
-        sqlite3_result_blob64(context, made.result.bytes, made.result.length, SQLITE_TRANSIENT);
+        sqlite3_result_blob(context, made.result.bytes, (int)made.result.length, SQLITE_TRANSIENT);
     } else {
         sqlite3_result_text(context, made.result.bytes, (int)made.result.length, SQLITE_TRANSIENT);
     }
@@ -353,27 +302,15 @@ static const struct call *call_with(int count, int type) {
     return NULL;
 }
 
-/* The call of that name; NULL where there is none. */
-static const struct call *call_named(sqlite3_value *name) {
-    const struct call *call;
-    if (sqlite3_value_type(name) != SQLITE_TEXT) return NULL;
-    for (call = calls; call < calls + CALLS; call++) {
-        if (sqlite3_stricmp((const char *)sqlite3_value_text(name), call->name) == 0) return call;
-    }
-    return NULL;
-}
-
-/* Why a call with these arguments, or of the name that comes before them, is refused; NULL where it is not. */
+/* Why a call with these arguments is refused; NULL where it is not. */
 static void give_why(sqlite3_context *context, int count, sqlite3_value **values) {
-    const struct call *named, *call = NULL;
+    const struct call *call;
     struct made made;
     if (has_null(count, values)) return;
-    named = count == 0 ? NULL : call_named(values[0]);
-    if (named != NULL && named->count == count - 1) call = named;
-    else if (named == NULL && count > 0) call = call_with(count, sqlite3_value_type(values[0]));
+    call = count == 0 ? NULL : call_with(count, sqlite3_value_type(values[0]));
     if (call == NULL) {
-        sqlite3_result_error(context, "fuzzy_why: takes the arguments of the call that gave NULL, or its name and them", -1);
-    } else if (make_call(context, call, values + (named != NULL), &made) && !fuzzy_ok(made.answer)) {
+        sqlite3_result_error(context, "fuzzy_why: takes the arguments of the call that gave NULL", -1);
+    } else if (make_call(context, call, values, &made) && !fuzzy_ok(made.answer)) {
         give_refusal(context, call, &made);
     }
 }
@@ -387,7 +324,7 @@ static void give_words(sqlite3_context *context, int count, sqlite3_value **valu
     else raise_error(context, wrong_type_text("fuzzy_refusal", NUMBER, values[0]));
 }
 
-/* The library's version, as 1.1.0. */
+/* The library's version, as 1.0.0. */
 static void give_version(sqlite3_context *context, int count, sqlite3_value **values) {
     uint32_t version = fuzzy_version();
     char text[32];
@@ -396,14 +333,14 @@ static void give_version(sqlite3_context *context, int count, sqlite3_value **va
     sqlite3_result_text(context, text, -1, SQLITE_TRANSIENT);
 }
 
-/* The columns of a table: what it gives, and its hidden arguments. fuzzy_complete has the first three. */
-enum column { COLUMN_GIVEN, COLUMN_FIRST, COLUMN_SECOND, COLUMN_MOST, COLUMNS };
+/* The columns of fuzzy_occurrences: what it gives, and its hidden arguments. */
+enum column { COLUMN_MOMENT, COLUMN_RULE, COLUMN_START, COLUMN_MOST, COLUMNS };
 
 #define ARGUMENTS 3
 #define FIRST_ROOM 64
 #define ROOM_GROWS 8
 
-/* A walk through the rows of a table. Through the occurrences of a rule, it holds as many as were asked for so far, and some more. */
+/* A walk through the occurrences of a rule. It holds as many as were asked for so far, and some more. */
 struct walk {
     sqlite3_vtab_cursor base;
     sqlite3_value *values[ARGUMENTS];
@@ -412,8 +349,9 @@ struct walk {
     uint64_t most, room, count, row;
 };
 
-static int connect_table(sqlite3 *db, const char *columns, sqlite3_vtab **table) {
-    int code = sqlite3_declare_vtab(db, columns);
+static int connect_occurrences(sqlite3 *db, void *none, int count, const char *const *names, sqlite3_vtab **table, char **error) {
+    int code = sqlite3_declare_vtab(db, "CREATE TABLE x(moment TEXT, rule HIDDEN, start HIDDEN, most HIDDEN)");
+    (void)none, (void)count, (void)names, (void)error;
     if (code == SQLITE_OK) code = sqlite3_vtab_config(db, SQLITE_VTAB_INNOCUOUS);
     if (code != SQLITE_OK) return code;
     *table = sqlite3_malloc64(sizeof **table);
@@ -422,52 +360,34 @@ static int connect_table(sqlite3 *db, const char *columns, sqlite3_vtab **table)
     return SQLITE_OK;
 }
 
-static int connect_occurrences(sqlite3 *db, void *none, int count, const char *const *names, sqlite3_vtab **table, char **error) {
-    (void)none, (void)count, (void)names, (void)error;
-    return connect_table(db, "CREATE TABLE x(moment TEXT, rule HIDDEN, start HIDDEN, most HIDDEN)", table);
-}
-
-static int connect_words(sqlite3 *db, void *none, int count, const char *const *names, sqlite3_vtab **table, char **error) {
-    (void)none, (void)count, (void)names, (void)error;
-    return connect_table(db, "CREATE TABLE x(word TEXT, reading HIDDEN, prefix HIDDEN)", table);
-}
-
-static int disconnect_table(sqlite3_vtab *table) {
+static int disconnect_occurrences(sqlite3_vtab *table) {
     sqlite3_free(table);
     return SQLITE_OK;
 }
 
-/* Hands the arguments over in their order: the first two must be there, or `takes` says so. The rows come in the order of what they
- * give. */
-static int plan_table(sqlite3_vtab *table, sqlite3_index_info *plan, const char *takes) {
+/* Says which arguments there are, as bits of idxNum, and hands them over in their order. Occurrences come in the order of their moments. */
+static int plan_occurrences(sqlite3_vtab *table, sqlite3_index_info *plan) {
     int i, place = 0, at[COLUMNS] = {-1, -1, -1, -1};
     for (i = 0; i < plan->nConstraint; i++) {
         int column = plan->aConstraint[i].iColumn;
-        if (column < COLUMN_FIRST || plan->aConstraint[i].op != SQLITE_INDEX_CONSTRAINT_EQ) continue;
+        if (column < COLUMN_RULE || plan->aConstraint[i].op != SQLITE_INDEX_CONSTRAINT_EQ) continue;
         if (!plan->aConstraint[i].usable) return SQLITE_CONSTRAINT;
         at[column] = i;
     }
-    if (at[COLUMN_FIRST] < 0 || at[COLUMN_SECOND] < 0) {
-        table->zErrMsg = sqlite3_mprintf("%s", takes);
+    if (at[COLUMN_RULE] < 0 || at[COLUMN_START] < 0) {
+        table->zErrMsg = sqlite3_mprintf("fuzzy_occurrences: takes a rule, a start and, where not all are wanted, how many at most");
         return SQLITE_ERROR;
     }
-    for (i = COLUMN_FIRST; i < COLUMNS; i++) {
+    for (i = COLUMN_RULE; i < COLUMNS; i++) {
         if (at[i] < 0) continue;
         plan->aConstraintUsage[at[i]].argvIndex = ++place;
         plan->aConstraintUsage[at[i]].omit = 1;
     }
-    plan->orderByConsumed = plan->nOrderBy == 1 && plan->aOrderBy[0].iColumn == COLUMN_GIVEN && !plan->aOrderBy[0].desc;
+    plan->idxNum = place;
+    plan->orderByConsumed = plan->nOrderBy == 1 && plan->aOrderBy[0].iColumn == COLUMN_MOMENT && !plan->aOrderBy[0].desc;
     plan->estimatedCost = 100;
     plan->estimatedRows = 100;
     return SQLITE_OK;
-}
-
-static int plan_occurrences(sqlite3_vtab *table, sqlite3_index_info *plan) {
-    return plan_table(table, plan, "fuzzy_occurrences: takes a rule, a start and, where not all are wanted, how many at most");
-}
-
-static int plan_words(sqlite3_vtab *table, sqlite3_index_info *plan) {
-    return plan_table(table, plan, "fuzzy_complete: takes a reading and the beginning of a word");
 }
 
 static int open_walk(sqlite3_vtab *table, sqlite3_vtab_cursor **cursor) {
@@ -495,23 +415,6 @@ static int close_walk(sqlite3_vtab_cursor *cursor) {
     return SQLITE_OK;
 }
 
-static int end_with(struct walk *walk, char *text) {
-    sqlite3_free(walk->base.pVtab->zErrMsg);
-    walk->base.pVtab->zErrMsg = text;
-    return SQLITE_ERROR;
-}
-
-/* Takes copies of a table's arguments, so that a walk has its own. */
-static int take_values(struct walk *walk, const struct call *call, int count, sqlite3_value **values) {
-    int i;
-    for (i = 0; i < count; i++) {
-        walk->values[i] = sqlite3_value_dup(values[i]);
-        if (walk->values[i] == NULL) return SQLITE_NOMEM;
-    }
-    i = take_arguments(call, walk->values, walk->given);
-    return i < call->count ? end_with(walk, wrong_type_text(call->name, call->takes[i], walk->values[i])) : SQLITE_OK;
-}
-
 /* Lists again with room for more. A refused rule has no rows, as a refused phrase has NULL. */
 static int list_more(struct walk *walk) {
     uint64_t answer, room = walk->room == 0 ? FIRST_ROOM : walk->room * ROOM_GROWS;
@@ -535,49 +438,34 @@ static char *take_most(struct walk *walk, int count, sqlite3_value **values) {
     return NULL;
 }
 
-/* Begins a walk through occurrences. With a NULL among the arguments there are no rows. */
-static int begin_occurrences(sqlite3_vtab_cursor *cursor, int plan, const char *none, int count, sqlite3_value **values) {
+static int end_with(struct walk *walk, char *text) {
+    sqlite3_free(walk->base.pVtab->zErrMsg);
+    walk->base.pVtab->zErrMsg = text;
+    return SQLITE_ERROR;
+}
+
+/* Begins a walk with its own copies of the arguments. With a NULL among them there are no rows. */
+static int begin_walk(sqlite3_vtab_cursor *cursor, int plan, const char *none, int count, sqlite3_value **values) {
     struct walk *walk = (struct walk *)cursor;
     char *wrong;
-    int code;
+    int i;
     (void)plan, (void)none;
     clear_walk(walk);
     if (has_null(count, values)) return SQLITE_OK;
-    code = take_values(walk, OCCURRENCES, count, values);
-    if (code != SQLITE_OK) return code;
+    for (i = 0; i < count; i++) {
+        walk->values[i] = sqlite3_value_dup(values[i]);
+        if (walk->values[i] == NULL) return SQLITE_NOMEM;
+    }
+    i = take_arguments(OCCURRENCES, walk->values, walk->given);
+    if (i < OCCURRENCES->count) return end_with(walk, wrong_type_text(OCCURRENCES->name, OCCURRENCES->takes[i], walk->values[i]));
     wrong = take_most(walk, count, walk->values);
     return wrong != NULL ? end_with(walk, wrong) : list_more(walk);
 }
 
-static int step_occurrences(sqlite3_vtab_cursor *cursor) {
+static int step_walk(sqlite3_vtab_cursor *cursor) {
     struct walk *walk = (struct walk *)cursor;
     walk->row++;
     return walk->row == walk->room && walk->room < walk->most ? list_more(walk) : SQLITE_OK;
-}
-
-/* The word of a row, counted from 0: the library's answer, and how many words there are. */
-static uint64_t word_at(const struct walk *walk, uint64_t row, uint32_t *count, char word[FUZZY_WORD_SIZE]) {
-    const struct argument *given = walk->given;
-    return fuzzy_complete(given[0].reading, given[1].text, given[1].length, (uint32_t)row, count, word, FUZZY_WORD_SIZE);
-}
-
-/* Begins a walk through words. With a NULL among the arguments, and where the call is refused, there are no rows. */
-static int begin_words(sqlite3_vtab_cursor *cursor, int plan, const char *none, int count, sqlite3_value **values) {
-    struct walk *walk = (struct walk *)cursor;
-    char word[FUZZY_WORD_SIZE];
-    uint32_t words = 0;
-    int code;
-    (void)plan, (void)none;
-    clear_walk(walk);
-    if (has_null(count, values)) return SQLITE_OK;
-    code = take_values(walk, COMPLETE, count, values);
-    if (code == SQLITE_OK && fuzzy_ok(word_at(walk, 0, &words, word))) walk->count = words;
-    return code;
-}
-
-static int step_words(sqlite3_vtab_cursor *cursor) {
-    ((struct walk *)cursor)->row++;
-    return SQLITE_OK;
 }
 
 static int walk_is_over(sqlite3_vtab_cursor *cursor) {
@@ -585,24 +473,14 @@ static int walk_is_over(sqlite3_vtab_cursor *cursor) {
     return walk->row >= walk->count;
 }
 
-static void give_hidden(const struct walk *walk, sqlite3_context *context, int column) {
-    if (walk->values[column - COLUMN_FIRST] != NULL) sqlite3_result_value(context, walk->values[column - COLUMN_FIRST]);
-}
-
-static int give_occurrence(sqlite3_vtab_cursor *cursor, sqlite3_context *context, int column) {
+static int give_column(sqlite3_vtab_cursor *cursor, sqlite3_context *context, int column) {
     const struct walk *walk = (const struct walk *)cursor;
     char text[MOMENT_SIZE];
-    if (column != COLUMN_GIVEN) give_hidden(walk, context, column);
-    else sqlite3_result_text(context, text, (int)write_moment(&walk->moments[walk->row], text), SQLITE_TRANSIENT);
-    return SQLITE_OK;
-}
-
-static int give_word(sqlite3_vtab_cursor *cursor, sqlite3_context *context, int column) {
-    const struct walk *walk = (const struct walk *)cursor;
-    char word[FUZZY_WORD_SIZE];
-    uint32_t count;
-    if (column != COLUMN_GIVEN) give_hidden(walk, context, column);
-    else sqlite3_result_text(context, word, (int)fuzzy_length(word_at(walk, walk->row, &count, word)), SQLITE_TRANSIENT);
+    if (column == COLUMN_MOMENT) {
+        sqlite3_result_text(context, text, (int)write_moment(&walk->moments[walk->row], text), SQLITE_TRANSIENT);
+    } else if (walk->values[column - COLUMN_RULE] != NULL) {
+        sqlite3_result_value(context, walk->values[column - COLUMN_RULE]);
+    }
     return SQLITE_OK;
 }
 
@@ -611,15 +489,18 @@ static int give_row_number(sqlite3_vtab_cursor *cursor, sqlite3_int64 *number) {
     return SQLITE_OK;
 }
 
-#define TABLE(connect, plan, begin, step, give) \
-    { \
-        .xConnect = connect, .xBestIndex = plan, .xDisconnect = disconnect_table, .xOpen = open_walk, .xClose = close_walk, \
-        .xFilter = begin, .xNext = step, .xEof = walk_is_over, .xColumn = give, .xRowid = give_row_number, \
-    }
-
-static const sqlite3_module occurrences =
-    TABLE(connect_occurrences, plan_occurrences, begin_occurrences, step_occurrences, give_occurrence);
-static const sqlite3_module completions = TABLE(connect_words, plan_words, begin_words, step_words, give_word);
+static const sqlite3_module occurrences = {
+    .xConnect = connect_occurrences,
+    .xBestIndex = plan_occurrences,
+    .xDisconnect = disconnect_occurrences,
+    .xOpen = open_walk,
+    .xClose = close_walk,
+    .xFilter = begin_walk,
+    .xNext = step_walk,
+    .xEof = walk_is_over,
+    .xColumn = give_column,
+    .xRowid = give_row_number,
+};
 
 typedef void function(sqlite3_context *context, int count, sqlite3_value **values);
 
@@ -641,12 +522,11 @@ int sqlite3_fuzzydate_init(sqlite3 *db, char **error, const sqlite3_api_routines
     SQLITE_EXTENSION_INIT2(api);
     (void)api;
     for (call = calls; call < calls + CALLS && code == SQLITE_OK; call++) {
-        if (!is_table(call)) code = add_function(db, call->name, call->count, call, give_answer);
+        if (call != OCCURRENCES) code = add_function(db, call->name, call->count, call, give_answer);
     }
     if (code == SQLITE_OK) code = add_function(db, "fuzzy_why", -1, NULL, give_why);
     if (code == SQLITE_OK) code = add_function(db, "fuzzy_refusal", 1, NULL, give_words);
     if (code == SQLITE_OK) code = add_function(db, "fuzzy_version", 0, NULL, give_version);
-    if (code == SQLITE_OK) code = sqlite3_create_module_v2(db, OCCURRENCES->name, &occurrences, NULL, NULL);
-    if (code == SQLITE_OK) code = sqlite3_create_module_v2(db, COMPLETE->name, &completions, NULL, NULL);
+    if (code == SQLITE_OK) code = sqlite3_create_module_v2(db, "fuzzy_occurrences", &occurrences, NULL, NULL);
     return code;
 }

@@ -41,9 +41,6 @@ static inline const char *refused_name(uint32_t number) {
         [FUZZY_FULL_BOARD] = "FULL_BOARD",
         [FUZZY_EMPTY_SLOT] = "EMPTY_SLOT",
         [FUZZY_NOTHING_DUE] = "NOTHING_DUE",
-        [FUZZY_NO_WORD] = "NO_WORD",
-        [FUZZY_NO_BUNDLE] = "NO_BUNDLE",
-        [FUZZY_UNKNOWN_ZONE] = "UNKNOWN_ZONE",
     };
     return number < sizeof names / sizeof names[0] && names[number] != NULL ? names[number] : "NEWER";
 }

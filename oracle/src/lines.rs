@@ -46,7 +46,7 @@ fn evaluate(tree: &DateTime, left: bool, now: Option<NaiveDateTime>) -> String {
 }
 
 /// The stage's answer, or `error` or `panic`
-pub fn caught<T>(stage: impl FnOnce() -> Option<T>) -> Result<T, &'static str> {
+fn caught<T>(stage: impl FnOnce() -> Option<T>) -> Result<T, &'static str> {
     match catch_unwind(AssertUnwindSafe(stage)) {
         Ok(Some(answer)) => Ok(answer),
         Ok(None) => Err("error"),

@@ -1,4 +1,4 @@
-// The library, and what the build puts into the page: the WebAssembly and zones.
+// The library, and what the build puts into the page: the WebAssembly, the lexer's words, and zones.
 import { byId } from "./elements.mjs";
 import { load, Refusal } from "../fuzzydate.mjs";
 

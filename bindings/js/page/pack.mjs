@@ -1,4 +1,4 @@
-// Writes the page as one file: style, script, WebAssembly and zones are put into index.html, with a policy that lets it
+// Writes the page as one file: style, script, WebAssembly, words and zones are put into index.html, with a policy that lets it
 // load nothing else, since a page from disk cannot load files beside it. node pack.mjs WASM
 import { createHash } from "node:crypto";
 import { readdirSync, readFileSync } from "node:fs";
@@ -13,8 +13,8 @@ function stop(what) {
 
 // --- the script: each module as a function of its own, in an order in which each follows what it imports
 
-const MODULES = ["../fuzzydate.mjs", "elements.mjs", "library.mjs", "calendar.mjs", "steps.mjs", "pictures.mjs", "fields.mjs",
-    "completion.mjs", "try.mjs", "why.mjs", "repeat.mjs", "zones.mjs", "page.mjs"];
+const MODULES = ["../fuzzydate.mjs", "elements.mjs", "library.mjs", "calendar.mjs", "steps.mjs", "pictures.mjs", "fields.mjs", "try.mjs",
+    "why.mjs", "repeat.mjs", "zones.mjs", "page.mjs"];
 const IMPORT = /^import \{([^}]*)\} from "([^"]*)";\n/gm, EXPORT = /^export (?=(?:async function|function|class|const) (\w+))/gm;
 const variableOf = (name) => `module_${basename(name, ".mjs")}`;
 const exportsOf = (name) => [...textOf(name).matchAll(EXPORT)].map(([, exported]) => exported);
@@ -38,6 +38,11 @@ function wrapped(name) {
 
 // --- what the page carries
 
+function wordsOf(name) {
+    const words = [...textOf(name).matchAll(/word "([a-z]+)"/g)].map(([, word]) => word);
+    return words.length < 133 ? stop("the lexer's words were not found") : [...new Set(words)];
+}
+
 function zonesOf(folder) {
     const areas = readdirSync(here(folder), { withFileTypes: true }).filter((entry) => entry.isDirectory()).map(({ name }) => name);
     const names = areas.flatMap((area) => readdirSync(here(`${folder}/${area}`)).map((city) => `${area}/${city}`)).sort();
@@ -55,7 +60,9 @@ const hashOf = (content) => `'sha256-${createHash("sha256").update(content).dige
 
 function packed(wasm) {
     const script = `\n${MODULES.map(wrapped).join("")}`, style = `\n${textOf("style.css")}`;
-    const carried = JSON.stringify({ zones: zonesOf("zones"), wasm: readFileSync(wasm).toString("base64") });
+    const carried = JSON.stringify({
+        words: wordsOf("../../../crates/lexer/specs/Keywords.antt"), zones: zonesOf("zones"), wasm: readFileSync(wasm).toString("base64"),
+    });
     const policy = ["default-src 'none'", `script-src ${hashOf(script)} 'wasm-unsafe-eval'`, `style-src ${hashOf(style)}`, "img-src data:",
         "base-uri 'none'", "form-action 'none'"].join("; ");
     const head = `<meta charset="utf-8">\n<meta http-equiv="Content-Security-Policy" content="${policy}">`;

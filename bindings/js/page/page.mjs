@@ -1,10 +1,9 @@
 // The page: four tabs, whose state is in the address. What is typed goes to the library at each keystroke, and what it answers
 // is drawn.
-import { makeCompletion } from "./completion.mjs";
 import { byId, make } from "./elements.mjs";
 import { addressOf, get, makeReadings, set, stampOf, TABS } from "./fields.mjs";
 import { drawRepeat, fitStart, yearOf } from "./repeat.mjs";
-import { drawTry } from "./try.mjs";
+import { completeAtArrow, drawTry } from "./try.mjs";
 import { drawWhy, makeClocks, resetClocks } from "./why.mjs";
 import { drawZones, firstNow, makeZones, takeFile, takeZone } from "./zones.mjs";
 
@@ -132,6 +131,13 @@ async function chooseFile({ target }) {
     draw();
 }
 
+// The words that fit go when the phrase is left, unless one of them is pressed.
+function redrawWords() {
+    setTimeout(() => {
+        if (tab === "try" && !byId("try-fits").contains(document.activeElement)) drawTry(draw);
+    }, 150);
+}
+
 function scrollMirror({ target }) {
     const mirror = target.parentElement?.querySelector(".mirror");
     if (mirror) mirror.scrollLeft = target.scrollLeft;
@@ -162,6 +168,8 @@ function listenToButtons() {
 function listenToTyping() {
     byId("main").addEventListener("input", ({ target }) => { if (target.type !== "file") draw(); });
     byId("main").addEventListener("scroll", scrollMirror, true);
+    byId("try-phrase").addEventListener("keydown", (event) => completeAtArrow(event, draw));
+    for (const kind of ["focusin", "focusout"]) byId("try-phrase").addEventListener(kind, redrawWords);
 }
 
 // --- the start
@@ -182,7 +190,6 @@ makeReadings();
 makeClocks(draw);
 makeZones();
 makeExamples();
-for (const name of ["try", "why", "zones"]) makeCompletion(name, draw);
 listenToTabs();
 listenToButtons();
 listenToTyping();

@@ -1,6 +1,5 @@
 // Why did it move? Hub, phone, and a phone whose clock is two years ahead: each by its own clock, and with the author's now.
 import { apartText, fullText, joined, MINUTE, millisecondsOf, momentAt, monthsLater, SECOND } from "./calendar.mjs";
-import { drawWords, typingIn, unfinishedText } from "./completion.mjs";
 import { byId, fill, icon, make, say } from "./elements.mjs";
 import { get, readingOf, set, stampIn } from "./fields.mjs";
 import { fuzzy, tried } from "./library.mjs";
@@ -107,14 +106,11 @@ function drawLines(own, meant) {
     fill("why-sent-line", meant ? lineOf(sent, earliest, latest) : null);
 }
 
-export function drawWhy(redraw) {
-    const phrase = get("why-phrase"), reading = readingOf("why"), stamp = stampIn("why-now"), typing = typingIn("why");
+export function drawWhy() {
+    const phrase = get("why-phrase"), reading = readingOf("why"), stamp = stampIn("why-now");
     const answer = stamp ? tried(() => fuzzy.read(reading, phrase, stamp.moment)) : {}, meant = answer.value;
-    const own = DEVICES.map((device) => ownAnswer(device, reading, phrase, meant));
-    const unfinished = unfinishedText(phrase, answer.refusal, typing);
-    const verdict = unfinished ? `Keep typing: ${unfinished}` : verdictText(stamp, answer, own);
-    drawMirror(byId("why-phrase"), unfinished ? null : answer.refusal, typing.rest);
-    drawWords("why", typing, redraw);
+    const own = DEVICES.map((device) => ownAnswer(device, reading, phrase, meant)), verdict = verdictText(stamp, answer, own);
+    drawMirror(byId("why-phrase"), answer.refusal);
     for (const entry of own) fill(`why-${entry.name}-got`, ownBlocks(entry, meant));
     fill("why-sent", DEVICES.map((device) => sentRow(device, phrase, stamp, meant)));
     drawLines(own, meant);

@@ -2,7 +2,6 @@
 import {
     DAY, fromNow, fullText, dayText, HOUR, millisecondsOf, momentAt, MONTHS, offsetText, plural, SECOND, shortDay, timeText, two,
 } from "./calendar.mjs";
-import { drawWords, typingIn, unfinishedText } from "./completion.mjs";
 import { byId, fill, make, paragraph, say } from "./elements.mjs";
 import { get, readingOf, set, stampIn, stampOf } from "./fields.mjs";
 import { carried, fromBase64, fuzzy, toBase64, tried } from "./library.mjs";
@@ -270,6 +269,7 @@ function drawChanges(changes, here, redraw) {
 }
 
 function drawNoNow() {
+    drawMirror(byId("zones-phrase"), null);
     fill("zones-answer", noneBlock("No now", "It is not an RFC 3339 date and time with a known offset."));
     for (const id of ["zones-brief", "zones-changes", "zones-zone-said"]) fill(id);
     drawNoHours("");
@@ -288,37 +288,18 @@ function drawHere(here) {
     if (here) byId("zones-now-said").textContent = `There: ${fullText(here.moment)}`;
 }
 
-// Draws the phrase with its refused part, and the words that it may go on with: what its last word may become, else "".
-function drawPhrase(phrase, refusal, redraw) {
-    const typing = typingIn("zones"), unfinished = unfinishedText(phrase, refusal, typing);
-    drawMirror(byId("zones-phrase"), refusal && refusal.number < MAKES_NO_READY && !unfinished ? refusal : null, typing.rest);
-    drawWords("zones", typing, redraw);
-    return unfinished;
-}
-
-function drawUnfinished(text) {
-    fill("zones-answer", noneBlock("Keep typing", text));
-    fill("zones-brief");
-    say(text);
-}
-
 export function drawZones(redraw) {
     const instant = instantIn("zones-now"), name = get("zones-zone"), zone = zoneFile(name);
     set("zones-file", own.get(name) ?? "");
-    const phrase = get("zones-phrase");
-    if (instant === null) {
-        drawPhrase(phrase, null, redraw);
-        return drawNoNow();
-    }
-    const reading = readingOf("zones"), changes = changesNear(zone, instant.second);
+    if (instant === null) return drawNoNow();
+    const phrase = get("zones-phrase"), reading = readingOf("zones"), changes = changesNear(zone, instant.second);
     const here = tried(() => fuzzy.runInZone(NOW, zone, instant)).value;
     const { value, refusal } = tried(() => fuzzy.readInZone(reading, phrase, zone, instant));
     const plain = here ? tried(() => fuzzy.read(reading, phrase, here.moment)).value : undefined;
     drawHere(here);
     drawChanges(changes, here, redraw);
-    const unfinished = drawPhrase(phrase, refusal, redraw);
-    if (unfinished) drawUnfinished(unfinished);
-    else if (refusal) drawRefusal(refusal, phrase, plain);
+    drawMirror(byId("zones-phrase"), refusal && refusal.number < MAKES_NO_READY ? refusal : null);
+    if (refusal) drawRefusal(refusal, phrase, plain);
     else drawLocal(value, instant.second, plain);
     if (!here) return drawNoHours("The file says nothing about this time.");
     return drawHours(zone, here, value, changes, refusal?.number === NO_INSTANT ? plain : undefined);

@@ -151,24 +151,6 @@ class Page:
     def type_into(self, name, text):
         self.by(name).send_keys(Keys.CONTROL, "a", Keys.NULL, Keys.DELETE, text)
 
-    def press(self, tab, *keys):
-        self.by(f"{tab}-phrase").send_keys(*keys)
-
-    def words(self, tab):
-        """The words of the list below a tab's phrase, where it is open."""
-        return [word.text for word in self.all(f"#{tab}-words li") if word.is_displayed()]
-
-    def taken(self, tab):
-        """The word that Tab takes, or None."""
-        words = self.all(f"#{tab}-words .taken")
-        return words[0].text if words else None
-
-    def combobox(self, tab):
-        """What a screen reader is told: whether there is a list, and which word is chosen."""
-        field = self.by(f"{tab}-phrase")
-        chosen = field.get_attribute("aria-activedescendant")
-        return field.get_attribute("aria-expanded"), self.text(chosen) if chosen else None
-
     def paste(self, name, text):
         script = "arguments[0].value = arguments[1]; arguments[0].dispatchEvent(new Event('input', { bubbles: true }))"
         self.browser.execute_script(script, self.by(name), text)
@@ -238,6 +220,15 @@ def try_refusals(page, name):
     check(page.one("#try-answer mark").text == "christmas" and mirrored == "christmas", "the refused part")
     check("“christmas”: not understood." in page.text("try-answer"), page.text("try-answer"))
     page.shot(f"refused-{name}")
+    page.type_into("try-phrase", "the day after tom")
+    check("Keep typing" in page.text("try-answer") and "begins a known word" in page.text("try-word"), page.text("try-answer"))
+    check([fit.text for fit in page.all("#try-fits button")] == ["tomorrow"], page.text("try-fits"))
+    page.shot(f"typing-{name}")
+    page.by("try-phrase").send_keys(Keys.ARROW_RIGHT)
+    check(page.value("try-phrase") == "the day after tomorrow ", page.value("try-phrase"))
+    page.by("try-phrase").send_keys("at n")
+    page.one("#try-fits button").click()
+    check(page.value("try-phrase").startswith("the day after tomorrow at n"), page.value("try-phrase"))
     page.type_into("try-phrase", "x" * 300)
     check("Longer than 256 bytes." in page.text("try-answer") and "Refusal 1" in page.text("try-answer"), page.text("try-answer"))
     page.type_into("try-now", "yesterday")
@@ -247,82 +238,6 @@ def try_refusals(page, name):
     for chip in page.all("[data-examples='try-phrase'] button"):
         chip.click()
         check(page.value("try-phrase") == chip.text, chip.text)
-
-
-def completed(page, name):
-    """The words that what is typed may become: seen, chosen and taken by keys and by a press, closed, and told to a screen reader."""
-    page.visit(tab="try", phrase="", now=NOW, reading="2")
-    page.type_into("try-phrase", "next frid")
-    check(page.words("try") == ["friday"] and page.combobox("try") == ("true", None), page.words("try"))
-    check("Keep typing" in page.text("try-answer") and page.text("try-word") == "", page.text("try-answer"))
-    page.shot(f"typing-{name}")
-    page.press("try", Keys.ARROW_DOWN)
-    check(page.combobox("try") == ("true", "friday") and page.value("try-phrase") == "next frid", page.combobox("try"))
-    page.press("try", Keys.ENTER)
-    check(page.value("try-phrase") == "next friday " and page.words("try") == [], page.value("try-phrase"))
-    check("20 February 2026" in page.text("try-answer"), page.text("try-answer"))
-    page.press("try", "at n")
-    check(page.words("try") == ["next", "nine", "nineteen", "nineteenth", "ninetieth", "ninety"], page.words("try"))
-    check(page.one("#try .words p").text == "5 more" and page.taken("try") == "next", page.one("#try .words p").text)
-    page.press("try", Keys.ARROW_UP)
-    check(page.combobox("try")[1] == "ninety", page.combobox("try"))
-    page.press("try", Keys.ARROW_DOWN, Keys.ARROW_DOWN, Keys.ARROW_DOWN)
-    check(page.combobox("try")[1] == "nine" and page.taken("try") == "nine", page.combobox("try"))
-    page.shot(f"words-{name}")
-    page.press("try", "oo")
-    check(page.words("try") == ["noon"] and page.combobox("try") == ("true", None), page.words("try"))
-    page.one("#try-words li").click()
-    check(page.value("try-phrase") == "next friday at noon " and page.run("return document.activeElement.id") == "try-phrase", "a press")
-    check("12:00" in page.text("try-answer") and page.words("try") == [], page.text("try-answer"))
-
-
-def keys_of_completion(page):
-    """Each key that completes, and that it is the field's own again where there is nothing to take."""
-    page.visit(tab="try", phrase="", now=NOW, reading="2")
-    for key in (Keys.TAB, Keys.ARROW_RIGHT):
-        page.type_into("try-phrase", "the day after tom")
-        page.press("try", key)
-        check(page.value("try-phrase") == "the day after tomorrow " and page.words("try") == [], key, page.value("try-phrase"))
-    page.press("try", Keys.TAB)
-    check(page.run("return document.activeElement.id") == "try-now", "Tab after a word")
-    page.type_into("try-phrase", "frid")
-    page.press("try", Keys.ENTER)
-    check(page.value("try-phrase") == "frid" and page.words("try") == ["friday"], "Enter where nothing is chosen")
-    page.press("try", Keys.ESCAPE)
-    check(page.words("try") == [] and page.value("try-phrase") == "frid", "Escape closes the list")
-    check("begins a known word" in page.text("try-word"), page.text("try-word"))
-    page.press("try", Keys.ARROW_DOWN)
-    check(page.combobox("try") == ("true", "friday"), "an arrow opens the list")
-    page.press("try", Keys.ESCAPE, Keys.TAB)
-    check(page.run("return document.activeElement.id") == "try-now" and page.value("try-phrase") == "frid", "Tab after Escape")
-    page.type_into("try-phrase", "mar")
-    check(page.words("try") == ["march"] and page.taken("try") is None, "a known word that may go on")
-    page.press("try", Keys.TAB)
-    check(page.value("try-phrase") == "mar" and page.combobox("try") == ("false", None), "Tab after a known word")
-    page.type_into("try-phrase", "fri at noo")
-    page.press("try", Keys.HOME)
-    check(page.words("try") == [], "the caret left the word")
-    page.press("try", "f")
-    page.by("try-phrase").click()
-    check(page.words("try") == [], "a press in the field")
-    page.type_into("try-phrase", "fri at noon")
-    page.press("try", Keys.HOME, Keys.ARROW_RIGHT, Keys.ARROW_RIGHT, Keys.ARROW_DOWN)
-    page.press("try", Keys.ENTER)
-    check(page.value("try-phrase") == "friday at noon", page.value("try-phrase"))
-    for typed, words in [("march 24t", ["th"]), ("at 3p", ["pm"]), ("at 3 p", ["pm"]), ("march 3 r", ["rd"]), ("next r", []), ("3x", [])]:
-        page.type_into("try-phrase", typed)
-        check(page.words("try") == words, typed, page.words("try"))
-    for tab in ("why", "zones"):
-        page.visit(**{**FORWARD, "tab": tab, "phrase": ""})
-        page.type_into(f"{tab}-phrase", "next frid")
-        check(page.words(tab) == ["friday"] and page.one(f"#{tab} .mirror mark").get_attribute("textContent") == "", page.words(tab))
-        said = page.text("why-verdict" if tab == "why" else "zones-answer")
-        check("Keep typing" in said and "“frid” may become “friday”." in said, said)
-        page.press(tab, Keys.TAB)
-        check(page.value(f"{tab}-phrase") == "next friday ", page.value(f"{tab}-phrase"))
-    page.visit(tab="try", phrase="noon", now=NOW, reading="1")
-    page.type_into("try-phrase", "fort")
-    check(page.words("try") == [], "words of the other reading")
 
 
 def why_moved(page, name):
@@ -501,9 +416,8 @@ def main(path, package, library, listed, zone, shots, count="500"):
             page.size(width)
             for scheme in SCHEMES:
                 page.scheme(scheme)
-                for use in (try_phrases, try_refusals, completed, why_moved, repeats, zones):
+                for use in (try_phrases, try_refusals, why_moved, repeats, zones):
                     use(page, f"{width}-{scheme}")
-            keys_of_completion(page)
             own_zone(page, zone)
             history(page)
         page.size(WIDTHS[0])

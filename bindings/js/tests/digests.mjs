@@ -1,18 +1,19 @@
-// The digests of bindings/c (digest, rules, zones, boards, words, pins, bundles) out of the WebAssembly: node digests.mjs WASM KIND
-// [COUNT], where KIND is 1 or 2 for a reading, or else a program's name. Prints the line that the C program prints, which goes with
-// the same lists, random numbers and checks. Where C has a fence, there is a pattern beside each buffer: nothing else may be written.
+// The digests of bindings/c (digest, rules, zones, boards) out of the WebAssembly: node digests.mjs WASM KIND [COUNT], where
+// KIND is 1 or 2 for a reading, or rules, zones or boards. Prints the line that the C program prints, which goes with the same
+// lists, random numbers and checks. Where C has a fence, there is a pattern beside each buffer: nothing else may be written.
 // Of an assignment that draws a place and a value the value comes first, as it does in C by gcc.
 import { readFileSync } from "node:fs";
-import { bundleDriver } from "./bundles.mjs";
-import { heldBoard, SLOTS } from "./held.mjs";
-import {
-    add, addNumber, digest, isOk, lengthOf, lineOf, linesOf, numberOf, opened, placeOf, putAnywhere, randomBelow, randomMoment, root, same,
-    stop,
-} from "./lent.mjs";
-import { pinDriver } from "./pins.mjs";
-import { wordDriver } from "./words.mjs";
+import { add, addNumber, digest, lengthOf, lineOf, linesOf, Memory, numberOf, placeOf, randomBelow, root, stop } from "./lent.mjs";
 
 const NUMBERS = 7, MOMENT_SIZE = 28, LOCAL_SIZE = 36, READY_SIZE = 384;
+const isOk = (answer) => (answer & 0xffffn) === 0n;
+const putAnywhere = (array, n, value) => { array[randomBelow(n)] = value; };
+const same = (a, b) => a.length === b.length && a.every((value, i) => value === b[i]);
+
+function opened(file) {
+    const { exports } = new WebAssembly.Instance(new WebAssembly.Module(readFileSync(file)), {});
+    return { exports, memory: new Memory(exports.memory, 2 ** 20) };
+}
 
 // --- phrases
 
@@ -123,12 +124,22 @@ function phraseDriver(file, reading) {
         return n;
     }
 
+    const MOST = [9999, 12, 28, 24, 60, 60, 1000];
+
+    // Mostly a moment of the calendar, at times any numbers.
+    function randomNow() {
+        const now = MOST.map((most, i) => randomBelow(most) + (i < 3 ? 1 : 0));
+        if (randomBelow(8) === 0) now[2] = 29 + randomBelow(3);
+        if (randomBelow(32) === 0) putAnywhere(now, NUMBERS, randomBelow(2 ** 32));
+        return now;
+    }
+
     return (count) => {
         const name = reading === 1 ? "test_replay" : "test_second";
         replay(`crates/${name}/stdin`, `crates/${name}/stdout`);
         for (let i = 0; i < count; i += 1) {
             const n = randomPhrase();
-            if (isOk(answered(phrase, n, randomMoment())[0])) read += 1;
+            if (isOk(answered(phrase, n, randomNow())[0])) read += 1;
         }
         return `reading ${reading}: ${lines.length} listed and ${count} random phrases, ${read} moments`;
     };
@@ -345,11 +356,37 @@ function zoneDriver(file) {
 // --- boards
 
 function boardDriver(file) {
-    const { exports, memory } = opened(file), phrases = memory.field(1024), nows = memory.field(MOMENT_SIZE);
-    const moments = memory.field(MOMENT_SIZE), orders = memory.field(4 * SLOTS), held = heldBoard(memory);
-    const { answered, moveBoard, randomMemory } = held, NO_DATE = 8, LEFT_OVER = 7, FULL = 24, EMPTY = 25, NOTHING_DUE = 26;
+    const SLOTS = 256, LENGTHS = 8 * SLOTS, STATE = LENGTHS + 4 * SLOTS, READY = STATE + 32, SIZE = READY + READY_SIZE * SLOTS;
+    const { exports, memory } = opened(file), { bytes, view } = memory;
+    const boards = memory.field(SIZE), phrases = memory.field(1024), nows = memory.field(MOMENT_SIZE);
+    const moments = memory.field(MOMENT_SIZE), orders = memory.field(4 * SLOTS), before = new Uint8Array(SIZE);
+    const NO_DATE = 8, LEFT_OVER = 7, FULL = 24, EMPTY = 25, NOTHING_DUE = 26;
+    let board = memory.lend(boards, SIZE, false), calls = 0, refused = 0;
+    bytes.fill(0, board, board + SIZE);
 
-    const lendNow = (now) => memory.putNumbers(memory.lend(nows, MOMENT_SIZE, held.calls % 2 === 1), now);
+    const held = () => bytes.subarray(board, board + SIZE);
+    const parts = () => [board + READY, board + LENGTHS, board, board + STATE];
+    const lendNow = (now) => memory.putNumbers(memory.lend(nows, MOMENT_SIZE, calls % 2 === 1), now);
+
+    // The board moved to one end of its field or the other, with what it holds.
+    function moveBoard() {
+        before.set(held());
+        board = memory.lend(boards, SIZE, randomBelow(2) === 1);
+        bytes.set(before, board);
+    }
+
+    // A call: of the board's field only the board is written, and not even that by a refused call or by one that asks.
+    function answered(call, asks = false) {
+        before.set(held());
+        const answer = call(...parts());
+        if (!memory.keptBut(board, SIZE, SIZE)) stop("something beside a board was written");
+        if ((asks || !isOk(answer)) && Buffer.compare(held(), before) !== 0) stop("a board was written by refusing, or by asking");
+        addNumber(answer);
+        calls += 1;
+        refused += isOk(answer) ? 0 : 1;
+        return answer;
+    }
+
     const make = (now) => answered((_, lengths, keys, state) => exports.fuzzy_board_make_in(lengths, state, lendNow(now)));
     const again = (now) => answered((...all) => exports.fuzzy_board_again_in(...all, lendNow(now)));
     const takeOut = (slot) => answered((_, lengths, keys, state) => exports.fuzzy_board_remove_in(lengths, keys, state, slot));
@@ -408,6 +445,24 @@ function boardDriver(file) {
         });
     }
 
+    const randomKey = () => BigInt(randomBelow(2 ** 53)) * 2048n + BigInt(randomBelow(2048));
+
+    // Memory that no call made: a board of the calls with some numbers of its parts changed, or all of a part.
+    function randomMemory() {
+        const kind = randomBelow(4), changed = 1 + randomBelow(40);
+        if (kind === 0) for (let i = 0; i < SIZE; i += 1) bytes[board + i] = randomBelow(256);
+        for (let i = 0; i < changed; i += 1) {
+            const key = randomKey();
+            view.setBigUint64(board + 8 * randomBelow(SLOTS), key, true);
+            const length = kind < 2 ? randomBelow(2 ** 32) : 16 * randomBelow(26);
+            view.setUint32(board + LENGTHS + 4 * randomBelow(SLOTS), length, true);
+            const change = randomBelow(256);
+            bytes[board + READY + randomBelow(READY_SIZE * SLOTS)] ^= change;
+        }
+        const number = kind === 3 ? 0 : randomBelow(randomBelow(2) === 0 ? 300 : 2 ** 32);
+        if (kind !== 3) view.setUint32(board + STATE + 4 * randomBelow(8), number, true);
+    }
+
     const TEXTS = ["next friday", "an hour ago", "a year from now", "2 months before 3 weeks after tomorrow at 5:00", "5/2"]
         .map((text) => Buffer.from(text));
     const allow = (answer, numbers, what) => numbers.includes(numberOf(answer)) || stop(what);
@@ -450,9 +505,9 @@ function boardDriver(file) {
             moveBoard();
             randomMemory();
             for (let k = 0; k < 20; k += 1) randomCall();
-            held.add();
+            memory.add(board, SIZE);
         }
-        return `boards: ${held.calls} calls, ${held.refused} refused, ${count} times on memory that no call made`;
+        return `boards: ${calls} calls, ${refused} refused, ${count} times on memory that no call made`;
     };
 }
 
@@ -460,10 +515,8 @@ function boardDriver(file) {
 
 const DRIVERS = {
     1: (file) => phraseDriver(file, 1), 2: (file) => phraseDriver(file, 2), rules: ruleDriver, zones: zoneDriver, boards: boardDriver,
-    words: wordDriver, pins: pinDriver, bundles: bundleDriver,
 };
-const COUNTS = { boards: 2000, bundles: 100_000 };
-const [file, kind, count = COUNTS[kind] ?? 1_000_000] = process.argv.slice(2);
-if (!Object.hasOwn(DRIVERS, kind ?? "")) stop(`usage: digests.mjs WASM ${Object.keys(DRIVERS).join("|")} [COUNT]`);
+const [file, kind, count = kind === "boards" ? "2000" : "1000000"] = process.argv.slice(2);
+if (!Object.hasOwn(DRIVERS, kind ?? "")) stop("usage: digests.mjs WASM 1|2|rules|zones|boards [COUNT]");
 const said = DRIVERS[kind](file)(Number(count));
 console.log(`${said}: digest ${digest()}`);

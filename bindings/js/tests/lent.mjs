@@ -10,14 +10,6 @@ export function stop(what) {
 
 export const root = new URL("../../../", import.meta.url);
 
-// The WebAssembly of a file, with 1 MiB for fields.
-export function opened(file) {
-    const { exports } = new WebAssembly.Instance(new WebAssembly.Module(readFileSync(file)), {});
-    return { exports, memory: new Memory(exports.memory, 2 ** 20) };
-}
-
-export const same = (a, b) => a.length === b.length && a.every((value, i) => value === b[i]);
-
 // The lines of a file, as bytes.
 export function linesOf(name) {
     const bytes = readFileSync(new URL(name, root)), lines = [];
@@ -41,25 +33,6 @@ export function randomBelow(n) {
     high ^= (high << 17) | (low >>> 15);
     low ^= low << 17;
     return ((high >>> 0) * 2 ** 21 + (low >>> 11)) % n;
-}
-
-// One of n places gets a value that is drawn already.
-export const putAnywhere = (array, n, value) => { array[randomBelow(n)] = value; };
-
-// One of n bytes becomes any: first the place is drawn, then the byte.
-export function changeByte(bytes, n) {
-    const place = randomBelow(n);
-    bytes[place] = randomBelow(256);
-}
-
-const MOST = [9999, 12, 28, 24, 60, 60, 1000];
-
-// Mostly a valid moment, at times any numbers.
-export function randomMoment() {
-    const moment = MOST.map((most, i) => randomBelow(most) + (i < 3 ? 1 : 0));
-    if (randomBelow(8) === 0) moment[2] = 29 + randomBelow(3);
-    if (randomBelow(32) === 0) putAnywhere(moment, MOST.length, randomBelow(2 ** 32));
-    return moment;
 }
 
 // --- FNV-1a of 64 bits in two halves: the prime is 2^40 + 435
@@ -87,7 +60,6 @@ export const digest = () => `${hex(upper)}${hex(lower)}`;
 
 // --- answers
 
-export const isOk = (answer) => (answer & 0xffffn) === 0n;
 export const numberOf = (answer) => Number(answer & 0xffffn);
 export const placeOf = (answer) => Number((answer >> 16n) & 0xffffn);
 export const lengthOf = (answer) => Number((answer >> 32n) & 0xffff_ffffn);

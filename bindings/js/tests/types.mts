@@ -7,17 +7,12 @@ const ready: Uint8Array = fuzzy.makeReady(1, new Uint8Array([110, 111, 119]));
 const again: Moment = fuzzy.run(ready, "2026-02-11T09:30:15");
 const stamp: Stamp = fuzzy.readStamp(fuzzy.writeStamp({ moment, offset: null }));
 const code: number | null = fuzzy.findWord(2, "friday").code;
-const words: string[] = fuzzy.complete(2, "frid");
-const pinned: Uint8Array = fuzzy.pin(moment);
 const moments: Moment[] = fuzzy.occurrences("FREQ=DAILY", moment, 3);
 const next: Moment = fuzzy.next("FREQ=DAILY", moment, again);
 const local: Local = fuzzy.readInZone(1, "now", new Uint8Array(), new Date());
 const later: Local = fuzzy.runInZone(ready, new Uint8Array(), local);
-const zone: Uint8Array = fuzzy.findZone(new Uint8Array(), "America/New_York");
-const until: Date = fuzzy.zoneUntil(zone);
 const board = new fuzzy.Board(stamp.moment);
 const slot: number = board.add(2, fuzzy.writePhrase(next));
-const kept: Moment = board.moment(board.addReady(pinned));
 const due: Due = board.head();
 const text: string = fuzzy.toISO(fuzzy.fromISO("2026-02-11T09:30:15"));
 const reasons: readonly { reason: Reason | "DONE"; words: string }[] = REASONS;
@@ -27,7 +22,7 @@ try {
 } catch (error) {
     if (error instanceof Refusal) console.log(error.number, error.reason, error.words, error.place, error.part, error.index, error.width);
 }
-console.log(moments, code, words, kept, until, later.date, due.slot, text, reasons, fuzzy.version, fuzzy.toTemporal(moment));
+console.log(moments, code, later.date, due.slot, text, reasons, fuzzy.version, fuzzy.toTemporal(moment));
 await load(new URL("https://example.org/fuzzydate.wasm"));
 await load(fetch("fuzzydate.wasm"));
 
@@ -41,9 +36,5 @@ fuzzy.read(1, "now", { year: 2026, day: 11 });
 fuzzy.readInZone(1, "now", new Uint8Array(), moment);
 // @ts-expect-error a ready phrase is bytes
 fuzzy.run("now", moment);
-// @ts-expect-error a ready phrase is bytes
-board.addReady("now");
-// @ts-expect-error a zone's name is not its bytes
-fuzzy.zoneUntil("America/New_York");
 // @ts-expect-error a refusal does not change
 new Refusal(1, 0, 0).number = 2;

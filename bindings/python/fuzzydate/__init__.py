@@ -20,8 +20,8 @@ from ._refusals import Reason, Refusal
 
 __all__ = [
     "Board", "Bytes", "Due", "FoundWord", "Local", "Reading", "Reason", "Refusal", "Stamp", "Text", "__version__",
-    "complete", "cut_to_milliseconds", "find_word", "find_zone", "make_ready", "next", "occurrences", "pin", "read", "read_in_zone",
-    "read_stamp", "run", "run_in_zone", "version", "write_phrase", "write_stamp", "zone_until",
+    "cut_to_milliseconds", "find_word", "make_ready", "next", "occurrences", "read", "read_in_zone", "read_stamp", "run",
+    "run_in_zone", "version", "write_phrase", "write_stamp",
 ]
 
 Bytes = Union[bytes, bytearray, memoryview]
@@ -80,9 +80,6 @@ class Due(NamedTuple):
 
 
 def _bytes(text: Text) -> bytes:
-    """A text or bytes as the library takes them; bytes are not copied, since a bundle of zones has hundreds of thousands."""
-    if isinstance(text, bytes):
-        return text
     return text.encode() if isinstance(text, str) else bytes(memoryview(text))
 
 
@@ -123,11 +120,6 @@ def _instant(now: datetime) -> Tuple[int, int]:
     return passed // timedelta(seconds=1), passed.microseconds // 1000
 
 
-def _slot(slot: int) -> int:
-    """A slot as the library takes it: ctypes would cut a number above 32 bits, and every number that is no slot's is refused alike."""
-    return slot if 0 <= slot < _library.BOARD_SLOTS else _library.BOARD_SLOTS
-
-
 def _local(second: ctypes.c_int64, numbers: Iterable[int]) -> Local:
     *moment, west, offset = numbers
     return Local(second.value, _moment(moment), offset if west == 0 else -offset)
@@ -142,7 +134,7 @@ def _checked(answer: int, text: bytes = b"") -> int:
 
 
 def version() -> str:
-    """The version of the library, such as "1.1.0"; that of this binding is __version__."""
+    """The version of the library, such as "1.0.0"; that of this binding is __version__."""
     return _library.in_digits(_library.version())
 
 
@@ -170,17 +162,6 @@ def run(ready: Bytes, now: datetime) -> datetime:
     steps, moment = _bytes(ready), _library.MomentNumbers()
     _checked(_library.run(steps, len(steps), _numbers("now", now), moment))
     return _moment(moment)
-
-
-def pin(moment: datetime) -> bytes:
-    """Makes the ready phrase that gives this moment at every now, its second and millisecond included.
-
-    It is for a reminder that is read once at its author's now and must not move any more, on a board for instance. A library of
-    version 1.0 refuses to run it.
-    """
-    ready = ctypes.create_string_buffer(_library.READY_SIZE)
-    length = _checked(_library.pin(_numbers("moment", moment), ready))
-    return ready.raw[:length]
 
 
 def read_stamp(text: Text) -> Stamp:
@@ -217,22 +198,6 @@ def find_word(reading: int, word: Text) -> FoundWord:
     text, found = _bytes(word), _library.FoundNumbers()
     _checked(_library.find_word(Reading(reading), text, len(text), found))
     return FoundWord(found[0] or None, found[1])
-
-
-def complete(reading: int, prefix: Text) -> List[str]:
-    """Lists a reading's words that begin with a prefix, while a word is typed: in alphabetical order, in small letters.
-
-    Letters in either case. The list is empty where no word begins so, and has all words for the empty prefix.
-    """
-    number, text, count = Reading(reading), _bytes(prefix), ctypes.c_uint32(1)
-    word = ctypes.create_string_buffer(_library.WORD_SIZE)
-    words: List[str] = []
-    while len(words) < count.value:
-        answer = _library.complete(number, text, len(text), len(words), count, word, _library.WORD_SIZE)
-        if answer & 0xFFFF == Reason.NO_WORD:
-            break
-        words.append(word.raw[: _checked(answer)].decode("ascii"))
-    return words
 
 
 def occurrences(rule: Text, start: datetime, most: int) -> List[datetime]:
@@ -292,36 +257,10 @@ def run_in_zone(ready: Bytes, zone: Bytes, now: datetime) -> Local:
     return _local(due, local)
 
 
-def zone_until(zone: Bytes) -> datetime:
-    """Finds until when a zone's file is good, in UTC: its last transition, from which on every now is refused.
-
-    A file without a transition is refused. One that ends before year 1, which no datetime has, is an OverflowError.
-    """
-    file, until = _bytes(zone), ctypes.c_int64()
-    _checked(_library.zone_until(file, len(file), until))
-    try:
-        return _EPOCH + timedelta(seconds=until.value)
-    except OverflowError:
-        raise OverflowError(f"the zone's file ends at second {until.value} from 1970 on, which no datetime has") from None
-
-
-def find_zone(bundle: Bytes, name: Text) -> bytes:
-    """Finds a zone's file in a bundle of them by its name, such as "America/New_York", with letters in either case.
-
-    bindings/zones/bundle writes a bundle, and docs/FORMAT.md has its bytes.
-    """
-    files, text, place = _bytes(bundle), _bytes(name), _library.PlaceNumbers()
-    _checked(_library.find_zone(files, len(files), text, len(text), place), text)
-    begin, length = place
-    return files[begin : begin + length]
-
-
 class Board:
     """Up to 256 reminders, each in a slot of 0 to 255, and the order of their moments at the board's now.
 
-    Every reminder runs at the board's now: "an hour from now", added at 9:30, is 01:00 after midnight's `again`. One that must keep
-    the moment of its author's now is read at that now, pinned by `pin`, and added by `add_ready`. A refused call leaves all of it
-    unchanged. Calls on one board wait for each other.
+    A refused call leaves all of it unchanged. Calls on one board wait for each other.
     """
 
     def __init__(self, now: datetime) -> None:
@@ -344,21 +283,12 @@ class Board:
             answer = _library.board_add(self._ready, self._lengths, self._keys, self._state, number, text, len(text))
         return _checked(answer, text)
 
-    def add_ready(self, ready: Bytes) -> int:
-        """Adds a reminder that is ready, as it was stored or sent, and gives its slot, the lowest that was free.
-
-        Refused for bytes that are not a ready phrase, then where the board is full.
-        """
-        steps = _bytes(ready)
-        with self._lock:
-            answer = _library.board_add_ready(self._ready, self._lengths, self._keys, self._state, steps, len(steps))
-        return _checked(answer)
-
     def remove(self, slot: int) -> None:
         """Removes a reminder: its slot is free again."""
-        number = _slot(slot)
+        # ctypes would cut a number above 32 bits; every number that is no slot's is refused
+        slot = slot if 0 <= slot < _library.BOARD_SLOTS else _library.BOARD_SLOTS
         with self._lock:
-            answer = _library.board_remove(self._lengths, self._keys, self._state, number)
+            answer = _library.board_remove(self._lengths, self._keys, self._state, slot)
         _checked(answer)
 
     def again(self, now: datetime) -> None:
@@ -374,14 +304,6 @@ class Board:
         with self._lock:
             answer = _library.board_head(self._keys, self._state, moment)
         return Due(_checked(answer), _moment(moment))
-
-    def moment(self, slot: int) -> datetime:
-        """Finds when a slot's reminder is due at the board's now. Refused for an empty slot, else as `run` refuses its phrase."""
-        number, moment = _slot(slot), _library.MomentNumbers()
-        with self._lock:
-            answer = _library.board_moment(self._ready, self._lengths, self._state, number, moment)
-        _checked(answer)
-        return _moment(moment)
 
     def order(self) -> List[int]:
         """Lists the filled slots, each once: by moment and, for equal ones, by slot; after them those without a moment, by slot."""

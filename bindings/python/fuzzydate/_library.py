@@ -6,10 +6,10 @@ import ctypes
 import pathlib
 from typing import Any, Callable
 
-VERSION = "1.1.0"
+VERSION = "1.0.0"
 
-MOMENT_NUMBERS, STAMP_NUMBERS, FOUND_NUMBERS, LOCAL_NUMBERS, PLACE_NUMBERS = 7, 9, 2, 9, 2
-READY_SIZE, STAMP_SIZE, PHRASE_SIZE, WORD_SIZE = 384, 29, 26, 11
+MOMENT_NUMBERS, STAMP_NUMBERS, FOUND_NUMBERS, LOCAL_NUMBERS = 7, 9, 2, 9
+READY_SIZE, STAMP_SIZE, PHRASE_SIZE = 384, 29, 26
 BOARD_SLOTS, BOARD_READY_SIZE = 256, 98_304
 MOST_OCCURRENCES = 3_652_059
 
@@ -18,7 +18,6 @@ MomentNumbers = ctypes.c_uint32 * MOMENT_NUMBERS
 StampNumbers = ctypes.c_uint32 * STAMP_NUMBERS
 FoundNumbers = ctypes.c_uint32 * FOUND_NUMBERS
 LocalNumbers = ctypes.c_uint32 * LOCAL_NUMBERS
-PlaceNumbers = ctypes.c_uint64 * PLACE_NUMBERS
 
 _FILE = pathlib.Path(__file__).resolve().with_name("libfuzzydate.so")
 _MAJOR, _MINOR, _ = map(int, VERSION.split("."))
@@ -37,7 +36,7 @@ def _loaded() -> ctypes.CDLL:
 
 
 def in_digits(version: int) -> str:
-    """A version such as "1.1.0" from the number that fuzzy_version gives."""
+    """A version such as "1.0.0" from the number that fuzzy_version gives."""
     return f"{version // 1_000_000}.{version // 1000 % 1000}.{version % 1000}"
 
 
@@ -54,11 +53,11 @@ def _declare(name: str, *parts: str, gives: Any = ctypes.c_uint64) -> Callable[.
         "number": [number],
         "numbers": [numbers],
         "rows": [numbers, length],
-        "longs": [ctypes.POINTER(ctypes.c_uint64)],
+        "keys": [ctypes.POINTER(ctypes.c_uint64)],
         "bytes": [ctypes.c_char_p],
         "text": [ctypes.c_char_p, length],
         "instant": [ctypes.c_int64, number],
-        "second": [ctypes.POINTER(ctypes.c_int64)],
+        "due": [ctypes.POINTER(ctypes.c_int64)],
     }
     function = getattr(_library, name)
     function.argtypes = [kind for part in parts for kind in kinds[part]]
@@ -74,23 +73,17 @@ check_version(version())
 read = _declare("fuzzy_read", "number", "text", "numbers", "numbers")
 make_ready = _declare("fuzzy_make_ready", "number", "text", "bytes")
 run = _declare("fuzzy_run", "text", "numbers", "numbers")
-pin = _declare("fuzzy_pin", "numbers", "bytes")
 read_stamp = _declare("fuzzy_read_stamp", "text", "numbers")
 write_stamp = _declare("fuzzy_write_stamp", "numbers", "text")
 write_phrase = _declare("fuzzy_write_phrase", "numbers", "text")
 find_word = _declare("fuzzy_find_word", "number", "text", "numbers")
-complete = _declare("fuzzy_complete", "number", "text", "number", "numbers", "text")
 list_in = _declare("fuzzy_list_in", "text", "numbers", "rows")
 next = _declare("fuzzy_next", "text", "numbers", "numbers", "numbers")
-read_in_zone = _declare("fuzzy_read_in_zone", "number", "text", "text", "instant", "second", "numbers")
-run_in_zone = _declare("fuzzy_run_in_zone", "text", "text", "instant", "second", "numbers")
-zone_until = _declare("fuzzy_zone_until", "text", "second")
-find_zone = _declare("fuzzy_find_zone", "text", "text", "longs")
+read_in_zone = _declare("fuzzy_read_in_zone", "number", "text", "text", "instant", "due", "numbers")
+run_in_zone = _declare("fuzzy_run_in_zone", "text", "text", "instant", "due", "numbers")
 board_make = _declare("fuzzy_board_make_in", "numbers", "numbers", "numbers")
-board_add = _declare("fuzzy_board_add_in", "bytes", "numbers", "longs", "numbers", "number", "text")
-board_add_ready = _declare("fuzzy_board_add_ready_in", "bytes", "numbers", "longs", "numbers", "text")
-board_remove = _declare("fuzzy_board_remove_in", "numbers", "longs", "numbers", "number")
-board_again = _declare("fuzzy_board_again_in", "bytes", "numbers", "longs", "numbers", "numbers")
-board_head = _declare("fuzzy_board_head_in", "longs", "numbers", "numbers")
-board_moment = _declare("fuzzy_board_moment_in", "bytes", "numbers", "numbers", "number", "numbers")
-board_order = _declare("fuzzy_board_order_in", "longs", "numbers", "numbers")
+board_add = _declare("fuzzy_board_add_in", "bytes", "numbers", "keys", "numbers", "number", "text")
+board_remove = _declare("fuzzy_board_remove_in", "numbers", "keys", "numbers", "number")
+board_again = _declare("fuzzy_board_again_in", "bytes", "numbers", "keys", "numbers", "numbers")
+board_head = _declare("fuzzy_board_head_in", "keys", "numbers", "numbers")
+board_order = _declare("fuzzy_board_order_in", "keys", "numbers", "numbers")

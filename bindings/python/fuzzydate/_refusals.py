@@ -48,9 +48,6 @@ class Reason(enum.IntEnum):
     FULL_BOARD = 24, "no slot is free"
     EMPTY_SLOT = 25, "the slot is empty"
     NOTHING_DUE = 26, "no reminder has a moment"
-    NO_WORD = 27, "no word begins so"
-    NO_BUNDLE = 28, "not a bundle of zones"
-    UNKNOWN_ZONE = 29, "the bundle has no such zone"
 
 
 _REASONS = {int(reason): reason for reason in Reason}
@@ -74,8 +71,8 @@ def _character_end(text: bytes, place: int) -> int:
 class Refusal(Exception):
     """A refusal: its number, where the refused part of the text begins and how long it is, in bytes, and the text itself.
 
-    The text is the phrase, the stamp, the rule or the name of a zone that was looked for, and is empty where there is none; so is the
-    part where nothing stands out. For a number that only a newer library has, reason and name are None.
+    The text is the phrase, the stamp or the rule, and is empty where there is none; so is the part where nothing stands out. For a
+    number that only a newer library has, reason and name are None.
     """
 
     def __init__(self, number: int, place: int, length: int, text: bytes) -> None:

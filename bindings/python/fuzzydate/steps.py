@@ -3,14 +3,12 @@
 from __future__ import annotations
 
 import struct
-from datetime import datetime, timedelta
 from typing import Callable, Dict, Iterator, List, NamedTuple
 
 from . import Bytes, _bytes
 
 _RECORD = struct.Struct("<IIII")
 _MOST_STEPS = 24
-_DAYS_OF_CALENDAR, _MILLISECONDS_A_DAY = 3_652_059, 86_400_000
 
 _MONTHS = (
     "January", "February", "March", "April", "May", "June", "July", "August", "September", "October", "November", "December",
@@ -65,19 +63,8 @@ def _time(form: int, hour: int, minute: int) -> str:
     return "keep now's time of day" if form == 0 else f"set the time to {hour}:{minute:02}{_HALVES[form]}"
 
 
-def _pinned(step: _Step) -> str:
-    """A pinned moment: the day, counted from 0 for 1 January of year 1, and the millisecond of that day."""
-    if step.form != 0 or step.third != 0:
-        raise KeyError(step)
-    if step.first >= _DAYS_OF_CALENDAR:
-        return f"start on day {step.first:,} after 1 January of year 1, which is outside the years 1 to 9999"
-    moment = datetime.min + timedelta(days=step.first, milliseconds=step.second % _MILLISECONDS_A_DAY)
-    written = moment.time().isoformat("milliseconds" if moment.microsecond else "seconds")
-    return f"start on {moment.day} {_MONTHS[moment.month - 1]} {moment.year} at {written}, whenever it is run"
-
-
 def _known(step: _Step) -> str:
-    """A step in words; a KeyError or IndexError for a kind, form or number that this version does not have."""
+    """A step in words; a KeyError or IndexError for a kind or form that this version does not have."""
     kind, form, first, second, third = step
     weekday = _WEEKDAYS[first % 7]
     words: Dict[int, Callable[[], str]] = {
@@ -92,7 +79,6 @@ def _known(step: _Step) -> str:
         9: lambda: f"go back to a {weekday}, that day included",
         10: lambda: _time(form, first, second),
         11: lambda: f"go forward to a {weekday}, that day included",
-        12: lambda: _pinned(step),
     }
     return words[kind]()
 

@@ -7,11 +7,9 @@ import _ctypes
 import os
 import pathlib
 import shutil
-import struct
 import subprocess
 import sys
 import tempfile
-from datetime import datetime
 
 import fuzzydate
 from fuzzydate import steps
@@ -118,22 +116,9 @@ def words():
         (3, 9, "start today, since no date is stated"),
         (3, 10, "a step of a newer library, of kind 3 and form 10"),
         (4, 3, "a step of a newer library, of kind 4 and form 3"),
-        (12, 0, "start on 1 January 1 at 00:00:00, whenever it is run"),
         (12, 1, "a step of a newer library, of kind 12 and form 1"),
-        (13, 0, "a step of a newer library, of kind 13 and form 0"),
     ]:
         expect(steps.in_words(bytes([kind, form]).ljust(16, b"\0")), [said], said)
-    pinned = steps.in_words(fuzzydate.pin(datetime(2026, 2, 11, 9, 30, 15, 250_000)))
-    expect(pinned, ["start on 11 February 2026 at 09:30:15.250, whenever it is run"], "a pinned moment")
-    last = struct.pack("<IIII", 12, 3_652_058, 86_399_999, 0)
-    expect(steps.in_words(last), ["start on 31 December 9999 at 23:59:59.999, whenever it is run"], "the last moment")
-    for numbers, said in [
-        ((3_652_059, 0, 0), "start on day 3,652,059 after 1 January of year 1, which is outside the years 1 to 9999"),
-        ((0, 86_400_000, 0), "start on 1 January 1 at 00:00:00, whenever it is run"),
-        ((0, 2**32 - 1, 0), "start on 1 January 1 at 17:02:47.295, whenever it is run"),
-        ((0, 0, 1), "a step of a newer library, of kind 12 and form 0"),
-    ]:
-        expect(steps.in_words(struct.pack("<IIII", 12, *numbers)), [said], numbers)
     for length in (0, 15, 17, 400):
         try:
             raise AssertionError(f"{length} bytes: {steps.in_words(bytes(length))}")
@@ -148,8 +133,8 @@ def other_libraries():
         shutil.copytree(pathlib.Path(fuzzydate.__file__).parent, package, ignore=shutil.ignore_patterns("*.so", "__pycache__"))
         library = package / "libfuzzydate.so"
         for write, said in [
-            (lambda: None, "ImportError: fuzzydate 1.1.0 cannot load its library: "),
-            (lambda: library.write_bytes(b"another"), "ImportError: fuzzydate 1.1.0 cannot load its library: "),
+            (lambda: None, "ImportError: fuzzydate 1.0.0 cannot load its library: "),
+            (lambda: library.write_bytes(b"another"), "ImportError: fuzzydate 1.0.0 cannot load its library: "),
             (lambda: shutil.copy(_ctypes.__file__, library), f"{library} has no version"),
         ]:
             write()

@@ -1,14 +1,10 @@
-"""Every function with good, damaged and empty input, each refusal once, in eight threads too.
-
-every.py FUZZY_H ZONE BUNDLE VERSION: the header, bindings/zones/New_York, bindings/zones/sample.bundle, and the file VERSION.
-"""
+"""Every function with good, damaged and empty input, each refusal once, in eight threads too: every.py FUZZY_H ZONE VERSION."""
 
 import ctypes
 import math
 import pickle
 import random
 import re
-import struct
 import sys
 from concurrent.futures import ThreadPoolExecutor
 from datetime import datetime, timedelta, timezone
@@ -144,64 +140,6 @@ def words():
         expect(fuzzydate.find_word(reading, word) == FoundWord(code, comparisons), word)
 
 
-def completions():
-    """The words that begin with a prefix, each a known one, in order; all of them by the empty prefix and by each letter."""
-    for reading, prefix, wanted in [
-        (1, "frid", ["friday"]), (2, b"FRIDAY", ["friday"]), (1, "forti", []), (2, "Fort", ["fortieth", "forty"]), (1, "fridays", []),
-        (1, "riday", []), (2, b"fri\xff", []), (1, "\u00e9", []), (2, "tom", ["tomorrow"]), (1, "x" * 300, []),
-    ]:
-        expect(fuzzydate.complete(reading, prefix) == wanted, (prefix, fuzzydate.complete(reading, prefix)))
-    for reading, count in [(1, 133), (2, 136)]:
-        listed = fuzzydate.complete(reading, b"")
-        expect(len(listed) == count and listed == sorted(set(listed)), "all words")
-        expect(all(fuzzydate.find_word(reading, word).code for word in listed), "known words")
-        letters = [chr(letter) for letter in range(256)]
-        expect(sorted(sum((fuzzydate.complete(reading, letter) for letter in letters if not letter.isupper()), [])) == listed, "by letters")
-        for word in listed:
-            for end in range(len(word) + 1):
-                begun = [other for other in listed if other.startswith(word[:end])]
-                expect(fuzzydate.complete(reading, word[:end].upper()) == begun, word[:end])
-
-
-def completion_buffers():
-    """The word and the count are written on success, and nothing on a refusal: 15, then 27, then 17."""
-    for reading, prefix, which, room, answer, written in [
-        (1, b"frid", 0, 11, 6 << 32, b"friday"),
-        (1, b"frid", 0, 6, 6 << 32, b"friday"),
-        (1, b"frid", 0, 5, Reason.NO_ROOM, b""),
-        (1, b"frid", 1, 0, Reason.NO_WORD, b""),
-        (1, b"frid", 2**32 - 1, 11, Reason.NO_WORD, b""),
-        (1, b"", 133, 11, Reason.NO_WORD, b""),
-        (0, b"zzz", 9, 0, Reason.NO_READING, b""),
-        (3, b"frid", 0, 11, Reason.NO_READING, b""),
-    ]:
-        count, word = ctypes.c_uint32(0xA5), ctypes.create_string_buffer(b"\xa5" * 12, 12)
-        expect(_library.complete(reading, prefix, len(prefix), which, count, word, room) == answer, (prefix, which))
-        expect(word.raw == written.ljust(12, b"\xa5") and count.value == (1 if written else 0xA5), (prefix, which))
-
-
-def pins():
-    """A pinned moment is itself at every now, as its bytes say."""
-    for moment in (NOW, WHOLE, LEAP_DAY, datetime.min, datetime.max.replace(microsecond=999_000)):
-        ready = fuzzydate.pin(moment)
-        passed = moment - moment.replace(hour=0, minute=0, second=0, microsecond=0)
-        expect(ready == struct.pack("<IIII", 12, moment.toordinal() - 1, passed // MILLISECOND, 0), moment)
-        for now in (NOW, LEAP_DAY, datetime.min, datetime.max.replace(microsecond=999_000)):
-            expect(fuzzydate.run(ready, now) == moment, (moment, now))
-        refused(Reason.NO_SENSE, fuzzydate.run, ready[:-1], NOW)
-    for record, reason in [
-        ((12, 3_652_059, 0, 0), Reason.OUTSIDE),
-        ((12, 2**32 - 1, 0, 0), Reason.OUTSIDE),
-        ((12, 0, 0, 1), Reason.NO_SENSE),
-        ((12 + 256, 0, 0, 0), Reason.NO_SENSE),
-        ((13, 0, 0, 0), Reason.NO_SENSE),
-    ]:
-        refused(reason, fuzzydate.run, struct.pack("<IIII", *record), NOW)
-    kept = ctypes.create_string_buffer(b"\xa5" * 384, 384)
-    refused(Reason.INVALID_MOMENT, fuzzydate._checked, _library.pin(array(2026, 2, 30, 0, 0, 0, 0), kept))
-    expect(kept.raw == b"\xa5" * 384, "nothing written for what is no moment")
-
-
 def phrases():
     expect(fuzzydate.write_phrase(WHOLE) == "march 4 2026 at 9:05", "a phrase")
     for moment in (WHOLE, LEAP_DAY, datetime(9999, 9, 30, 23, 59)):
@@ -313,15 +251,6 @@ def undue(reason, phrase, zone, now):
         refused(reason, fuzzydate.run_in_zone, fuzzydate.make_ready(1, phrase), zone, now)
 
 
-def zone_file(transitions):
-    """A TZif file of version 2 in which the clocks show UTC throughout."""
-    header = struct.pack(">4sc15x6I", b"TZif", b"2", 0, 0, 0, 0, 1, 4)
-    second = struct.pack(">4sc15x6I", b"TZif", b"2", 0, 0, 0, len(transitions), 1, 4)
-    times = struct.pack(f">{len(transitions)}q", *transitions) + bytes(len(transitions))
-    kind = bytes(6) + b"UTC\0"
-    return header + kind + second + times + kind + b"\n\n"
-
-
 def zones():
     for phrase, now, wanted in [
         ("now", "2026-03-08T06:30:00.250+00:00", "2026-03-08T01:30:00.250-05:00"),
@@ -357,10 +286,6 @@ def refused_in_zones():
     ]:
         undue(reason, phrase, NEW_YORK, now)
         undue(Reason.NO_ZONE, phrase, b"", now)
-    twice = datetime(2026, 11, 1, 1, 30, 0, 250_000)
-    expect(fuzzydate.run_in_zone(fuzzydate.pin(twice), NEW_YORK, BEFORE_GAP) == Local(1793511000, twice, -14400), "the earlier of two")
-    for moment, reason in [(datetime(2026, 3, 8, 2, 30), Reason.NO_INSTANT), (datetime(2028, 1, 1), Reason.PAST_LAST)]:
-        refused(reason, fuzzydate.run_in_zone, fuzzydate.pin(moment), NEW_YORK, BEFORE_GAP)
     refusal = refused(Reason.UNKNOWN, fuzzydate.read_in_zone, 1, "next forty", b"", LAST)
     expect((refusal.place, refusal.part) == (5, b"forty"), "a word before the zone")
     refused(Reason.NO_SENSE, fuzzydate.run_in_zone, bytes(400), NEW_YORK, BEFORE_GAP)
@@ -419,65 +344,6 @@ def buffers_in_zones():
             expect(due.value == (second if answer == 0 else 0xA5) and list(local) == [*written, 0xA5], second)
 
 
-def named(bundle):
-    """The names of a bundle and their files, by its index."""
-    (count,) = struct.unpack_from(">I", bundle, 64)
-    entries = [struct.unpack_from(">40sII", bundle, 68 + 48 * i) for i in range(count)]
-    return {name.rstrip(b"\0").decode(): bundle[place : place + length] for name, place, length in entries}
-
-
-def bundles():
-    """Each name of the bundle, in any case, as any kind of bytes; a part of a name and more than one are other names."""
-    files = named(BUNDLE)
-    expect("America/New_York" in files and len(files) > 4, "the names of the bundle")
-    for name, file in files.items():
-        for text in (name, name.upper(), name.lower().encode(), name.swapcase()):
-            for form in (BUNDLE, bytearray(BUNDLE), memoryview(BUNDLE)):
-                expect(fuzzydate.find_zone(form, text) == file, text)
-        for other in (name[:-1], name + "x", name + "\0", "x" + name, name.replace("/", "_")):
-            if other not in files:
-                refusal = refused(Reason.UNKNOWN_ZONE, fuzzydate.find_zone, BUNDLE, other)
-                expect(refusal.text == other.encode() and refusal.part == b"", other)
-        expect(due(2, "now", file, BEFORE_GAP).second == math.floor(BEFORE_GAP.timestamp()), name)
-    for name in ("", "New_York", "America/", b"\xff" * 40, "x" * 41, "x" * 1000):
-        refused(Reason.UNKNOWN_ZONE, fuzzydate.find_zone, BUNDLE, name)
-
-
-def damaged_bundles():
-    """Bytes that are no bundle, and a bundle cut short: what is found is within what is given, or it is refused."""
-    for bundle in (b"", NEW_YORK, bytes(400), b"fuzzytz2" + BUNDLE[8:], BUNDLE[:63]):
-        refused(Reason.NO_BUNDLE, fuzzydate.find_zone, bundle, "America/New_York")
-    for length in range(len(BUNDLE)):
-        try:
-            found = fuzzydate.find_zone(BUNDLE[:length], "America/New_York")
-            expect(found in BUNDLE[:length], f"{length} bytes of a bundle")
-        except Refusal as refusal:
-            expect(refusal.reason in (Reason.NO_BUNDLE, Reason.UNKNOWN_ZONE), f"{length} bytes of a bundle: {refusal}")
-    place = (ctypes.c_uint64 * 2)(0xA5, 0xA5)
-    for bundle, name, reason in [(b"", b"", Reason.NO_BUNDLE), (BUNDLE, b"Nowhere", Reason.UNKNOWN_ZONE)]:
-        expect(_library.find_zone(bundle, len(bundle), name, len(name), place) == reason and list(place) == [0xA5] * 2, "no place")
-
-
-def ends_of_zones():
-    """From the end of a file on every now is refused, and just before it none."""
-    expect(fuzzydate.zone_until(NEW_YORK) == LAST and fuzzydate.zone_until(bytearray(NEW_YORK)) == LAST, "the end of New York's file")
-    for name, file in named(BUNDLE).items():
-        until = fuzzydate.zone_until(file)
-        expect(until.utcoffset() == timedelta(0), "an end in UTC")
-        expect(due(1, "now", file, until - MILLISECOND).second == math.floor((until - MILLISECOND).timestamp()), name)
-        undue(Reason.PAST_LAST, "now", file, until)
-    for file in (b"", NEW_YORK[:-1], NEW_YORK.ljust(65_537, b"\0")):
-        refused(Reason.NO_ZONE, fuzzydate.zone_until, file)
-    refused(Reason.PAST_LAST, fuzzydate.zone_until, zone_file([]))
-    for second in (-(2**59), -(2**63), -62_198_755_200):
-        error = raises(OverflowError, fuzzydate.zone_until, zone_file([second]))
-        expect(str(error) == f"the zone's file ends at second {second} from 1970 on, which no datetime has", str(error))
-    for second in (-62_104_060_800, 0, 253_370_764_799):
-        expect(fuzzydate.zone_until(zone_file([second])) == datetime(1970, 1, 1, tzinfo=timezone.utc) + timedelta(seconds=second), second)
-    until = ctypes.c_int64(0xA5)
-    expect(_library.zone_until(zone_file([]), len(zone_file([])), until) == Reason.PAST_LAST and until.value == 0xA5, "nothing written")
-
-
 def memory(board):
     """All bytes of a board."""
     return b"".join(map(bytes, (board._ready, board._lengths, board._keys, board._state)))
@@ -503,36 +369,6 @@ def boards():
     expect(board.add(Reading.SECOND, "tuesday in two weeks") == 1, "a slot used again")
     expect(board.order() == [3, 4, 2, 0, 1, 5], "an order with the second reading")
     expect(board.again(LEAP_DAY) is None and board.head() == Due(3, LEAP_DAY.replace(hour=11)), "the head at an older now")
-
-
-def pinned_boards():
-    """Adding what is ready is adding its phrase; what is pinned does not move; a slot's moment is what running gives."""
-    one, other = Board(NOW), Board(NOW)
-    for phrase in ("next friday", "an hour from now", "noon", "a year from now", "this month"):
-        expect(other.add_ready(bytearray(fuzzydate.make_ready(2, phrase))) == one.add(2, phrase), phrase)
-        expect(memory(one) == memory(other), phrase)
-    later = fuzzydate.read(2, "an hour from now", NOW)
-    expect(one.add_ready(fuzzydate.pin(later)) == 5 and one.moment(1) == one.moment(5) == later, "a pinned reminder")
-    one.again(NOW.replace(day=12, hour=0, minute=0))
-    expect(one.moment(1) == NOW.replace(day=12, hour=1, minute=0) and one.moment(5) == later, "a reminder that moved, and one that did not")
-    expect(one.head() == Due(5, later) and one.order() == [5, 1, 2, 0, 3, 4], "a pinned head")
-    left(one, Reason.NO_SENSE, one.moment, 4)
-    one.again(LEAP_DAY)
-    left(one, Reason.NO_LEAP_DAY, one.moment, 3)
-    for slot in (6, 255, 256, 2**32, 2**70, -1, -(2**32)):
-        left(one, Reason.EMPTY_SLOT, one.moment, slot)
-    expect(one.remove(5) is None and one.add_ready(fuzzydate.pin(NOW)) == 5 and one.moment(5) == NOW, "a slot used again")
-
-
-def full_boards():
-    """Bytes that are not a ready phrase are refused first, then a full board."""
-    board, pinned = Board(NOW), fuzzydate.pin(NOW)
-    for ready in (b"", b"\0" * 16, pinned[:-1], pinned * 25):
-        left(board, Reason.NO_SENSE, board.add_ready, ready)
-    expect([board.add_ready(pinned) for _ in range(256)] == list(range(256)), "a board filled")
-    left(board, Reason.FULL_BOARD, board.add_ready, pinned)
-    left(board, Reason.NO_SENSE, board.add_ready, pinned[:-1])
-    expect(board.moment(255) == NOW and board.order() == list(range(256)), "a full board")
 
 
 def refused_boards():
@@ -570,7 +406,6 @@ def any_memory(seed):
         (board.order, (), set()),
         (board.remove, (chosen.randrange(258),), {Reason.EMPTY_SLOT}),
         (board.add, (1, "noon"), {Reason.FULL_BOARD}),
-        (board.add_ready, (fuzzydate.pin(NOW),), {Reason.FULL_BOARD}),
         (board.again, (NOW,), set()),
         (board.head, (), {Reason.NOTHING_DUE}),
     ]:
@@ -609,7 +444,6 @@ def misused():
         raises(ValueError, fuzzydate.read, 1, "today", now)
         raises(ValueError, fuzzydate.run, ready, now)
         raises(ValueError, fuzzydate.write_phrase, now)
-        raises(ValueError, fuzzydate.pin, now)
         raises(ValueError, fuzzydate.write_stamp, Stamp(now, 0))
         raises(ValueError, fuzzydate.occurrences, TUESDAYS, now, 1)
         raises(ValueError, fuzzydate.next, TUESDAYS, now, TUESDAY)
@@ -622,7 +456,6 @@ def misused():
         raises(ValueError, fuzzydate.read, reading, "today", NOW)
         raises(ValueError, fuzzydate.read_in_zone, reading, "today", NEW_YORK, LAST)
         raises(ValueError, Board(NOW).add, reading, "today")
-        raises(ValueError, fuzzydate.complete, reading, "today")
     for phrase in (None, 5):
         raises(TypeError, fuzzydate.read, 1, phrase, NOW)
         raises(TypeError, fuzzydate.make_ready, 1, phrase)
@@ -636,18 +469,11 @@ def misused():
         raises(TypeError, fuzzydate.run_in_zone, phrase, NEW_YORK, LAST)
         raises(TypeError, fuzzydate.run_in_zone, ready, phrase, LAST)
         raises(TypeError, Board(NOW).add, 1, phrase)
-        raises(TypeError, Board(NOW).add_ready, phrase)
-        raises(TypeError, fuzzydate.complete, 1, phrase)
-        raises(TypeError, fuzzydate.zone_until, phrase)
-        raises(TypeError, fuzzydate.find_zone, phrase, "UTC")
-        raises(TypeError, fuzzydate.find_zone, BUNDLE, phrase)
     raises(UnicodeEncodeError, fuzzydate.read, 1, "\ud800", NOW)
     raises(TypeError, fuzzydate.read, 1, "today", None)
     raises(TypeError, fuzzydate.read_in_zone, 1, "today", NEW_YORK, None)
     raises(ValueError, fuzzydate.occurrences, TUESDAYS, TUESDAY, -1)
     raises(TypeError, Board(NOW).remove, None)
-    raises(TypeError, Board(NOW).moment, None)
-    raises(TypeError, fuzzydate.pin, None)
 
 
 def garbage(seed):
@@ -659,11 +485,6 @@ def garbage(seed):
         unlisted(Reason.NO_RULE, some)
         undue(Reason.NO_ZONE, "now", some, BEFORE_GAP)
         refused(Reason.NO_SENSE, fuzzydate.run_in_zone, some, NEW_YORK, BEFORE_GAP)
-        refused(Reason.NO_ZONE, fuzzydate.zone_until, some)
-        refused(Reason.NO_BUNDLE, fuzzydate.find_zone, some, some)
-        refused(Reason.UNKNOWN_ZONE, fuzzydate.find_zone, BUNDLE, some)
-        refused(Reason.NO_SENSE, Board(NOW).add_ready, some)
-        expect(length < 3 or fuzzydate.complete(2, some) == [], "a random prefix")
         expect(fuzzydate.find_word(2, some).comparisons <= 8, "comparisons")
         try:
             fuzzydate.read(2, some, NOW)
@@ -701,21 +522,19 @@ def versions(version):
     """The version of the binding is that of the repository, and the library says the same of itself."""
     expect(fuzzydate.__version__ == version, f"version {version} of the binding")
     expect(fuzzydate.version() == version, f"version {version} of the library")
-    for number in (1_001_000, 1_001_007, 1_002_000, 1_999_000):
+    for number in (1_000_000, 1_000_007, 1_999_000):
         _library.check_version(number)
-    for number, said in [(1_000_000, "1.0.0"), (1_000_999, "1.0.999"), (999_999, "0.999.999"), (2_000_000, "2.0.0"), (0, "0.0.0")]:
+    for number, said in [(999_999, "0.999.999"), (2_000_000, "2.0.0"), (0, "0.0.0")]:
         error = raises(ImportError, _library.check_version, number)
-        expect("needs version 1.1.0 of its library" in str(error) and str(error).endswith(f" is {said}"), str(error))
+        expect("needs version 1.0.0 of its library" in str(error) and str(error).endswith(f" is {said}"), str(error))
 
 
 def every(seed):
-    for part in (moments, refusals, below, stamps, words, completions, completion_buffers, pins, phrases):
+    for part in (moments, refusals, below, stamps, words, phrases, rules, parts_of_milliseconds, refused_rules, rows):
         part()
-    for part in (rules, parts_of_milliseconds, refused_rules, rows):
+    for part in (zones, refused_in_zones, zone_offsets, zone_files, buffers_in_zones):
         part()
-    for part in (zones, refused_in_zones, zone_offsets, zone_files, buffers_in_zones, bundles, damaged_bundles, ends_of_zones):
-        part()
-    for part in (boards, pinned_boards, full_boards, refused_boards, names_of_datetimes, misused):
+    for part in (boards, refused_boards, names_of_datetimes, misused):
         part()
     garbage(seed)
     any_memory(seed)
@@ -725,9 +544,7 @@ with open(sys.argv[1]) as header:
     as_the_header(header.read())
 with open(sys.argv[2], "rb") as file:
     NEW_YORK = file.read()
-with open(sys.argv[3], "rb") as file:
-    BUNDLE = file.read()
-with open(sys.argv[4]) as version:
+with open(sys.argv[3]) as version:
     versions(version.read().strip())
 every(0)
 longest()

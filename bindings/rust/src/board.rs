@@ -3,10 +3,9 @@ use alloc::vec::Vec;
 use core::fmt;
 
 use crate::calls::{
-    fuzzy_board_add_in, fuzzy_board_add_ready_in, fuzzy_board_again_in, fuzzy_board_head_in, fuzzy_board_make_in, fuzzy_board_moment_in,
-    fuzzy_board_order_in, fuzzy_board_remove_in, State,
+    fuzzy_board_add_in, fuzzy_board_again_in, fuzzy_board_head_in, fuzzy_board_make_in, fuzzy_board_order_in, fuzzy_board_remove_in, State,
 };
-use crate::{Moment, Reading, Ready, Refusal, READY_SIZE};
+use crate::{Moment, Reading, Refusal, READY_SIZE};
 
 /// The reminders that a board has room for.
 pub const BOARD_SLOTS: usize = 256;
@@ -25,10 +24,6 @@ struct Parts {
 
 /// Up to 256 ready reminders, each in a slot of 0 to 255, and the order of their moments at the board's now. A refused call leaves all of
 /// it unchanged.
-///
-/// Every reminder is run at the board's now: "an hour from now", added at 9:30, is 01:00 after midnight's [`again`](Board::again). One that
-/// must keep the moment of its author's now is read at that now, pinned by [`pin`](crate::pin), and added by
-/// [`add_ready`](Board::add_ready).
 ///
 /// ```
 /// # use fuzzydate::{Board, Moment, Reading, Reason};
@@ -87,29 +82,6 @@ impl Board {
         answer.check(bytes)
     }
 
-    /// Adds a reminder that is ready, as it is stored or sent: adding a phrase is making it ready and adding that. Gives its slot, the
-    /// lowest that was free. Refused for bytes that are not a ready phrase, then for a full board.
-    ///
-    /// ```
-    /// # use fuzzydate::{pin, read, Board, Moment, Reading};
-    /// let now = Moment { year: 2026, month: 2, day: 11, hour: 9, minute: 30, second: 0, millisecond: 0 };
-    /// let mut board = Board::new(now)?;
-    /// board.add(Reading::First, "an hour from now")?;
-    /// board.add_ready(&pin(read(Reading::First, "an hour from now", now)?)?)?;
-    ///
-    /// board.again(Moment { day: 12, hour: 0, minute: 0, ..now })?;
-    /// assert_eq!(board.moment(0)?.to_string(), "2026-02-12 01:00:00");
-    /// assert_eq!(board.moment(1)?.to_string(), "2026-02-11 10:30:00"); // what is pinned stays
-    /// # Ok::<(), fuzzydate::Refusal>(())
-    /// ```
-    pub fn add_ready(&mut self, ready: &Ready) -> Result<u32, Refusal> {
-        let bytes = ready.as_bytes();
-        let Parts { keys, lengths, state, ready } = &mut *self.parts;
-        // SAFETY: the pointer is that of a slice, whose size is said.
-        let answer = unsafe { fuzzy_board_add_ready_in(ready, lengths, keys, state, bytes.as_ptr(), bytes.len() as u64) };
-        answer.check(&[])
-    }
-
     /// Removes a reminder: its slot is free again. Refused for an empty slot, and for 256 and above.
     pub fn remove(&mut self, slot: u32) -> Result<(), Refusal> {
         let Parts { keys, lengths, state, .. } = &mut *self.parts;
@@ -133,16 +105,6 @@ impl Board {
         // SAFETY: the call takes references alone.
         let answer = unsafe { fuzzy_board_head_in(&self.parts.keys, &self.parts.state, &mut moment) };
         answer.check(&[]).map(|slot| (slot, moment))
-    }
-
-    /// Finds when a slot's reminder is due at the board's now; with [`order`](Board::order) a list screen has its dates. Refused for an
-    /// empty slot, and for 256 and above, else as [`Ready::run`] refuses the slot's ready phrase.
-    pub fn moment(&self, slot: u32) -> Result<Moment, Refusal> {
-        let Parts { lengths, state, ready, .. } = &*self.parts;
-        let mut moment = Moment::NONE;
-        // SAFETY: the call takes references alone.
-        let answer = unsafe { fuzzy_board_moment_in(ready, lengths, state, slot, &mut moment) };
-        answer.check(&[]).map(|_| moment)
     }
 
     /// The filled slots in order, each once: by moment and, for equal moments, by slot; after them those without a moment at the board's

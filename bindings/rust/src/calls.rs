@@ -23,19 +23,9 @@ extern "C" {
     pub fn fuzzy_read(reading: u32, phrase: *const u8, phrase_length: u64, now: &Moment, moment: &mut Moment) -> Answer;
     pub fn fuzzy_make_ready(reading: u32, phrase: *const u8, phrase_length: u64, ready: &mut [u8; READY_SIZE]) -> Answer;
     pub fn fuzzy_run(ready: *const u8, ready_length: u64, now: &Moment, moment: &mut Moment) -> Answer;
-    pub fn fuzzy_pin(moment: &Moment, ready: &mut [u8; READY_SIZE]) -> Answer;
     pub fn fuzzy_read_stamp(text: *const u8, text_length: u64, stamp: &mut MomentAt) -> Answer;
     pub fn fuzzy_write_stamp(stamp: &MomentAt, text: *mut u8, text_length: u64) -> Answer;
     pub fn fuzzy_find_word(reading: u32, word: *const u8, word_length: u64, found: &mut [u32; 2]) -> Answer;
-    pub fn fuzzy_complete(
-        reading: u32,
-        prefix: *const u8,
-        prefix_length: u64,
-        which: u32,
-        count: &mut u32,
-        word: *mut u8,
-        word_length: u64,
-    ) -> Answer;
     pub fn fuzzy_write_phrase(moment: &Moment, text: *mut u8, text_length: u64) -> Answer;
     pub fn fuzzy_list_in(rule: *const u8, rule_length: u64, start: &Moment, moments: *mut Moment, moments_length: u64) -> Answer;
     pub fn fuzzy_next(rule: *const u8, rule_length: u64, start: &Moment, asked: &Moment, moment: &mut Moment) -> Answer;
@@ -60,8 +50,6 @@ extern "C" {
         due: &mut i64,
         local: &mut MomentAt,
     ) -> Answer;
-    pub fn fuzzy_zone_until(zone: *const u8, zone_length: u64, until: &mut i64) -> Answer;
-    pub fn fuzzy_find_zone(bundle: *const u8, bundle_length: u64, name: *const u8, name_length: u64, place: &mut [u64; 2]) -> Answer;
     pub fn fuzzy_board_make_in(lengths: &mut [u32; BOARD_SLOTS], state: &mut State, now: &Moment) -> Answer;
     pub fn fuzzy_board_add_in(
         ready: &mut [u8; BOARD_READY_SIZE],
@@ -72,14 +60,6 @@ extern "C" {
         phrase: *const u8,
         phrase_length: u64,
     ) -> Answer;
-    pub fn fuzzy_board_add_ready_in(
-        board_ready: &mut [u8; BOARD_READY_SIZE],
-        lengths: &mut [u32; BOARD_SLOTS],
-        keys: &mut [u64; BOARD_SLOTS],
-        state: &mut State,
-        ready: *const u8,
-        ready_length: u64,
-    ) -> Answer;
     pub fn fuzzy_board_remove_in(lengths: &mut [u32; BOARD_SLOTS], keys: &mut [u64; BOARD_SLOTS], state: &mut State, slot: u32) -> Answer;
     pub fn fuzzy_board_again_in(
         ready: &[u8; BOARD_READY_SIZE],
@@ -89,13 +69,6 @@ extern "C" {
         now: &Moment,
     ) -> Answer;
     pub fn fuzzy_board_head_in(keys: &[u64; BOARD_SLOTS], state: &State, moment: &mut Moment) -> Answer;
-    pub fn fuzzy_board_moment_in(
-        ready: &[u8; BOARD_READY_SIZE],
-        lengths: &[u32; BOARD_SLOTS],
-        state: &State,
-        slot: u32,
-        moment: &mut Moment,
-    ) -> Answer;
     pub fn fuzzy_board_order_in(keys: &[u64; BOARD_SLOTS], state: &State, slots: &mut [u32; BOARD_SLOTS]) -> Answer;
 }
 

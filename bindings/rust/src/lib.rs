@@ -40,14 +40,13 @@
 //! assert_eq!(refusal.to_string(), "not an RFC 3339 date and time");
 //! ```
 //!
-//! Words can be looked up while they are typed, with at most 8 comparisons each, and completed from their beginnings:
+//! Words can be looked up while they are typed, with at most 8 comparisons each:
 //!
 //! ```
-//! use fuzzydate::{complete, find_word, Reading};
+//! use fuzzydate::{find_word, Reading};
 //!
 //! assert!(find_word(Reading::First, "Friday").code.is_some());
 //! assert!(find_word(Reading::First, "Frid").code.is_none());
-//! assert_eq!(complete(Reading::First, "Frid"), ["friday"]);
 //! ```
 //!
 //! A moment can be shown as a phrase for people to edit, by [`write_phrase`].
@@ -78,10 +77,7 @@
 //! assert_eq!(due("1 day from now"), "2026-03-08 10:00:00 -04:00");
 //! ```
 //!
-//! An app can ship all zones in one bundle, and find each by its name: [`find_zone`]. [`zone_until`] says until when a zone's file is good.
-//!
-//! Up to 256 reminders are kept on a [`Board`], which says all day what is due first. It runs them at its own now; a reminder that must keep
-//! the moment of its author's now is pinned by [`pin`].
+//! Up to 256 reminders are kept on a [`Board`], which says all day what is due first.
 //!
 //! The features `chrono`, `time` and `serde` convert the types here to and from those of the crates of these names. What a type cannot hold
 //! is an error. The crate needs an allocator, and nothing else of the standard library.
@@ -112,12 +108,12 @@ pub use board::{Board, BOARD_SLOTS};
 #[cfg(any(feature = "chrono", feature = "time"))]
 pub use conversion::ConversionError;
 pub use moment::{write_phrase, Moment};
-pub use reading::{complete, find_word, read, FoundWord, Reading};
-pub use ready::{make_ready, pin, Ready, READY_SIZE};
+pub use reading::{find_word, read, FoundWord, Reading};
+pub use ready::{make_ready, Ready, READY_SIZE};
 pub use refusal::{Reason, Refusal};
 pub use rule::Rule;
 pub use stamp::{read_stamp, write_stamp, Offset, Stamp};
-pub use zone::{find_zone, read_in_zone, zone_until, Instant, Local, Zone};
+pub use zone::{read_in_zone, Instant, Local, Zone};
 
 pub(crate) use board::BOARD_READY_SIZE;
 
@@ -129,7 +125,7 @@ struct Readme;
 /// The version of this crate; [`version`] gives that of the library.
 pub const VERSION: &str = env!("CARGO_PKG_VERSION");
 
-/// The version of the linked library: 1001000 for 1.1.0, by 1000000 * major + 1000 * minor + patch.
+/// The version of the linked library: 1000000 for 1.0.0, by 1000000 * major + 1000 * minor + patch.
 pub fn version() -> u32 {
     // SAFETY: the call takes nothing.
     unsafe { calls::fuzzy_version() }

@@ -1,12 +1,5 @@
-use alloc::string::String;
-use alloc::vec::Vec;
-
-use crate::calls::{fuzzy_complete, fuzzy_find_word, fuzzy_read};
-use crate::moment::written;
+use crate::calls::{fuzzy_find_word, fuzzy_read};
 use crate::{Moment, Refusal};
-
-/// As many bytes as a phrase may have, so that no word of a newer library is too long.
-const MOST_WORD: usize = 256;
 
 /// The two readings of a phrase. They differ in what "in" after a weekday means, in what the year after month and day is, and in
 /// ordinals, spellings and commas.
@@ -81,28 +74,4 @@ pub fn find_word<W: AsRef<[u8]> + ?Sized>(reading: Reading, word: &W) -> FoundWo
     unsafe { fuzzy_find_word(reading as u32, bytes.as_ptr(), bytes.len() as u64, &mut found) };
     let [code, comparisons] = found;
     FoundWord { code: (code != 0).then_some(code), comparisons }
-}
-
-/// Lists a reading's words by their beginning, while a word is typed: all that begin with the prefix, in alphabetical order and in small
-/// letters. Letters of the prefix are in either case. No word begins with bytes other than letters; all begin with the empty prefix.
-///
-/// ```
-/// # use fuzzydate::{complete, Reading};
-/// assert_eq!(complete(Reading::First, "Frid"), ["friday"]);
-/// assert_eq!(complete(Reading::Second, "fort"), ["fortieth", "forty"]);
-/// assert!(complete(Reading::First, "fort").is_empty());
-/// ```
-pub fn complete<P: AsRef<[u8]> + ?Sized>(reading: Reading, prefix: &P) -> Vec<String> {
-    // refused only where there are no more words: a `Reading` is never refused, and the buffer is never too short
-    (0..).map_while(|which| completed(reading, prefix.as_ref(), which)).collect()
-}
-
-/// One of the words that begin with a prefix, counted from 0; none where there are not so many.
-fn completed(reading: Reading, prefix: &[u8], which: u32) -> Option<String> {
-    let (mut count, mut word) = (0, [0; MOST_WORD]);
-    // SAFETY: the pointers are those of slices, whose sizes are said.
-    let answer = unsafe {
-        fuzzy_complete(reading as u32, prefix.as_ptr(), prefix.len() as u64, which, &mut count, word.as_mut_ptr(), word.len() as u64)
-    };
-    written(answer, &word).ok()
 }

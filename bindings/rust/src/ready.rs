@@ -1,12 +1,12 @@
 use core::fmt;
 
-use crate::calls::{fuzzy_make_ready, fuzzy_pin, fuzzy_run, fuzzy_run_in_zone};
+use crate::calls::{fuzzy_make_ready, fuzzy_run, fuzzy_run_in_zone};
 use crate::{Instant, Local, Moment, Reading, Refusal, Zone};
 
 /// The most bytes that a ready phrase has.
 pub const READY_SIZE: usize = 384;
 
-/// A phrase made ready without a now, or a pinned moment: at most 24 calendar steps, in bytes that can be stored and sent.
+/// A phrase made ready without a now: at most 24 calendar steps, in bytes that can be stored and sent.
 #[derive(Clone, Copy)]
 pub struct Ready {
     bytes: [u8; READY_SIZE],
@@ -21,26 +21,6 @@ pub fn make_ready<P: AsRef<[u8]> + ?Sized>(reading: Reading, phrase: &P) -> Resu
     // SAFETY: the pointer is that of a slice, whose size is said.
     let answer = unsafe { fuzzy_make_ready(reading as u32, phrase.as_ptr(), phrase.len() as u64, &mut bytes) };
     answer.check(phrase).map(|length| Ready { bytes, length: length as usize })
-}
-
-/// Makes the ready phrase that gives this moment at every valid now, its second and millisecond included. Refused for an invalid moment.
-///
-/// A [`Board`](crate::Board) runs every reminder at the board's now. One that must keep the moment of its author's now is read at that now,
-/// pinned, and added by [`Board::add_ready`](crate::Board::add_ready). A library of version 1.0 refuses such a ready phrase with `NoSense`.
-///
-/// ```
-/// # use fuzzydate::{pin, read, Moment, Reading};
-/// let author_now = Moment { year: 2026, month: 2, day: 11, hour: 9, minute: 30, second: 15, millisecond: 250 };
-/// let due = read(Reading::First, "an hour from now", author_now)?;
-/// let ready = pin(due)?;
-/// assert_eq!(ready.run(Moment { year: 2028, ..author_now })?, due);
-/// # Ok::<(), fuzzydate::Refusal>(())
-/// ```
-pub fn pin(moment: Moment) -> Result<Ready, Refusal> {
-    let mut bytes = [0; READY_SIZE];
-    // SAFETY: the call takes references alone.
-    let answer = unsafe { fuzzy_pin(&moment, &mut bytes) };
-    answer.check(&[]).map(|length| Ready { bytes, length: length as usize })
 }
 
 impl Ready {
@@ -59,8 +39,7 @@ impl Ready {
         Some(Ready { bytes, length: stored.len() })
     }
 
-    /// Runs it at a now: gives what [`read`](crate::read) gives for its phrase at that now, in the reading that it was made in; of a pinned
-    /// moment, that moment.
+    /// Runs it at a now: gives what [`read`](crate::read) gives for its phrase at that now, in the reading that it was made in.
     pub fn run(&self, now: Moment) -> Result<Moment, Refusal> {
         let mut moment = Moment::NONE;
         // SAFETY: the pointer is that of an array with as many bytes as are said, or more.

@@ -62,18 +62,12 @@ pub enum Reason {
     EmptySlot,
     /// No reminder of the board has a moment.
     NothingDue,
-    /// No word of the reading begins so, which [`complete`](crate::complete) says by an empty list.
-    NoWord,
-    /// Not a bundle of zones.
-    NoBundle,
-    /// The bundle has no zone of that name.
-    UnknownZone,
     /// A reason of a newer library, by its number.
     Other(u32),
 }
 
 /// The reasons that are known, in the order of their numbers, which begin with 1, and the words of fuzzy.h for each.
-const KNOWN: [(Reason, &str); 29] = [
+const KNOWN: [(Reason, &str); 26] = [
     (Reason::TooLong, "longer than 256 bytes"),
     (Reason::Unknown, "not understood"),
     (Reason::LargeDigits, "number too large"),
@@ -100,9 +94,6 @@ const KNOWN: [(Reason, &str); 29] = [
     (Reason::FullBoard, "no slot is free"),
     (Reason::EmptySlot, "the slot is empty"),
     (Reason::NothingDue, "no reminder has a moment"),
-    (Reason::NoWord, "no word begins so"),
-    (Reason::NoBundle, "not a bundle of zones"),
-    (Reason::UnknownZone, "the bundle has no such zone"),
 ];
 
 impl Reason {

@@ -2,7 +2,7 @@ use alloc::borrow::ToOwned;
 use alloc::vec::Vec;
 use core::fmt;
 
-use crate::calls::{fuzzy_find_zone, fuzzy_read_in_zone, fuzzy_zone_until, Answer, MomentAt};
+use crate::calls::{fuzzy_read_in_zone, Answer, MomentAt};
 use crate::{Moment, Reading, Ready, Reason, Refusal};
 
 /// An instant: a second, counted from 1970-01-01T00:00:00Z and negative before it, and a millisecond of it from 0 to 999. Other
@@ -48,46 +48,6 @@ impl Zone {
     pub fn as_bytes(&self) -> &[u8] {
         &self.file
     }
-}
-
-/// Finds a zone's file in a bundle of them by its name, such as "America/New_York", with letters in either case: a part of the bundle's own
-/// bytes, for [`Zone::parse`]. Refused for bytes that are not a bundle, then for a name that the bundle has not. `bindings/zones/bundle` of
-/// the repository writes bundles.
-///
-/// ```
-/// # use fuzzydate::{find_zone, read_in_zone, Instant, Reading, Reason, Zone};
-/// let bundle = std::fs::read("../zones/sample.bundle").unwrap();
-/// let kolkata = Zone::parse(find_zone(&bundle, "asia/kolkata")?)?;
-/// let due = read_in_zone(Reading::First, "tomorrow at 9:00", &kolkata, Instant { second: 1772951400, millisecond: 0 })?;
-/// assert_eq!(due.to_string(), "2026-03-09 09:00:00 +05:30");
-/// assert_eq!(find_zone(&bundle, "Asia/Bombay").unwrap_err().reason(), Reason::UnknownZone);
-/// # Ok::<(), fuzzydate::Refusal>(())
-/// ```
-pub fn find_zone<'a, N: AsRef<[u8]> + ?Sized>(bundle: &'a [u8], name: &N) -> Result<&'a [u8], Refusal> {
-    let name = name.as_ref();
-    let mut place = [0; 2];
-    // SAFETY: the pointers are those of slices, whose sizes are said.
-    let answer = unsafe { fuzzy_find_zone(bundle.as_ptr(), bundle.len() as u64, name.as_ptr(), name.len() as u64, &mut place) };
-    answer.check(&[])?;
-    // the place is within the bundle, so that both numbers are a usize
-    let [first, length] = place.map(|number| number as usize);
-    Ok(&bundle[first..][..length])
-}
-
-/// Finds until when a zone's file is good: the instant of its last transition, from which on every now is refused with `PastLast`. Refused
-/// with that for a file without a transition.
-///
-/// ```
-/// # use fuzzydate::{zone_until, Instant, Zone};
-/// let new_york = Zone::parse(&std::fs::read("../zones/New_York").unwrap())?;
-/// assert_eq!(zone_until(&new_york)?, Instant { second: 1805007600, millisecond: 0 }); // 2027-03-14T07:00:00Z
-/// # Ok::<(), fuzzydate::Refusal>(())
-/// ```
-pub fn zone_until(zone: &Zone) -> Result<Instant, Refusal> {
-    let mut second = 0;
-    // SAFETY: the pointer is that of a slice, whose size is said.
-    let answer = unsafe { fuzzy_zone_until(zone.file.as_ptr(), zone.file.len() as u64, &mut second) };
-    answer.check(&[]).map(|_| Instant { second, millisecond: 0 })
 }
 
 /// What the clocks of a zone show at an instant: a moment, which has the instant's milliseconds, and its offset from UTC in seconds,

@@ -1,6 +1,5 @@
 //! Every function with good, damaged and empty input.
-use fuzzydate::{complete, find_word, find_zone, make_ready, pin, read, read_in_zone, read_stamp, version, write_phrase, write_stamp};
-use fuzzydate::{zone_until, VERSION};
+use fuzzydate::{find_word, make_ready, read, read_in_zone, read_stamp, version, write_phrase, write_stamp, VERSION};
 use fuzzydate::{Board, FoundWord, Instant, Local, Moment, Offset, Reading, Ready, Reason, Refusal, Rule, Stamp, Zone};
 
 const NOW: Moment = Moment { year: 2026, month: 2, day: 11, hour: 9, minute: 30, second: 15, millisecond: 0 };
@@ -131,32 +130,6 @@ fn stores_ready_phrases() {
     assert_eq!(Ready::from_bytes(&damaged).unwrap().run(NOW).unwrap_err().reason(), Reason::NoSense);
     assert_eq!(Ready::from_bytes(&[]).unwrap().run(NOW).unwrap_err().reason(), Reason::NoSense);
     assert_eq!(Ready::from_bytes(&[0; 385]), None);
-}
-
-#[test]
-fn pins_moments() {
-    let first = Moment { year: 1, month: 1, day: 1, hour: 0, minute: 0, second: 0, millisecond: 0 };
-    let last = Moment { year: 9999, month: 12, day: 31, hour: 23, minute: 59, second: 59, millisecond: 999 };
-    let cases = [(first, 0, 0), (Moment { millisecond: 250, ..NOW }, 739_657, 34_215_250), (last, 3_652_058, 86_399_999)];
-    for (moment, day, millisecond) in cases {
-        let ready = pin(moment).unwrap();
-        let record = [12, day, millisecond, 0].map(u32::to_le_bytes).concat();
-        assert_eq!(ready.as_bytes(), record, "{moment}");
-        for now in [first, NOW, LEAP_DAY, last] {
-            assert_eq!(Ready::from_bytes(&record).unwrap().run(now), Ok(moment), "{moment} at {now}");
-        }
-        assert_eq!(ready.run(INVALID).unwrap_err().reason(), Reason::InvalidMoment);
-        assert_eq!(Ready::from_bytes(&record[..15]).unwrap().run(NOW).unwrap_err().reason(), Reason::NoSense);
-    }
-    for moment in [INVALID, Moment { year: 0, ..first }, Moment { year: 10_000, ..first }, Moment { millisecond: 1000, ..last }] {
-        assert_eq!(pin(moment).unwrap_err().reason(), Reason::InvalidMoment, "{moment}");
-    }
-    for (record, reason) in
-        [([12, 3_652_059, 0, 0], Reason::Outside), ([12, 0, 0, 1], Reason::NoSense), ([12 | 1 << 8, 0, 0, 0], Reason::NoSense)]
-    {
-        let ready = Ready::from_bytes(&record.map(u32::to_le_bytes).concat()).unwrap();
-        assert_eq!(ready.run(NOW).unwrap_err().reason(), reason, "{record:?}");
-    }
 }
 
 #[test]
@@ -304,38 +277,6 @@ fn finds_words() {
         assert_eq!(find_word(reading, word), FoundWord { code, comparisons }, "{}", word.escape_ascii());
     }
     assert_eq!(find_word(Reading::First, &vec![b'a'; 4096]).code, None);
-}
-
-#[test]
-fn completes_words() {
-    let cases: [(Reading, &[u8], &[&str]); 16] = [
-        (Reading::First, b"frid", &["friday"]),
-        (Reading::Second, b"FRI", &["friday"]),
-        (Reading::First, b"Friday", &["friday"]),
-        (Reading::First, b"fridays", &[]),
-        (Reading::First, b"day", &["day", "days"]),
-        (Reading::First, b"ay", &[]),
-        (Reading::First, b"fort", &[]),
-        (Reading::Second, b"fort", &["fortieth", "forty"]),
-        (Reading::First, b"eigh", &["eight", "eighteen", "eighteenth", "eightieth", "eighty"]),
-        (Reading::Second, b"eigh", &["eight", "eighteen", "eighteenth", "eighth", "eightieth", "eighty"]),
-        (Reading::First, b"seventeenth", &["seventeenth"]),
-        (Reading::First, b"seventeenths", &[]),
-        (Reading::First, b"zero", &["zero"]),
-        (Reading::First, b"zero\0", &[]),
-        (Reading::First, b"fri\xff", &[]),
-        (Reading::First, &[b'a'; 4096], &[]),
-    ];
-    for (reading, prefix, words) in cases {
-        assert_eq!(complete(reading, prefix), words, "{}", prefix.escape_ascii());
-    }
-    for (reading, count) in [(Reading::First, 133), (Reading::Second, 136)] {
-        let all = complete(reading, "");
-        assert_eq!((all.len(), all[0].as_str(), all[count - 1].as_str()), (count, "a", "zero"));
-        assert!(all.windows(2).all(|words| words[0] < words[1]));
-        assert!(all.iter().all(|word| find_word(reading, word).code.is_some()));
-        assert!(all.iter().all(|word| complete(reading, word).contains(word)));
-    }
 }
 
 #[test]
@@ -558,93 +499,6 @@ fn answers_in_damaged_zones() {
     assert!(zones > 0 && zones < 8 * NEW_YORK.len());
 }
 
-const BUNDLE: &[u8] = include_bytes!("../../zones/sample.bundle");
-
-/// The second that all zones of the bundle are good until, 2100-01-01T00:00:00Z.
-const BUNDLE_UNTIL: i64 = 4102444800;
-
-#[test]
-fn finds_zones_in_a_bundle() {
-    let cases = [
-        ("America/New_York", 788, 1800),
-        ("aMERICA/nEW_yORK", 788, 1800),
-        ("us/eastern", 788, 1800),
-        ("Asia/Kolkata", 2588, 116),
-        ("Asia/Calcutta", 2588, 116),
-        ("GB", 4720, 1998),
-        ("GB-Eire", 4720, 1998),
-        ("UTC", 4604, 116),
-    ];
-    for (name, place, length) in cases {
-        let file = find_zone(BUNDLE, name).unwrap();
-        assert_eq!(file.as_ptr_range(), BUNDLE[place..place + length].as_ptr_range(), "{name}: a part of the bundle's own bytes");
-        let zone = Zone::parse(file).unwrap();
-        assert_eq!(zone_until(&zone), Ok(Instant { second: BUNDLE_UNTIL, millisecond: 0 }), "{name}");
-        assert!(due(Reading::First, "now", &zone, BUNDLE_UNTIL - 1, 999).is_ok(), "{name}");
-        assert_eq!(due(Reading::First, "now", &zone, BUNDLE_UNTIL, 0), Err(Reason::PastLast), "{name}");
-    }
-    let long = "a".repeat(41);
-    for name in ["", "G", "GB-", "GB-Eire\0", "America/New_Yor", "America/New_York ", "Asia/Bombay", "zz", &long[..40], &long] {
-        let refusal = find_zone(BUNDLE, name).unwrap_err();
-        assert_eq!((refusal.number(), refusal.reason()), (29, Reason::UnknownZone), "{name}");
-        assert_eq!(refusal.to_string(), "the bundle has no such zone");
-    }
-}
-
-#[test]
-fn refuses_what_is_no_bundle() {
-    let index = 68 + 15 * 48;
-    for length in 0..index {
-        assert_eq!(find_zone(&BUNDLE[..length], "UTC").unwrap_err().reason(), Reason::NoBundle, "{length} bytes");
-    }
-    // with the whole index, but not all of a zone's file
-    assert_eq!(find_zone(&BUNDLE[..index], "Asia/Bombay").unwrap_err().reason(), Reason::UnknownZone);
-    assert_eq!(find_zone(&BUNDLE[..2703], "Asia/Kolkata").unwrap_err().to_string(), "not a bundle of zones");
-    assert_eq!(find_zone(&BUNDLE[..2704], "Asia/Kolkata"), Ok(&BUNDLE[2588..2704]));
-    for bit in 0..8 * index {
-        let mut bundle = BUNDLE.to_vec();
-        bundle[bit / 8] ^= 1 << (bit % 8);
-        match find_zone(&bundle, "asia/kolkata").map_err(|refusal| refusal.reason()) {
-            Ok(zone) => assert!(bit >= 64 && bundle.as_ptr_range().contains(&zone.as_ptr()), "bit {bit}"),
-            Err(reason) => assert!(reason == Reason::NoBundle || bit >= 64 && reason == Reason::UnknownZone, "bit {bit}: {reason:?}"),
-        }
-    }
-}
-
-#[test]
-fn says_until_when_a_zone_is_good() {
-    let zone = Zone::parse(NEW_YORK).unwrap();
-    assert_eq!(zone_until(&zone), Ok(Instant { second: LAST, millisecond: 0 }));
-    assert!(due(Reading::First, "now", &zone, LAST - 1, 999).is_ok());
-
-    // UTC as zic writes it, without a transition, and with one to itself at a second
-    let header = |times, characters| [&b"TZif2"[..], &[0; 30], &[times, 0, 0, 0, 1, 0, 0, 0, characters]].concat();
-    let utc = |times: u8, data: &[u8]| [&header(0, 1)[..], &[0; 7], &header(times, 4), data, &[0; 6], b"UTC\0\nUTC0\n"].concat();
-    let zone = Zone::parse(&utc(0, &[])).unwrap();
-    assert_eq!(zone_until(&zone).unwrap_err().reason(), Reason::PastLast);
-    assert_eq!(due(Reading::First, "now", &zone, 0, 0), Err(Reason::PastLast));
-    for (second, is_zone) in [(i64::MIN, true), (-1, true), (253_370_764_799, true), (253_370_764_800, false), (i64::MAX, false)] {
-        let zone = Zone::parse(&utc(1, &[&second.to_be_bytes()[..], &[0]].concat()));
-        assert_eq!(zone.is_ok(), is_zone, "{second}");
-        if let Ok(zone) = zone {
-            assert_eq!(zone_until(&zone), Ok(Instant { second, millisecond: 0 }));
-        }
-    }
-}
-
-#[test]
-fn runs_pinned_moments_in_a_zone() {
-    let zone = Zone::parse(NEW_YORK).unwrap();
-    let shown = Moment { year: 2026, month: 3, day: 8, hour: 3, minute: 30, second: 0, millisecond: 250 };
-    for second in [0, BEFORE_GAP, LAST - 1] {
-        let now = Instant { second, millisecond: 999 };
-        let local = pin(shown).unwrap().run_in_zone(&zone, now).unwrap();
-        assert_eq!((local.moment, local.instant), (shown, Instant { second: 1772955000, millisecond: 250 }));
-        let skipped = pin(Moment { hour: 2, ..shown }).unwrap().run_in_zone(&zone, now);
-        assert_eq!(skipped.unwrap_err().reason(), Reason::NoInstant);
-    }
-}
-
 #[test]
 fn keeps_a_board() {
     let mut board = Board::new(NOW).unwrap();
@@ -667,51 +521,6 @@ fn keeps_a_board() {
     board.again(LEAP_DAY).unwrap();
     assert_eq!(board.order(), [3, 4, 2, 0, 1, 5]);
     assert_eq!(board.head(), Ok((3, Moment { hour: 11, ..LEAP_DAY })));
-}
-
-#[test]
-fn keeps_pinned_reminders_on_a_board() {
-    let mut board = Board::new(NOW).unwrap();
-    let phrase = "an hour from now";
-    let due = read(Reading::First, phrase, NOW).unwrap();
-    assert_eq!(board.add(Reading::First, phrase), Ok(0));
-    assert_eq!(board.add_ready(&make_ready(Reading::First, phrase).unwrap()), Ok(1));
-    assert_eq!(board.add_ready(&pin(due).unwrap()), Ok(2));
-    assert_eq!(board.add(Reading::First, "this month"), Ok(3));
-    assert_eq!(board.add(Reading::First, "a year from now"), Ok(4));
-    let moments = |board: &Board| (0..5).map(|slot| board.moment(slot).map_err(|refusal| refusal.reason())).collect::<Vec<_>>();
-    let year_later = Ok(Moment { year: 2027, ..NOW });
-    assert_eq!(moments(&board), [Ok(due), Ok(due), Ok(due), Err(Reason::NoSense), year_later]);
-
-    // only what is pinned keeps its moment
-    board.again(LEAP_DAY).unwrap();
-    let moved = Ok(Moment { hour: 13, ..LEAP_DAY });
-    assert_eq!(moments(&board), [moved, moved, Ok(due), Err(Reason::NoSense), Err(Reason::NoLeapDay)]);
-    assert_eq!(board.order(), [0, 1, 2, 3, 4]);
-    board.remove(2).unwrap();
-    for slot in [2, 5, 255, 256, 257, u32::MAX] {
-        assert_eq!(board.moment(slot).unwrap_err().reason(), Reason::EmptySlot, "{slot}");
-    }
-}
-
-#[test]
-fn adds_what_is_ready_as_its_phrase() {
-    let phrase = "2 months before 3 weeks after tomorrow at 5:00";
-    let ready = make_ready(Reading::Second, phrase).unwrap();
-    let (mut board, mut other) = (Board::new(NOW).unwrap(), Board::new(NOW).unwrap());
-    let damaged: Vec<Ready> = [0, 15, 17, 384].iter().map(|&length| Ready::from_bytes(&vec![12; length]).unwrap()).collect();
-    let refuses_damaged = |board: &mut Board| {
-        for ready in &damaged {
-            assert_eq!(board.add_ready(ready).unwrap_err().reason(), Reason::NoSense);
-        }
-    };
-    refuses_damaged(&mut board);
-    for slot in 0..256 {
-        assert_eq!((board.add_ready(&ready), other.add(Reading::Second, phrase)), (Ok(slot), Ok(slot)));
-        assert_eq!((board.order(), board.head(), board.moment(slot)), (other.order(), other.head(), other.moment(slot)));
-    }
-    assert_eq!(board.add_ready(&ready).unwrap_err().reason(), Reason::FullBoard);
-    refuses_damaged(&mut board);
 }
 
 #[test]

@@ -15,9 +15,6 @@ import fuzzydate
 
 HERE = pathlib.Path(__file__).resolve().parent
 ROOT = HERE.parents[2]
-sys.path.insert(0, str(ROOT / "oracle"))
-import model  # noqa: E402
-
 EXTENSION, ROWS = sys.argv[1:]
 ROWS_COMPARED = 100_000
 THREADS = 4
@@ -50,9 +47,8 @@ def shown(row):
 def test_every_query():
     """What the shell gives, by Python."""
     connection = opened()
-    connection.execute("CREATE TABLE zones(zone BLOB, bundle BLOB)")
-    files = [(ROOT / "bindings/zones" / name).read_bytes() for name in ("New_York", "sample.bundle")]
-    connection.execute("INSERT INTO zones VALUES (?, ?)", files)
+    connection.execute("CREATE TABLE zones(zone BLOB)")
+    connection.execute("INSERT INTO zones VALUES (?)", [(ROOT / "bindings/zones/New_York").read_bytes()])
     given = [shown(row) for query in queries((HERE / "every.sql").read_text()) for row in connection.execute(query)]
     expected = subprocess.run([HERE / "given", HERE / "every.sql"], capture_output=True, check=True, text=True).stdout
     assert "\n".join(given) + "\n" == expected
@@ -67,7 +63,6 @@ def test_names():
     return f"{len(header)} refusals"
 
 
-TAKES = "takes the arguments of the call that gave NULL, or its name and them"
 WRONG = {
     "fuzzy_read('1', 'friday', '2026-02-11 09:30:15')": "fuzzy_read: reading must be INTEGER, not TEXT",
     "fuzzy_read(1.0, 'friday', '2026-02-11 09:30:15')": "fuzzy_read: reading must be INTEGER, not REAL",
@@ -80,14 +75,8 @@ WRONG = {
     "fuzzy_local('UTC', '2026-02-11 09:30:15')": "fuzzy_local: zone must be BLOB, not TEXT",
     "fuzzy_read_in_zone(1, 'now', x'00', 0)": "fuzzy_read_in_zone: instant must be TEXT, not INTEGER",
     "fuzzy_refusal('2')": "fuzzy_refusal: number must be INTEGER, not TEXT",
-    "fuzzy_pin(1770802215)": "fuzzy_pin: moment must be TEXT, not INTEGER",
-    "fuzzy_find_zone('zones', 'UTC')": "fuzzy_find_zone: bundle must be BLOB, not TEXT",
-    "fuzzy_find_zone(x'00', x'00')": "fuzzy_find_zone: name must be TEXT, not BLOB",
-    "fuzzy_zone_until('UTC')": "fuzzy_zone_until: zone must be BLOB, not TEXT",
-    "fuzzy_why()": f"fuzzy_why: {TAKES}",
-    "fuzzy_why(1.5, 'friday')": f"fuzzy_why: {TAKES}",
-    "fuzzy_why('fuzzy_find_zone', x'00')": f"fuzzy_why: {TAKES}",
-    "fuzzy_why('fuzzy_find_zone', 'zones', 'UTC')": "fuzzy_find_zone: bundle must be BLOB, not TEXT",
+    "fuzzy_why()": "fuzzy_why: takes the arguments of the call that gave NULL",
+    "fuzzy_why(1.5, 'friday')": "fuzzy_why: takes the arguments of the call that gave NULL",
     "fuzzy_why(1, 'friday', 5)": "fuzzy_read: now must be TEXT, not INTEGER",
     "fuzzy_read(1, 'friday')": "wrong number of arguments to function fuzzy_read()",
     "moment FROM fuzzy_occurrences": "fuzzy_occurrences: takes a rule, a start and, where not all are wanted, how many at most",
@@ -95,11 +84,6 @@ WRONG = {
     "moment FROM fuzzy_occurrences('FREQ=DAILY', 5)": "fuzzy_occurrences: start must be TEXT, not INTEGER",
     "moment FROM fuzzy_occurrences('FREQ=DAILY', '2026-02-10 09:30:00', 'x')": "fuzzy_occurrences: most must be INTEGER, not TEXT",
     "moment FROM fuzzy_occurrences('FREQ=DAILY', '2026-02-10 09:30:00', -1)": "fuzzy_occurrences: most must be 0 or more, not -1",
-    "word FROM fuzzy_complete": "fuzzy_complete: takes a reading and the beginning of a word",
-    "word FROM fuzzy_complete(1)": "fuzzy_complete: takes a reading and the beginning of a word",
-    "word FROM fuzzy_complete('1', 'fri')": "fuzzy_complete: reading must be INTEGER, not TEXT",
-    "word FROM fuzzy_complete(1, x'66')": "fuzzy_complete: prefix must be TEXT, not BLOB",
-    "word FROM fuzzy_complete(1, 'fri', 2)": "too many arguments on fuzzy_complete() - max 2",
 }
 
 
@@ -133,14 +117,11 @@ def test_places():
         CREATE INDEX reminder_monday ON reminder(fuzzy_run(ready, '2026-02-16 00:00:00'));
         CREATE VIEW february AS SELECT phrase FROM reminder WHERE due < '2026-03-01' ORDER BY due;
         CREATE VIEW tuesdays AS SELECT moment FROM fuzzy_occurrences('FREQ=WEEKLY', '2026-02-10 09:30:00', 3);
-        CREATE VIEW words AS SELECT word FROM fuzzy_complete(1, 'fri');
-        CREATE INDEX reminder_pinned ON reminder(fuzzy_pin(due));
         INSERT INTO reminder(phrase, now) VALUES ('next friday', '2026-02-11 09:30:15'), ('tomorrow at noon', '2026-02-11 09:30:15'),
             ('tuesday in two weeks', '2026-02-11 09:30:15');
     """)
     assert [row[0] for row in connection.execute("SELECT phrase FROM february")] == ["tomorrow at noon", "next friday"]
     assert connection.execute("SELECT count(*) FROM tuesdays").fetchone() == (3,)
-    assert connection.execute("SELECT word FROM words").fetchall() == [("friday",)]
     monday = "FROM reminder WHERE fuzzy_run(ready, '2026-02-16 00:00:00') = '2026-02-17 12:00:00'"
     assert connection.execute(f"SELECT phrase {monday}").fetchall() == [("tomorrow at noon",)]
     plan = connection.execute(f"EXPLAIN QUERY PLAN SELECT phrase {monday}").fetchall()
@@ -162,15 +143,11 @@ def test_wide_text():
         INSERT INTO reminder VALUES ('next friday at 3 pm', '2026-02-11 09:30:15'), ('x é', '2026-02-11 09:30:15');
         CREATE TABLE rule(rule TEXT, start TEXT);
         INSERT INTO rule VALUES ('FREQ=DAILY', '2026-02-10 09:30:00');
-        CREATE TABLE typed(prefix TEXT);
-        INSERT INTO typed VALUES ('Thur'), ('é'), ('x');
     """)
     rows = connection.execute("SELECT fuzzy_read(1, phrase, now), substr(fuzzy_why(1, phrase, now), -5) FROM reminder").fetchall()
     assert rows == [("2026-02-20 15:00:00", None), (None, "x é\n^")], rows
     moments = connection.execute("SELECT moment, o.rule FROM rule r, fuzzy_occurrences(r.rule, r.start, 2) o").fetchall()
     assert moments == [("2026-02-10 09:30:00", "FREQ=DAILY"), ("2026-02-11 09:30:00", "FREQ=DAILY")], moments
-    words = connection.execute("SELECT t.prefix, word FROM typed t, fuzzy_complete(1, t.prefix)").fetchall()
-    assert words == [("Thur", "thursday")], words
     return "UTF-16"
 
 
@@ -233,15 +210,12 @@ def test_any_bytes():
     return f"{len(rows)} phrases, {compare(opened(), rows)} moments, no difference"
 
 
-LAST = int(datetime.datetime(9998, 12, 31, 23, 59, 59, tzinfo=datetime.timezone.utc).timestamp())
-
-
-def zone_of(offset, times=(LAST,)):
-    """A zone's file with one offset and, by itself, one transition: the last second of 9998."""
+def zone_of(offset):
+    """A zone's file with one offset, known up to the last second of 9998."""
+    last = int(datetime.datetime(9998, 12, 31, 23, 59, 59, tzinfo=datetime.timezone.utc).timestamp())
     header = b"TZif2" + bytes(15)
     empty = header + struct.pack(">6L", 0, 0, 0, 0, 1, 1) + struct.pack(">lBB", 0, 0, 0) + b"\0"
-    counts, rows = struct.pack(">6L", 0, 0, 0, len(times), 1, 4), struct.pack(f">{len(times)}q", *times) + bytes(len(times))
-    return empty + header + counts + rows + struct.pack(">lBB", offset, 0, 0) + b"ZON\0\n\n"
+    return empty + header + struct.pack(">6L", 0, 0, 0, 1, 1, 4) + struct.pack(">qBlBB", last, 0, offset, 0, 0) + b"ZON\0\n\n"
 
 
 def test_instants():
@@ -265,49 +239,6 @@ def test_instants():
         "refused 12 (OUTSIDE): outside the years 1 to 9999",
     )
     return "20000 instants"
-
-
-def test_ends():
-    """Until when a file is good: its last transition, whatever its offset; refused with 22 where it has none."""
-    connection, query = opened(), "SELECT fuzzy_zone_until(zone), fuzzy_why(zone) FROM (SELECT ? AS zone)"
-    before = -62_167_219_200 - 1
-    for offset, times, row in (
-        (0, (LAST,), ("9998-12-31 23:59:59", None)),
-        (-3600, (0, 1), ("1970-01-01 00:00:01", None)),
-        (0, (-1,), ("1969-12-31 23:59:59", None)),
-        (0, (), (None, "refused 22 (PAST_LAST): later than the zone's file knows")),
-        (0, (before,), (None, "refused 12 (OUTSIDE): outside the years 1 to 9999")),
-        (0, (1, 1), (None, "refused 21 (NO_ZONE): not a zone file that is accepted")),
-    ):
-        assert connection.execute(query, [zone_of(offset, times)]).fetchone() == row, (offset, times)
-    return "6 files"
-
-
-def test_pins():
-    """A pinned moment, run at any now."""
-    connection, generator = opened(), random.Random(52)
-    days = (datetime.date.max - datetime.date.min).days + 1
-
-    def moment():
-        return datetime.datetime.min + datetime.timedelta(days=generator.randrange(days), milliseconds=generator.randrange(86_400_000))
-
-    for _ in range(20_000):
-        pinned, now = moment_text(moment()), moment_text(moment())
-        assert connection.execute("SELECT fuzzy_run(fuzzy_pin(?), ?)", (pinned, now)).fetchone() == (pinned,), (pinned, now)
-    return "20000 moments"
-
-
-def test_words():
-    """The words that begin with each beginning of each word, in either case, and with some that none has, beside the model's."""
-    connection, asked = opened(), 0
-    for reading in (model.FIRST, model.SECOND):
-        words = sorted(model.WORDS[reading])
-        for prefix in {word[:k] + more for word in words for k in range(len(word) + 1) for more in ("", "q", "\0", "é")}:
-            for spelt in (prefix, prefix.upper()):
-                rows = connection.execute("SELECT word FROM fuzzy_complete(?, ?)", (reading, spelt)).fetchall()
-                assert rows == [(word,) for word in words if word.startswith(prefix)], (reading, spelt, rows)
-                asked += 1
-    return f"{asked} prefixes, no difference"
 
 
 def test_occurrences():

@@ -1,5 +1,5 @@
 // Every function with good, damaged and empty input, each refusal that can arise here, and all of it in eight threads:
-// every FUZZY_H ZONE BUNDLE VERSION.
+// every FUZZY_H ZONE VERSION.
 import CFuzzydate
 import Dispatch
 import Foundation
@@ -275,72 +275,6 @@ func wordsAndPhrases() throws {
     _ = refusal(.leftOver, "a phrase of the year 26 in the second reading") { try Fuzzydate.read(.second, phrase, now: now) }
 }
 
-/// The words that begin with a prefix, each a known one, in order; all of them by the empty prefix.
-func completions() throws {
-    let cases: [(Reading, String, [String])] = [
-        (.first, "frid", ["friday"]), (.second, "FRIDAY", ["friday"]), (.first, "forti", []), (.second, "Fort", ["fortieth", "forty"]),
-        (.first, "fridays", []), (.first, "riday", []), (.second, "fri\u{e9}", []), (.second, "tom", ["tomorrow"]),
-        (.first, String(repeating: "x", count: 300), []),
-    ]
-    for (reading, prefix, wanted) in cases {
-        expect(try Fuzzydate.complete(reading, prefix) == wanted, prefix)
-        expect(try Fuzzydate.complete(reading, Array(prefix.utf8)) == wanted, prefix + ", as bytes")
-    }
-    for (reading, count) in [(Reading.first, 133), (.second, 136)] {
-        let listed = try Fuzzydate.complete(reading, "")
-        expect(listed.count == count && listed == Set(listed).sorted(), "all words")
-        for word in listed {
-            expect(try Fuzzydate.findWord(reading, word).code != nil, word)
-            for end in 1...word.count {
-                let begun = String(word.prefix(end))
-                expect(try Fuzzydate.complete(reading, begun.uppercased()) == listed.filter { $0.hasPrefix(begun) }, begun)
-            }
-        }
-    }
-}
-
-/// The word and the count are written on success, and nothing on a refusal: 15, then 27, then 17.
-func completionBuffers() {
-    let cases: [(UInt32, UInt32, UInt64, UInt32)] = [
-        (1, 0, 11, 0), (1, 0, 6, 0), (1, 0, 5, 17), (1, 1, 0, 27), (1, .max, 11, 27), (0, 9, 0, 15), (3, 0, 11, 15),
-    ]
-    for (reading, which, room, refused) in cases {
-        var word = [CChar](repeating: 7, count: 12), count: UInt32 = 0xa5
-        let answer = characters(Array("frid".utf8)) { fuzzy_complete(reading, $0, $1, which, &count, &word, room) }
-        expect(fuzzy_number(answer) == refused && fuzzy_length(answer) == (refused == 0 ? 6 : 0), "\(which) of frid: \(answer)")
-        let written = "friday".utf8.map { CChar($0) } + [CChar](repeating: 7, count: 6)
-        expect(word == (refused == 0 ? written : [CChar](repeating: 7, count: 12)), "the buffer of frid")
-        expect(count == (refused == 0 ? 1 : 0xa5), "the count of frid")
-    }
-}
-
-/// The bytes of a pinned moment: the day from 1 January of year 1 on, and the millisecond of the day.
-func pinnedBytes(_ day: UInt32, _ millisecond: UInt32, kind: UInt32 = 12, rest: UInt32 = 0) -> [UInt8] {
-    [kind, day, millisecond, rest].flatMap { number in (0..<4).map { UInt8(truncatingIfNeeded: number >> (8 * $0)) } }
-}
-
-/// A pinned moment is itself at every now.
-func pins() throws {
-    let first = Moment(year: 1, month: 1, day: 1)
-    let final = Moment(year: 9999, month: 12, day: 31, hour: 23, minute: 59, second: 59, millisecond: 999)
-    let cases: [(Moment, UInt32, UInt32)] = [(now, 739_657, 34_215_250), (first, 0, 0), (final, 3_652_058, 86_399_999)]
-    for (moment, day, millisecond) in cases {
-        let ready = try Fuzzydate.pin(moment)
-        expect(ready == pinnedBytes(day, millisecond), "\(moment) pinned")
-        for other in [now, leapDay, first, final] {
-            expect(try Fuzzydate.run(ready, now: other) == moment, "\(moment) at \(other)")
-        }
-        _ = refusal(.noSense, "a pinned moment cut short") { try Fuzzydate.run(Array(ready.dropLast()), now: now) }
-    }
-    for ready in [pinnedBytes(0, 0, kind: 268), pinnedBytes(0, 0, kind: 13), pinnedBytes(0, 0, rest: 1)] {
-        _ = refusal(.noSense, "\(ready)") { try Fuzzydate.run(ready, now: now) }
-    }
-    for day: UInt32 in [3_652_059, .max] {
-        _ = refusal(.outside, "day \(day)") { try Fuzzydate.run(pinnedBytes(day, 0), now: now) }
-    }
-    _ = refusal(.invalidMoment, "30 February pinned") { try Fuzzydate.pin(noDay) }
-}
-
 /// A moment of 09:30:15 and so many milliseconds.
 func on(_ year: UInt32, _ month: UInt32, _ day: UInt32, _ millisecond: UInt32 = 250) -> Moment {
     Moment(year: year, month: month, day: day, hour: 9, minute: 30, second: 15, millisecond: millisecond)
@@ -436,9 +370,6 @@ func longest() throws {
 /// The bytes of bindings/zones/New_York.
 let newYork = [UInt8](FileManager.default.contents(atPath: CommandLine.arguments[2])!)
 
-/// The bytes of bindings/zones/sample.bundle.
-let bundle = [UInt8](FileManager.default.contents(atPath: CommandLine.arguments[3])!)
-
 /// 01:30:00 on 8 March 2026 in New York, half an hour before clocks go forward; the last transition of the file.
 let beforeGap = Instant(second: 1_772_951_400, millisecond: 250)
 let last = Instant(second: 1_805_007_600, millisecond: 0)
@@ -470,9 +401,6 @@ func zones() throws {
             expect(local.moment == wanted && local.offset == offset, phrase + ": \(local)")
         }
     }
-    let twice = Moment(year: 2026, month: 11, day: 1, hour: 1, minute: 30, millisecond: 250)
-    let pinned = try Fuzzydate.runInZone(Fuzzydate.pin(twice), zone: newYork, now: beforeGap)
-    expect(pinned.moment == twice && pinned.instant == Instant(second: 1_793_511_000, millisecond: 250), "pinned: \(pinned)")
 }
 
 /// A phrase that both calls refuse alike.
@@ -501,10 +429,6 @@ func refusedInZones() {
     for (reason, phrase, now) in cases {
         undue(reason, phrase, newYork, now)
         undue(.noZone, phrase, [], now)
-    }
-    let skipped = Moment(year: 2026, month: 3, day: 8, hour: 2, minute: 30), late = Moment(year: 2028, month: 1, day: 1)
-    for (reason, moment) in [(.noInstant, skipped), (.pastLast, late)] as [(Reason, Moment)] {
-        _ = refusal(reason, "\(moment) pinned") { try Fuzzydate.runInZone(Fuzzydate.pin(moment), zone: newYork, now: beforeGap) }
     }
     let unknown = refusal(.unknown, "a word before the zone") { try Fuzzydate.readInZone(.first, "next forty", zone: [], now: last) }
     expect(unknown.place == 5 && unknown.part == Array("forty".utf8), "a word before the zone")
@@ -551,100 +475,6 @@ func buffersInZones() throws {
         expect(fuzzy_number(read) == number && fuzzy_number(run) == number, "a refusal in a zone")
         expect(due == 0xa5 && local.west == 0xa5 && local.moment.day == 10, "nothing written for what is refused in a zone")
     }
-}
-
-/// A number of four bytes of the bundle, which has the highest byte first.
-func number(at place: Int) -> Int {
-    bundle[place..<place + 4].reduce(0) { 256 * $0 + Int($1) }
-}
-
-/// The names of the bundle and their files, by its index.
-func named() -> [(String, [UInt8])] {
-    (0..<number(at: 64)).map { row in
-        let entry = 68 + 48 * row, place = number(at: entry + 40)
-        let name = String(decoding: bundle[entry..<entry + 40].prefix { $0 != 0 }, as: UTF8.self)
-        return (name, Array(bundle[place..<place + number(at: entry + 44)]))
-    }
-}
-
-func bundles() throws {
-    let files = named()
-    expect(files.count > 4 && files.contains { $0.0 == "America/New_York" }, "the names of the bundle")
-    for (name, file) in files {
-        for text in [name, name.uppercased(), name.lowercased()] {
-            expect(try Fuzzydate.findZone(text, in: bundle) == file, text)
-            expect(try Fuzzydate.findZone(Array(text.utf8), in: bundle) == file, text + ", as bytes")
-        }
-        for other in [String(name.dropLast()), name + "x", "x" + name] where !files.contains(where: { $0.0 == other }) {
-            expect(refusal(.unknownZone, other) { try Fuzzydate.findZone(other, in: bundle) }.text == Array(other.utf8), other)
-        }
-    }
-    for name in ["", "New_York", "America/", "\u{e9}", String(repeating: "x", count: 40), String(repeating: "x", count: 1000)] {
-        _ = refusal(.unknownZone, name) { try Fuzzydate.findZone(name, in: bundle) }
-    }
-    for bytes in [[], newYork, [UInt8](repeating: 0, count: 400), Array(bundle.dropFirst()), Array(bundle.prefix(63))] {
-        _ = refusal(.noBundle, "\(bytes.count) bytes") { try Fuzzydate.findZone("America/New_York", in: bytes) }
-    }
-    var place: [UInt64] = [0xa5, 0xa5]
-    let answer = characters([]) { fuzzy_find_zone(bundle, UInt64(bundle.count), $0, $1, &place) }
-    expect(fuzzy_number(answer) == Reason.unknownZone.number && place == [0xa5, 0xa5], "nothing written for a name that is not there")
-}
-
-/// A TZif file in which the clocks show UTC throughout, and change at these seconds.
-func zoneFile(_ seconds: [Int64]) -> [UInt8] {
-    func header(_ count: UInt8) -> [UInt8] {
-        Array("TZif2".utf8) + [UInt8](repeating: 0, count: 15) + [0, 0, 0, count, 1, 4].flatMap { [0, 0, 0, $0] }
-    }
-    let times: [UInt8] = seconds.flatMap { second in (0..<8).map { UInt8(truncatingIfNeeded: second >> (56 - 8 * $0)) } }
-    let types = [UInt8](repeating: 0, count: seconds.count), kind = [UInt8](repeating: 0, count: 6) + Array("UTC\0".utf8)
-    let parts: [[UInt8]] = [header(0), kind, header(UInt8(seconds.count)), times, types, kind, [10, 10]]
-    return Array(parts.joined())
-}
-
-/// From the end of a file on every now is refused, and just before it none.
-func endsOfZones() throws {
-    expect(try Fuzzydate.zoneUntil(newYork) == last, "the end of New York's file")
-    for (name, file) in named() {
-        let until = try Fuzzydate.zoneUntil(file), before = Instant(second: until.second - 1, millisecond: 999)
-        expect(try due(.first, "now", file, before).instant == before, name)
-        undue(.pastLast, "now", file, until)
-    }
-    for second: Int64 in [0, -62_104_060_800, 253_370_764_799, .min, -(1 << 59)] {
-        expect(try Fuzzydate.zoneUntil(zoneFile([second])) == Instant(second: second, millisecond: 0), "\(second)")
-    }
-    _ = refusal(.pastLast, "a file without a transition") { try Fuzzydate.zoneUntil(zoneFile([])) }
-    for bytes in [[], Array(newYork.dropFirst()), [UInt8](repeating: 0, count: 70_000), bundle] {
-        _ = refusal(.noZone, "\(bytes.count) bytes") { try Fuzzydate.zoneUntil(bytes) }
-    }
-}
-
-/// Adding what is ready is adding its phrase; what is pinned does not move; a slot's moment is what running gives.
-func pinnedBoards() throws {
-    var one = try Board(now: now), other = one
-    for phrase in ["next friday", "an hour from now", "noon", "a year from now", "this month"] {
-        expect(try other.addReady(Fuzzydate.makeReady(.second, phrase)) == one.add(.second, phrase), phrase)
-    }
-    expect(one.ready == other.ready && one.lengths == other.lengths && one.keys == other.keys && one.state == other.state, "two boards")
-    let later = try Fuzzydate.read(.second, "an hour from now", now: now), pinned = try Fuzzydate.pin(later)
-    expect(try one.addReady(pinned) == 5 && one.moment(1) == later && one.moment(5) == later, "a pinned reminder")
-    try one.again(now: Moment(year: 2026, month: 2, day: 12))
-    expect(try one.moment(1) == Moment(year: 2026, month: 2, day: 12, hour: 1) && one.moment(5) == later, "a reminder that moved")
-    expect(try one.head() == Due(slot: 5, moment: later), "a pinned head")
-    _ = left(&one, .noSense) { try $0.moment(4) }
-    try one.again(now: leapDay)
-    _ = left(&one, .noLeapDay) { try $0.moment(3) }
-    for slot: UInt32 in [6, 255, 256, UInt32.max] {
-        _ = left(&one, .emptySlot) { try $0.moment(slot) }
-    }
-    for ready in [[], [UInt8](repeating: 0, count: 16), Array(pinned.dropLast()), [UInt8](repeating: 12, count: 400)] {
-        _ = left(&one, .noSense) { try $0.addReady(ready) }
-    }
-    for slot: UInt32 in 6..<256 {
-        expect(try one.addReady(pinned) == slot, "a board filled")
-    }
-    _ = left(&one, .fullBoard) { try $0.addReady(pinned) }
-    _ = left(&one, .noSense) { try $0.addReady(Array(pinned.dropLast())) }
-    expect(try one.moment(255) == later, "a slot of a full board")
 }
 
 func boards() throws {
@@ -723,7 +553,6 @@ func anyMemory() throws {
     answers(.nothingDue) { _ = try board.head() }
     answers(.emptySlot) { try board.remove(UInt32.random(in: 0...257)) }
     answers(.fullBoard) { _ = try board.add(.first, "noon") }
-    answers(.fullBoard) { _ = try board.addReady(Fuzzydate.pin(now)) }
     expect(board.order().allSatisfy { $0 < 256 }, "an order of any memory")
     try board.again(now: now)
     answers(.nothingDue) { _ = try board.head() }
@@ -735,8 +564,6 @@ func garbage() throws {
         undue(.noZone, "now", bytes, beforeGap)
         _ = refusal(.noSense, "random bytes as a ready phrase in a zone") { try Fuzzydate.runInZone(bytes, zone: newYork, now: beforeGap) }
         _ = refusal(.noSense, "random bytes as a ready phrase") { try Fuzzydate.run(bytes, now: now) }
-        _ = refusal(.noZone, "random bytes as a zone") { try Fuzzydate.zoneUntil(bytes) }
-        _ = refusal(.noBundle, "random bytes as a bundle") { try Fuzzydate.findZone(bytes, in: bytes) }
         _ = refusal(.noStamp, "random bytes as a stamp") { try Fuzzydate.readStamp(bytes) }
         unlisted(bytes, tuesday, .noRule)
         expect(try Fuzzydate.findWord(.second, bytes).comparisons <= 8, "comparisons")
@@ -745,14 +572,14 @@ func garbage() throws {
 
 /// The version of the binding is that of the repository, and the library says the same of itself.
 func versions() throws {
-    let version = try String(contentsOfFile: CommandLine.arguments[4], encoding: .utf8).trimmingCharacters(in: .newlines)
+    let version = try String(contentsOfFile: CommandLine.arguments[3], encoding: .utf8).trimmingCharacters(in: .newlines)
     expect(Fuzzydate.version == version && Fuzzydate.libraryVersion == version, "version \(version)")
     try Fuzzydate.checkVersion()
-    for library: UInt32 in [1_001_000, 1_001_007, 1_002_000, 1_999_000] {
+    for library: UInt32 in [1_000_000, 1_000_007, 1_999_000] {
         expect(Fuzzydate.versionError(of: library) == nil, "library \(library)")
     }
-    for (library, said) in [(1_000_999, "1.0.999"), (999_999, "0.999.999"), (2_000_000, "2.0.0"), (0, "0.0.0")] as [(UInt32, String)] {
-        let text = "fuzzydate 1.1.0 needs version 1.1.0 of its library or a later one of 1.*, and it is \(said)"
+    for (library, said) in [(999_999, "0.999.999"), (2_000_000, "2.0.0"), (0, "0.0.0")] as [(UInt32, String)] {
+        let text = "fuzzydate 1.0.0 needs version 1.0.0 of its library or a later one of 1.*, and it is \(said)"
         let error = Fuzzydate.versionError(of: library)!
         expect("\(error)" == text && error.localizedDescription == text, "\(error)")
     }
@@ -768,9 +595,6 @@ func every() throws {
     shown()
     try stamps()
     try wordsAndPhrases()
-    try completions()
-    completionBuffers()
-    try pins()
     try rules()
     refusedRules()
     rows()
@@ -778,10 +602,7 @@ func every() throws {
     refusedInZones()
     try zoneFiles()
     try buffersInZones()
-    try bundles()
-    try endsOfZones()
     try boards()
-    try pinnedBoards()
     try refusedBoards()
     try garbage()
     try anyMemory()

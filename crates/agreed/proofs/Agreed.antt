@@ -23,7 +23,7 @@ use Rattle.fuzzydate.specs.Called.{answer_in, ready_in, code_of, moment_after, f
 use Rattle.agreed.specs.Calls.{IsReading, first, second, MakeReady, Read, Run, number, size}
 use Rattle.agreed.specs.Calls.{Alike, Agree, Usual, Answered}
 use Rattle.agreed.specs.Calls.{FindWord, Counted, counted}
-use Rattle.agreed.proofs.AnyNow.{tells, Says, Makes, make_says, handed, not-zero, none_ready, Answering, alike, answered, agreed, reads_alike, no_reads}
+use Rattle.agreed.proofs.AnyNow.{tells, Says, Makes, make_says, handed, not-zero, none_ready, Answering, answered, agreed, reads_alike, no_reads}
 
 module _ {bytes : List ℕ} {n : Moment} {array : List ℕ} {k : ℕ} {array' : List ℕ} where
   pub read_says : (reading : ℕ) → Read reading bytes n array k array' → Says moment_after (answer_in reading bytes n) array k array'
@@ -48,12 +48,6 @@ at_offset =
       same = λ x a b. refl;
       stays = λ r a. refl;
     }
-
--- one answer, given in two calls
-pub answers_alike :
-    (w : Answer Moment) → ((r : Refusal) → w ≡ refused r → 1 ≤ r.number) → {phone phone' hub hub' : List ℕ} {q r : ℕ} →
-    Says moment_after w phone q phone' → Says moment_after w hub r hub' → Alike q phone phone' r hub hub'
-answers_alike = alike at_offset
 
 -- hub and phone
 pub agree : Agree Read Run

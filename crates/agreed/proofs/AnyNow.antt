@@ -86,7 +86,7 @@ pub record Answering {N L : Type 0} (A : Type 0) (Read : ℕ → List ℕ → N 
 
 module _ {N L A : Type 0} {Read : ℕ → List ℕ → N → L → ℕ → L → Type 0} {Run : List ℕ → N → L → ℕ → L → Type 0} (d : Answering A Read Run) where
   -- one answer, given in two calls
-  pub alike :
+  alike :
       (w : Answer A) → ((r : Refusal) → w ≡ refused r → 1 ≤ r.number) → {phone phone' hub hub' : L} {q r : ℕ} →
       Says d.after w phone q phone' → Says d.after w hub r hub' → Alike q phone phone' r hub hub'
   alike (given x) some c e =

@@ -17,14 +17,13 @@ use Rattle.lexer.specs.declared.reading.Reading.{Reading}
 use Rattle.answer.specs.Answer.{answer_of}
 use Rattle.ready.specs.Ready.{ReadyPhrase, ready_of}
 use Rattle.steps.specs.declared.plan.Step.{Step}
-use Rattle.board.specs.Boards.{Memory, memory, Done, done, memory_after, state_of, is_filled, removed, order_at, make_of, add_of, add_ready_of, remove_of, again_of}
+use Rattle.board.specs.Boards.{Memory, memory, Done, done, memory_after, state_of, is_filled, removed, order_at, make_of, add_of, remove_of, again_of}
 use Rattle.board.specs.Scans.{IsBoard, Put}
-use Rattle.board.proofs.Kept.{make_empties, again_moves, remove_takes, add-puts, add-full, AddedReady, is_on, no_list, none_free, added_ready}
+use Rattle.board.proofs.Kept.{make_empties, again_moves, remove_takes, add-puts, add-full}
 use Rattle.fuzzydate.specs.Called.{reading_of, answer_in, code_of, added_code}
 use Rattle.agreed.specs.Calls.{size}
 use Rattle.agreed.specs.Boards.{Make, Add, Remove, Again, Made, Makes, empty, unmade, Adds, put, full, unready, Removes, out, nothing, Moves, moved, unmoved}
-use Rattle.agreed.specs.Boards.{AddReady, AddsReady, ready_put, not-ready, ready_full}
-use Rattle.agreed.proofs.BoardKept.{make_says, add-says, add-ready_says, remove_says, again_says, made_board}
+use Rattle.agreed.proofs.BoardKept.{make_says, add-says, remove_says, again_says, made_board}
 
 -- "A board is made empty at a valid now, else 8."
 pub make_makes : {n : Moment} {m m' : Memory} {k : ℕ} → Make n m k m' → Makes n m k m'
@@ -56,9 +55,9 @@ unfolding remove_of
 remove_removes {s} {m} {m'} {k} made c = go (ltb s 256 && is_filled m s) refl (remove_says c)
   where
     go : (b : Bool) → (ltb s 256 && is_filled m s) ≡ b →
-        let w = cond b (done 0 (removed m s)) (refuse EmptySlot 0 0) in
+        let w = cond b (done s (removed m s)) (refuse EmptySlot 0 0) in
         (k ≡ code_of w) × (m' ≡ memory_after m w) → Removes s m k m'
-    go true e says = rw (says.0, says.1) (out {m' = removed m s} (remove_takes m s {d = record { number = 0; after = removed m s }} (made_board made).sized (rw e)))
+    go true e says = rw (says.0, says.1) (out {m' = removed m s} (remove_takes m s {d = record { number = s; after = removed m s }} (made_board made).sized (rw e)))
     go false e says = rw (says.0, says.1) (nothing (λ h. rw (lt-ltb s 256 h) at e))
 
 module _ {reading : ℕ} {phrase : List ℕ} {m m' : Memory} {k : ℕ} (board : IsBoard m) where
@@ -101,14 +100,3 @@ module _ {reading : ℕ} {phrase : List ℕ} {m m' : Memory} {k : ℕ} (board : 
 -- "A removed slot is used again, lowest first"; "24 for a full board, after a phrase's own 1 to 7"
 pub add-adds : {reading : ℕ} {phrase : List ℕ} {m m' : Memory} {k : ℕ} → Made m → Add reading phrase m k m' → Adds reading phrase m k m'
 add-adds {reading} made c = adds_by (made_board made) (reading_of reading) refl (add-says c)
-
--- "ready bytes as they are stored and sent, refused 9 where they are no list of steps, then 24"
-pub add-ready_adds : {ready : List ℕ} {m m' : Memory} {k : ℕ} → Made m → AddReady ready m k m' → AddsReady ready m k m'
-add-ready_adds {ready} {m} {m'} {k} made c = go (add_ready_of m ready) (added_ready m ready (made_board made)) (add-ready_says c)
-  where
-    go : (w : Answer Done) → AddedReady m ready w → (k ≡ added_code w) × (m' ≡ memory_after m w) → AddsReady ready m k m'
-    go (given d) (is_on board there) says =
-        let slot : d.number ≡ size k = omega (arith, says.0) in
-        ready_put {k = k} {m' = m'} (omega (arith, says.0)) (rw (says.1, ← slot) there)
-    go (refused r) (no_list none) says = rw (says.0, says.1) (not-ready none)
-    go (refused r) (none_free list filled) says = rw (says.0, says.1) (ready_full list filled)

@@ -21,20 +21,17 @@ use Rattle.fuzzydate.specs.Called.{answer_in, head_code, head_after}
 use Rattle.fuzzydate.proofs.Readings.{made_in}
 use Rattle.agreed.specs.Calls.{Read, number, size}
 use Rattle.agreed.specs.Boards.{Add, Makes, empty, unmade, Adds, put, full, unready, Removes, out, nothing, Moves, moved, unmoved}
-use Rattle.agreed.specs.Boards.{Made, new, then, by_make, by_add, by_add_ready, by_remove, by_again, Head}
-use Rattle.agreed.specs.Boards.{AddsReady, ready_put, not-ready, ready_full, added_ready, ready_there, runs}
+use Rattle.agreed.specs.Boards.{Made, new, then, by_make, by_add, by_remove, by_again, Head}
 use Rattle.agreed.specs.Boards.{Known, nothing_there, added, changed_at, Followed, begun, made_again, put_there, taken_out, run_again, left_alone, IsFirst, reads}
-use Rattle.agreed.proofs.Agreed.{read_says, run_says}
+use Rattle.agreed.proofs.Agreed.{read_says}
 use Rattle.agreed.proofs.BoardKept.{refused_leaves, head_scanned}
-use Rattle.agreed.proofs.BoardCalls.{make_makes, add-adds, add-ready_adds, remove_removes, again_moves_all}
+use Rattle.agreed.proofs.BoardCalls.{make_makes, add-adds, remove_removes, again_moves_all}
 
 -- what an app knows of a slot is so
-pub data Holds (m : Memory) (s : ℕ) : Known → Type 0 where
+data Holds (m : Memory) (s : ℕ) : Known → Type 0 where
   free : is_filled m s ≡ false → Holds m s nothing_there
   gives : {reading : ℕ} {phrase : List ℕ} → is_filled m s ≡ true → ((n : Moment) → placed (outcome_at m n s) ≡ answer_in reading phrase n) →
       Holds m s (added reading phrase)
-  runs_there : {ready : List ℕ} → is_filled m s ≡ true → ((n : Moment) → placed (outcome_at m n s) ≡ placed (run_of (decode_of ready) n)) →
-      Holds m s (added_ready ready)
 
 -- a slot that holds the same bytes in another memory
 same_there :
@@ -42,7 +39,6 @@ same_there :
     Holds m s x → Holds m' s x
 same_there e f (free h) = free (e ∙ h)
 same_there e f (gives h g) = gives (e ∙ h) (λ n. ap placed (f n) ∙ g n)
-same_there e f (runs_there h g) = runs_there (e ∙ h) (λ n. ap placed (f n) ∙ g n)
 
 -- a slot beside the one that a call changed
 other_there : {m m' : Memory} {s i : ℕ} {x : Known} → Others m m' s → (i ≡ s → ⊥) → Holds m i x → Holds m' i x
@@ -73,13 +69,6 @@ added_there {reading} {phrase} (unready {r} e) w all =
     let bounds = refusal_holds (made_in reading phrase) e in
     absurd (omega (arith, w))
 
-ready_added_there :
-    {ready : List ℕ} {known : ℕ → Known} {m m' : Memory} {k : ℕ} → AddsReady ready m k m' → number k ≡ 0 →
-    ((i : ℕ) → Holds m i (known i)) → (i : ℕ) → Holds m' i (changed_at (size k) (added_ready ready) known i)
-ready_added_there (ready_put z p) w all = all_there p.others (runs_there p.filled p.gives) all
-ready_added_there (not-ready e) w all = absurd (omega (arith, w))
-ready_added_there (ready_full e f) w all = absurd (omega (arith, w))
-
 out_there :
     {known : ℕ → Known} {s : ℕ} {m m' : Memory} {k : ℕ} → Removes s m k m' → k ≡ 0 → ((i : ℕ) → Holds m i (known i)) →
     (i : ℕ) → Holds m' i (changed_at s nothing_there known i)
@@ -96,17 +85,15 @@ pub followed_made : {known : ℕ → Known} {m : Memory} → Followed known m �
 followed_made (begun sized c) = new sized c
 followed_made (made_again f c) = then (followed_made f) (by_make c)
 followed_made (put_there f c z) = then (followed_made f) (by_add c)
-followed_made (ready_there f c z) = then (followed_made f) (by_add_ready c)
 followed_made (taken_out f c) = then (followed_made f) (by_remove c)
 followed_made (run_again f c) = then (followed_made f) (by_again c)
 followed_made (left_alone f c other) = then (followed_made f) c
 
 -- what an app knows of a board's slots is so
-pub followed_holds : {known : ℕ → Known} {m : Memory} → Followed known m → (s : ℕ) → Holds m s (known s)
+followed_holds : {known : ℕ → Known} {m : Memory} → Followed known m → (s : ℕ) → Holds m s (known s)
 followed_holds (begun sized c) = made_there (make_makes c) refl
 followed_holds (made_again f c) = made_there (make_makes c) refl
 followed_holds (put_there f c z) = added_there (add-adds (followed_made f) c) z (followed_holds f)
-followed_holds (ready_there f c z) = ready_added_there (add-ready_adds (followed_made f) c) z (followed_holds f)
 followed_holds (taken_out f c) = out_there (remove_removes (followed_made f) c) refl (followed_holds f)
 followed_holds (run_again f c) = moved_there (again_moves_all c) refl (followed_holds f)
 followed_holds (left_alone {known} f c other) =
@@ -145,10 +132,6 @@ module _ (m : Memory) where
   first_there {s} {t} h e array (gives {reading} {phrase} f g) =
       reads {phrase = phrase} (λ hub hub' r c.
       let says = rw (sym (ap placed (sym e) ∙ g (moment_in m.state))) at (read_says reading c) in
-      (says.number_is, says.array'_is))
-  first_there {s} {t} h e array (runs_there {ready} f g) =
-      runs {ready = ready} (λ hub hub' r c.
-      let says = rw (sym (ap placed (sym e) ∙ g (moment_in m.state))) at (run_says c) in
       (says.number_is, says.array'_is))
 
 -- "Moments are those of demand 2 at the board's now": whatever the head may answer with number 0 is a slot and what `fuzzy_read` gives at the

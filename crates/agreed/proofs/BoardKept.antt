@@ -18,16 +18,16 @@ use Rattle.lexer.specs.Keywords.{words_in}
 use Rattle.lexer.specs.declared.reading.Reading.{Reading}
 use Rattle.numbers.specs.Slices.{one_if}
 use Rattle.ready.specs.Ready.{ReadyPhrase, ready_of}
-use Rattle.board.specs.Boards.{Memory, memory, Done, done, memory_after, row_in, state_of, is_filled, make_of, add_of, add_ready_of, remove_of, again_of, head_of, order_of}
+use Rattle.board.specs.Boards.{Memory, memory, Done, done, memory_after, row_in, state_of, is_filled, make_of, add_of, remove_of, again_of, head_of, order_of}
 use Rattle.board.specs.Rows.{slot_of}
 use Rattle.board.specs.Scans.{Sized, IsBoard, scan_of, times_in, Before}
 use Rattle.board.proofs.Heads.{head_scan}
-use Rattle.board.proofs.Kept.{make_keeps, again_keeps, remove_keeps, add-keeps, order_once, AddedReady, is_on, no_list, none_free, added_ready}
+use Rattle.board.proofs.Kept.{make_keeps, again_keeps, remove_keeps, add-keeps, order_once}
 use Rattle.board.proofs.InOrder.{order_before}
 use Rattle.fuzzydate.specs.Called.{reading_of, ready_in, code_of, added_code, head_code, head_after}
 use Rattle.fuzzydate.proofs.BoardNumbers.{order_few}
 use Rattle.agreed.specs.Calls.{number, size}
-use Rattle.agreed.specs.Boards.{Make, Add, AddReady, Remove, Again, Changed, by_make, by_add, by_add_ready, by_remove, by_again, Made, new, then, Head, Order}
+use Rattle.agreed.specs.Boards.{Make, Add, Remove, Again, Changed, by_make, by_add, by_remove, by_again, Made, new, then, Head, Order}
 use Rattle.agreed.proofs.AnyNow.{Tells, tells}
 
 -- a call answers and leaves what a definition says of the memory before it
@@ -45,13 +45,6 @@ pub add-says : {reading : ℕ} {phrase : List ℕ} {m m' : Memory} {k : ℕ} →
 add-says c =
     let s =
     tells added_code (λ w l. memory_after l w) (λ g l. add_of l (ready_in g.0 g.1))
-    (λ κs a e k g l h p. record { number_is = p.0; array'_is = p.1 }) c in
-    (s.number_is, s.array'_is)
-
-pub add-ready_says : {ready : List ℕ} {m m' : Memory} {k : ℕ} → AddReady ready m k m' → Says added_code (λ x. add_ready_of x ready) m k m'
-add-ready_says c =
-    let s =
-    tells added_code (λ w l. memory_after l w) (λ g l. add_ready_of l g)
     (λ κs a e k g l h p. record { number_is = p.0; array'_is = p.1 }) c in
     (s.number_is, s.array'_is)
 
@@ -85,7 +78,6 @@ pub refused_leaves : {m m' : Memory} {k : ℕ} → Changed m k m' → (number k 
 refused_leaves {m} (by_make {n} c) other = leaves code_of (λ d. refl) (make_of m n) (make_says c) other
 refused_leaves {m} (by_add {reading} {phrase} c) other =
     leaves added_code (λ d. omega arith) (add_of m (ready_in reading phrase)) (add-says c) other
-refused_leaves {m} (by_add_ready {ready} c) other = leaves added_code (λ d. omega arith) (add_ready_of m ready) (add-ready_says c) other
 refused_leaves {m} (by_remove {s} c) other = leaves code_of (λ d. refl) (remove_of m s) (remove_says c) other
 refused_leaves {m} (by_again {n} c) other = leaves code_of (λ d. refl) (again_of m n) (again_says c) other
 
@@ -108,17 +100,10 @@ unfolding add_of
 reading_keeps m (given reading) s board e = ready_keeps m reading s (ready_of reading (words_in reading) s) refl board e
 reading_keeps m (refused r) s board e = let z : ◌≡◌ {A = ℕ} 0 1 = cc in absurd (omega arith)
 
-on_board : {m : Memory} {p : List ℕ} {w : Answer Done} {d : Done} → AddedReady m p w → w ≡ given d → IsBoard d.after
-on_board {d = x} (is_on {d} board there) e = let same : d ≡ x = cc in subst (λ (y : Done). IsBoard y.after) same board
-on_board (no_list none) e = let z : ◌≡◌ {A = ℕ} 0 1 = cc in absurd (omega arith)
-on_board (none_free list full) e = let z : ◌≡◌ {A = ℕ} 0 1 = cc in absurd (omega arith)
-
 changed_board : {m m' : Memory} {k : ℕ} → IsBoard m → Changed m k m' → IsBoard m'
 changed_board {m} board (by_make {n} c) = kept _ (make_says c).1 board (λ d e. make_keeps m n board.sized e)
 changed_board {m} board (by_add {reading} {phrase} c) =
     kept _ (add-says c).1 board (λ d e. reading_keeps m (reading_of reading) phrase board e)
-changed_board {m} board (by_add_ready {ready} c) =
-    kept _ (add-ready_says c).1 board (λ d e. on_board (added_ready m ready board) e)
 changed_board {m} board (by_remove {s} c) = kept _ (remove_says c).1 board (λ d e. remove_keeps m s board e)
 changed_board {m} board (by_again {n} c) = kept _ (again_says c).1 board (λ d e. again_keeps m n board e)
 

@@ -29,7 +29,7 @@ module _ {bytes : List ℕ} {n : ZoneNow} {arrays : ZoneArrays} {k : ℕ} {array
       tells code_of zone_after (λ g l. read_there g.0 g.1 g.2)
       (λ κs a e k g l h p. record { number_is = p.0; array'_is = rw (p.1.0, p.1.1) })
 
-  pub zone_run_says : RunZone bytes n arrays k arrays' → Says zone_after (run_in_zone (decode_of bytes) n.file n.at) arrays k arrays'
+  zone_run_says : RunZone bytes n arrays k arrays' → Says zone_after (run_in_zone (decode_of bytes) n.file n.at) arrays k arrays'
   zone_run_says =
       tells code_of zone_after (λ g l. run_in_zone (decode_of g.0) g.1.file g.1.at)
       (λ κs a e k g l h p. record { number_is = p.0; array'_is = rw (p.1.0, p.1.1) })

@@ -25,7 +25,7 @@ use Rattle.agreed.proofs.Agreed.{read_says, run_says}
 -- of a definition whose refusals have numbers above 0
 module _ {low high room : ℕ} (some : 0 < low) where
   -- with the answer 0 its moment is left
-  pub zero_left :
+  zero_left :
       {w : Answer Moment} {array array' : List ℕ} → Holds IsMoment (Bounded low high room) w → Says moment_after w array 0 array' →
       w ≡ given (moment_in array')
   zero_left (of_given v) c = rw c.array'_is

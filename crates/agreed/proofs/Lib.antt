@@ -6,13 +6,8 @@ pub mod ShownAgain
 pub mod StampAgain
 pub mod Answering
 pub mod Later
-pub mod Seconds
 pub mod NextListed
 pub mod ListedRows
 pub mod BoardKept
 pub mod BoardCalls
 pub mod BoardFollowed
-pub mod BoardMoments
-pub mod Pinned
-pub mod Completing
-pub mod ZoneFiles

@@ -16,7 +16,7 @@ use Rattle.fuzzydate.specs.Called.{answer_in, written_code}
 use Rattle.agreed.specs.Calls.{WritePhrase, Shows, in_first, in_second, Read, number, size}
 use Rattle.agreed.proofs.AnyNow.{tells}
 use Rattle.agreed.proofs.Agreed.{read_says}
-use Rattle.agreed.proofs.Written.{of_three, Writes, written_so}
+use Rattle.agreed.proofs.Written.{Writes, written_so}
 
 pub write_says :
     (t : Moment) {text text' : List ℕ} {k : ℕ} → WritePhrase t text k text' → Writes (shown_of t (length text)) text k text'
@@ -44,4 +44,4 @@ shown_again t text text' k call =
     (λ s e reading shows n v array array' r read.
     let says = rw (read_shown t n (length text) s reading e v shows) at (read_says reading read) in
     (says.number_is, says.array'_is))
-    (λ r. of_three (λ k. number k ≡ 0 → ⊥) (λ z. omega arith) (λ z. omega arith) (λ z. omega arith)) (write_says t call)
+    (omega arith) (write_says t call)

@@ -16,7 +16,7 @@ use Rattle.stamp.proofs.ReadWrites.{read_writes}
 use Rattle.fuzzydate.specs.Called.{code_of, stamp_in, nine, stamp_after, written_code}
 use Rattle.agreed.specs.Calls.{ReadStamp, WriteStamp, number, size}
 use Rattle.agreed.proofs.AnyNow.{tells, Says}
-use Rattle.agreed.proofs.Written.{of_three, Writes, in_front_lem, written_so}
+use Rattle.agreed.proofs.Written.{Writes, in_front_lem, written_so}
 
 pub write_says :
     (st : Stamp) {text text' : List ℕ} {k : ℕ} → WriteStamp st text k text' → Writes (written_of st (length text)) text k text'
@@ -40,7 +40,7 @@ stamp_again st text text' k call =
     (λ s e array array' r read.
     let says = rw (written_reads st (length text) s e) at (read_says read) in
     (says.number_is, says.array'_is))
-    (λ r. of_three (λ k. number k ≡ 0 → ⊥) (λ z. omega arith) (λ z. omega arith) (λ z. omega arith)) (write_says st call)
+    (omega arith) (write_says st call)
 
 -- the other way: what is read as a stamp is written as the same text, but for the case of letters, "+00:00" and the zeros at the end of a fraction
 pub stamp_rewritten :

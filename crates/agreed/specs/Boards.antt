@@ -1,26 +1,21 @@
 -- What the contracts of a board's calls allow: of the memory m before a call, the answer k, and the memory m' behind it.
 use Rattle.std.specs.Prelude.{ℕ, ◌<◌, ◌≡◌, true, false, cond, List, eqb, length}
-use Rattle.refusals.specs.Table.{InvalidMoment, NoSense, FullBoard, EmptySlot}
+use Rattle.refusals.specs.Table.{InvalidMoment, FullBoard, EmptySlot}
 use Rattle.refusals.specs.Answers.{given, refused}
 use Rattle.refusals.specs.declared.Refusal.{Refusal}
 use Rattle.calendar.specs.Moments.{is_moment, moment_in}
 use Rattle.calendar.specs.declared.moments.Moment.{Moment}
-use Rattle.answer.specs.Answer.{placed}
-use Rattle.steps.specs.Running.{is_list, run_of}
 use Rattle.steps.specs.declared.plan.Step.{Step}
-use Rattle.records.specs.Records.{decode_of}
 use Rattle.board.specs.Boards.{board_slots, Memory, memory, is_filled}
 use Rattle.board.specs.Scans.{Sized, Empty, MovedTo, Put, TakenOut}
 use Rattle.fuzzydate.specs.Called.{ready_in, answer_in, code}
 use Rattle.fuzzydate.proofs.fuzzy_board_make_in.Reads as make'
 use Rattle.fuzzydate.proofs.fuzzy_board_add_in.Reads as add'
-use Rattle.fuzzydate.proofs.fuzzy_board_add_ready_in.Reads as add-ready'
-use Rattle.fuzzydate.proofs.fuzzy_board_moment_in.Reads as moment'
 use Rattle.fuzzydate.proofs.fuzzy_board_remove_in.Reads as remove'
 use Rattle.fuzzydate.proofs.fuzzy_board_again_in.Reads as again'
 use Rattle.fuzzydate.proofs.fuzzy_board_head_in.Reads as head'
 use Rattle.fuzzydate.proofs.fuzzy_board_order_in.Reads as order'
-use Rattle.agreed.specs.Calls.{Called, Read, Run, number, size, Alike}
+use Rattle.agreed.specs.Calls.{Called, Read, number, size}
 
 -- `fuzzy_board_make_in` at a now
 abbrev pub Make : Moment → Memory → ℕ → Memory → Type 0
@@ -39,15 +34,6 @@ Add reading phrase m k m' =
     (λ κs e l. memory e.0.now e.1.0.now e.1.1.0.now e.1.1.1.0.now)
     (reading, phrase) m k m'
 
--- `fuzzy_board_add_ready_in` of a ready phrase's bytes
-abbrev pub AddReady : List ℕ → Memory → ℕ → Memory → Type 0
-AddReady ready m k m' =
-    Called add-ready'.Post (List ℕ) Memory
-    (λ κs a g. a.1.1.1.1.0.now)
-    (λ κs a l. memory a.0.now a.1.0.now a.1.1.0.now a.1.1.1.0.now)
-    (λ κs e l. memory e.0.now e.1.0.now e.1.1.0.now e.1.1.1.0.now)
-    ready m k m'
-
 -- `fuzzy_board_remove_in` of a slot
 abbrev pub Remove : ℕ → Memory → ℕ → Memory → Type 0
 Remove s m k m' =
@@ -65,11 +51,10 @@ Again n m k m' =
     (λ κs e l. memory l.ready l.lengths e.1.1.0.now e.1.1.1.0.now)
     n m k m'
 
--- any of the five
+-- any of the four
 pub data Changed (m : Memory) (k : ℕ) (m' : Memory) : Type 0 where
   by_make : {n : Moment} → Make n m k m' → Changed m k m'
   by_add : {reading : ℕ} {phrase : List ℕ} → Add reading phrase m k m' → Changed m k m'
-  by_add_ready : {ready : List ℕ} → AddReady ready m k m' → Changed m k m'
   by_remove : {s : ℕ} → Remove s m k m' → Changed m k m'
   by_again : {n : Moment} → Again n m k m' → Changed m k m'
 
@@ -84,14 +69,6 @@ Head m array k array' =
     Called head'.Post Memory (List ℕ)
     (λ κs a g. memory g.ready g.lengths a.0.now a.1.0.now) (λ κs a l. a.1.1.0.now) (λ κs e l. e.1.1.0.now)
     m array k array'
-
--- `fuzzy_board_moment_in` of a slot, which leaves `array'` in an array that held `array`
-abbrev pub SlotMoment : ℕ → Memory → List ℕ → ℕ → List ℕ → Type 0
-SlotMoment s m array k array' =
-    Called moment'.Post (ℕ × Memory) (List ℕ)
-    (λ κs a g. (a.1.1.1.0, memory a.0.now a.1.0.now g.1.keys a.1.1.0.now))
-    (λ κs a l. a.1.1.1.1.0.now) (λ κs e l. e.1.1.1.1.0.now)
-    (s, m) array k array'
 
 -- `fuzzy_board_order_in`, which leaves `slots'` in an array of `board_slots` numbers that held `slots`
 pub record Order (m : Memory) (slots : List ℕ) (k : ℕ) (slots' : List ℕ) : Type 0 where
@@ -112,12 +89,6 @@ pub data Adds (reading : ℕ) (phrase : List ℕ) (m : Memory) : ℕ → Memory 
   full : {ss : List Step} → ready_in reading phrase ≡ given ss → ((s : ℕ) → s < board_slots → is_filled m s ≡ true) → Adds reading phrase m FullBoard m
   unready : {r : Refusal} → ready_in reading phrase ≡ refused r → Adds reading phrase m (code r) m
 
--- what adding a ready phrase may: it in the lowest free slot; 9 for bytes that stand for no list of steps; or 24 where every slot is filled
-pub data AddsReady (ready : List ℕ) (m : Memory) : ℕ → Memory → Type 0 where
-  ready_put : {k : ℕ} {m' : Memory} → number k ≡ 0 → Put (λ n. placed (run_of (decode_of ready) n)) (size k) m m' → AddsReady ready m k m'
-  not-ready : is_list (decode_of ready) ≡ false → AddsReady ready m NoSense m
-  ready_full : is_list (decode_of ready) ≡ true → ((s : ℕ) → s < board_slots → is_filled m s ≡ true) → AddsReady ready m FullBoard m
-
 -- what removing may: the slot is free, or 25 where it held nothing
 pub data Removes (s : ℕ) (m : Memory) : ℕ → Memory → Type 0 where
   out : {m' : Memory} → TakenOut s m m' → Removes s m 0 m'
@@ -128,11 +99,10 @@ pub data Moves (n : Moment) (m : Memory) : ℕ → Memory → Type 0 where
   moved : {m' : Memory} → is_moment n ≡ true → MovedTo n m m' → Moves n m 0 m'
   unmoved : is_moment n ≡ false → Moves n m InvalidMoment m
 
--- what an app knows of a slot: nothing lies there, or the phrase that it added there in the reading of a number, or the ready phrase
+-- what an app knows of a slot: nothing lies there, or the phrase that it added there in the reading of a number
 pub data Known : Type 0 where
   nothing_there : Known
   added : ℕ → List ℕ → Known
-  added_ready : List ℕ → Known
 
 -- the same of all slots but one
 abbrev pub changed_at : ℕ → Known → (ℕ → Known) → ℕ → Known
@@ -144,24 +114,11 @@ pub data Followed : (ℕ → Known) → Memory → Type 0 where
   made_again : {known : ℕ → Known} {n : Moment} {m m' : Memory} → Followed known m → Make n m 0 m' → Followed (λ s. nothing_there) m'
   put_there : {known : ℕ → Known} {reading : ℕ} {phrase : List ℕ} {m m' : Memory} {k : ℕ} → Followed known m → Add reading phrase m k m' → number k ≡ 0 →
       Followed (changed_at (size k) (added reading phrase) known) m'
-  ready_there : {known : ℕ → Known} {ready : List ℕ} {m m' : Memory} {k : ℕ} → Followed known m → AddReady ready m k m' → number k ≡ 0 →
-      Followed (changed_at (size k) (added_ready ready) known) m'
   taken_out : {known : ℕ → Known} {s : ℕ} {m m' : Memory} → Followed known m → Remove s m 0 m' → Followed (changed_at s nothing_there known) m'
   run_again : {known : ℕ → Known} {n : Moment} {m m' : Memory} → Followed known m → Again n m 0 m' → Followed known m'
   left_alone : {known : ℕ → Known} {m m' : Memory} {k : ℕ} → Followed known m → Changed m k m' → (number k ≡ 0 → ⊥) → Followed known m'
 
--- what is due first is a phrase that the app added: reading it, or running the ready one, at the board's now gives 0 and the same seven numbers
+-- what is due first is a phrase that the app added: reading it at the board's now gives 0 and the same seven numbers
 pub data IsFirst (n : Moment) (array : List ℕ) : Known → Type 0 where
   reads : {reading : ℕ} {phrase : List ℕ} →
       ((hub hub' : List ℕ) (r : ℕ) → Read reading phrase n hub r hub' → (r ≡ 0) × (hub' ≡ array)) → IsFirst n array (added reading phrase)
-  runs : {ready : List ℕ} →
-      ((hub hub' : List ℕ) (r : ℕ) → Run ready n hub r hub' → (r ≡ 0) × (hub' ≡ array)) → IsFirst n array (added_ready ready)
-
--- what the call for a slot's moment answers: 25 where nothing lies there, and nothing is written; else what reading the phrase, or running the
--- ready one, answers at the board's now
-pub data Gives (n : Moment) (array : List ℕ) (k : ℕ) (array' : List ℕ) : Known → Type 0 where
-  nothing_in : k ≡ EmptySlot → array' ≡ array → Gives n array k array' nothing_there
-  as_read : {reading : ℕ} {phrase : List ℕ} →
-      ((hub hub' : List ℕ) (r : ℕ) → Read reading phrase n hub r hub' → Alike k array array' r hub hub') → Gives n array k array' (added reading phrase)
-  as_run : {ready : List ℕ} →
-      ((hub hub' : List ℕ) (r : ℕ) → Run ready n hub r hub' → Alike k array array' r hub hub') → Gives n array k array' (added_ready ready)

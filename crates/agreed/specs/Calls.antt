@@ -1,27 +1,19 @@
 -- What the contracts of the functions that apps call allow, in an app's terms.
-use Rattle.std.specs.Prelude.{ℕ, suc, ◌+◌, ◌*◌, ◌/◌, ◌%◌, ◌≤◌, ◌<◌, ◌≡◌, ◌&&◌, List, [], ◌∷◌, ◌⊎◌, length, get_or, take, drop}
+use Rattle.std.specs.Prelude.{ℕ, suc, ◌+◌, ◌*◌, ◌/◌, ◌%◌, ◌≤◌, ◌<◌, ◌≡◌, List, [], ◌∷◌, ◌⊎◌, length, take, drop}
 use Rattle.std.proofs.lemmas.List.Edits.{sets}
 use Rattle.calendar.specs.Moments.{IsMoment, seven, instant_of, NotAfter, moment_numbers, moment_in, at_day, day_of_moment}
 use Rattle.calendar.specs.declared.moments.Moment.{Moment}
-use Rattle.refusals.specs.Table.{InvalidMoment, NoRoom, NoRule, NoStart, NoWord}
+use Rattle.refusals.specs.Table.{InvalidMoment, NoRule, NoStart}
 use Rattle.refusals.specs.Answers.{Answer, given}
 use Rattle.rules.specs.Rules.{read_rule}
 use Rattle.rules.specs.declared.Rule.{Rule}
 use Rattle.repeats.specs.Courses.{count_of}
 use Rattle.repeats.specs.Listing.{rows}
 use Rattle.repeats.proofs.Laws.{Occurs}
-use Rattle.lexer.specs.Words.{ordered, meaning, folded}
-use Rattle.lexer.specs.Keywords.{words_in}
-use Rattle.lexer.specs.Completions.{begins}
-use Rattle.lexer.specs.declared.find.Order.TheVariants.{Less}
-use Rattle.lexer.specs.declared.reading.Reading.{Reading}
-use Rattle.lexer.specs.declared.reading.Reading.TheVariants.{First, Second}
-use Rattle.lexer.proofs.Completed.{among, is_word}
 use Rattle.records.specs.Records.{ready_size}
 use Rattle.stamp.specs.Stamps.{IsOffset}
 use Rattle.stamp.specs.declared.Stamp.{Stamp}
 use Rattle.zones.specs.declared.instants.Instant.{Instant}
-use Rattle.bundle.specs.Bundles.{count_of as names_of, name_at}
 use Rattle.zoned.specs.Local.{IsLocal}
 use Rattle.zoned.specs.declared.local.Local.{Local}
 use Rattle.fuzzydate.specs.Called.{stamp_in, moment_after, instant_from, due_after, local_after}
@@ -36,10 +28,6 @@ use Rattle.fuzzydate.proofs.fuzzy_find_word.Reads as find'
 use Rattle.fuzzydate.proofs.fuzzy_write_phrase.Reads as show'
 use Rattle.fuzzydate.proofs.fuzzy_list_in.Reads as list'
 use Rattle.fuzzydate.proofs.fuzzy_next.Reads as next'
-use Rattle.fuzzydate.proofs.fuzzy_pin.Reads as pin'
-use Rattle.fuzzydate.proofs.fuzzy_complete.Reads as complete'
-use Rattle.fuzzydate.proofs.fuzzy_zone_until.Reads as until'
-use Rattle.fuzzydate.proofs.fuzzy_find_zone.Reads as find_zone'
 
 -- a function of a contract may answer k to what is given, and leave `left` in lent memory that held `lent`: there are lifetimes, arguments and
 -- parameters at exit with which the contract allows it. Three views say what is given by the arguments, and how the lent memory reads before and
@@ -59,11 +47,6 @@ module _ {K : Type 0} {A E : K → Type 0} (Post : (κs : K) → A κs → ℕ �
 pub data IsReading : ℕ → Type 0 where
   first : IsReading 1
   second : IsReading 2
-
--- and the readings that they stand for
-abbrev pub reading_by : {reading : ℕ} → IsReading reading → Reading
-reading_by first = First
-reading_by second = Second
 
 -- `fuzzy_make_ready`, of a phrase in a reading, with an array of `ready_size` bytes
 pub record MakeReady (reading : ℕ) (phrase array : List ℕ) (k : ℕ) (array' : List ℕ) : Type 0 where
@@ -257,59 +240,3 @@ pub data Lists (s : List ℕ) (t : Moment) (lent : List ℕ) : ℕ → List ℕ 
   listed : {r : Rule} (l : List ℕ) → read_rule s ≡ given r → Listed r t (length lent / moment_numbers) (length l) (sets lent 0 (rows t l)) →
       Lists s t lent (4294967296 * length l) (sets lent 0 (rows t l))
   unlisted : {k : ℕ} → OneOf (InvalidMoment ∷ NoRule ∷ NoStart ∷ []) k → Lists s t lent k lent
-
--- `fuzzy_pin`, of a moment, with an array of `ready_size` bytes
-pub record Pin (t : Moment) (array : List ℕ) (k : ℕ) (array' : List ℕ) : Type 0 where
-  pub bytes : length array ≡ ready_size
-  pub call : Called pin'.Post Moment (List ℕ) (λ κs a g. moment_in a.0.now) (λ κs a l. a.1.0.now) (λ κs e l. e.1.0.now) t array k array'
-
--- bytes that run as a moment at every valid now
-abbrev pub RunsAs : Moment → List ℕ → Type 0
-RunsAs t ready = (n : Moment) → IsMoment n → (array array' : List ℕ) (k : ℕ) → Run ready n array k array' → (k ≡ 0) × (array' ≡ seven t)
-
--- what pinning may answer and leave: of a moment, bytes in front that run as it; or 8, and nothing written
-pub data Pins (t : Moment) (array : List ℕ) : ℕ → List ℕ → Type 0 where
-  pinned : {k : ℕ} {array' : List ℕ} → IsMoment t → number k ≡ 0 → RunsAs t (take (size k) array') → Pins t array k array'
-  unpinned : (IsMoment t → ⊥) → Pins t array InvalidMoment array
-
--- the array for the count of words, and the one for a word
-pub record WordArrays : Type 0 where
-  pub count : List ℕ
-  pub word : List ℕ
-
--- `fuzzy_complete`, of a prefix in a reading, and which word
-abbrev pub Complete : ℕ → List ℕ → ℕ → WordArrays → ℕ → WordArrays → Type 0
-Complete reading prefix which arrays k arrays' =
-    Called complete'.Post (ℕ × List ℕ × ℕ) WordArrays
-    (λ κs a g. (a.0, a.1.0.now, a.1.1.0))
-    (λ κs a l. let b = a.1.1.1 in record { count = b.0.now; word = b.1.0.now })
-    (λ κs e l. let b = e.1.1.1 in record { count = b.0.now; word = b.1.0.now })
-    (reading, prefix, which) arrays k arrays'
-
--- some words are "exactly the words of the list that have the prefix, each once, in order", letters in either case
-pub record WordsWith (reading : Reading) (prefix : List ℕ) (words : List (List ℕ)) : Type 0 where
-  pub exactly : (w : List ℕ) → among w words ≡ is_word (meaning (words_in reading) w) && begins (folded prefix) w
-  pub in_order : (i j : ℕ) → i < j → j < length words → ordered (get_or words i []) (get_or words j []) ≡ Less
-
--- what completing may answer and leave: the length of the which-th of these words, it in front, and how many they are; 27 where there are not more than
--- which; or 17 for a text that is shorter than the word; and nothing written
-pub data Completes (words : List (List ℕ)) (which : ℕ) (arrays : WordArrays) : ℕ → WordArrays → Type 0 where
-  word : {w : List ℕ} → which < length words → w ≡ get_or words which [] →
-      Completes words which arrays (4294967296 * length w) (record { count = length words ∷ []; word = sets arrays.word 0 w })
-  none : length words ≤ which → Completes words which arrays NoWord arrays
-  short : which < length words → length arrays.word < length (get_or words which []) → Completes words which arrays NoRoom arrays
-
--- `fuzzy_zone_until`, of a file
-abbrev pub ZoneUntil : List ℕ → List ℕ → ℕ → List ℕ → Type 0
-ZoneUntil file array k array' =
-    Called until'.Post (List ℕ) (List ℕ) (λ κs a g. a.0.now) (λ κs a l. a.1.0.now) (λ κs e l. e.1.0.now) file array k array'
-
--- `fuzzy_find_zone`, of a bundle and a name
-abbrev pub FindZone : List ℕ → List ℕ → List ℕ → ℕ → List ℕ → Type 0
-FindZone bundle name array k array' =
-    Called find_zone'.Post (List ℕ × List ℕ) (List ℕ)
-    (λ κs a g. (a.0.now, a.1.0.now)) (λ κs a l. a.1.1.0.now) (λ κs e l. e.1.1.0.now) (bundle, name) array k array'
-
--- each name of a bundle's index comes before the next
-abbrev pub Ascends : List ℕ → Type 0
-Ascends bundle = (i : ℕ) → suc i < names_of bundle → ordered (name_at bundle i) (name_at bundle (suc i)) ≡ Less

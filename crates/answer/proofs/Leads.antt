@@ -127,67 +127,68 @@ kept_moment = record {
   minute = λ t n v below s. at_minute_moment n t below v;
 }
 
--- where a date rule leads from a moment with a property that steps keep
-module _ {M : Moment → Type 0} {sub : Bool} (kept : Kept M sub) (t : Moment) (h : M t) where
-  stated_leads : (y m d : ℕ) → Leads M (stated_date y m d t)
+-- where a date expression leads from a moment of the calendar
+module _ (t : Moment) (v : IsMoment t) where
+  stated_leads : (y m d : ℕ) → Leads IsMoment (stated_date y m d t)
   stated_leads y m d =
       tested (in_range y 1 9999) _ _
-      (λ _. tested (is_date y m d) _ _ (λ e. leads (kept.dated t y m d h (test_date y m d e))) (refuses refl)) (refuses refl)
+      (λ _.
+      tested (is_date y m d) _ _ (λ e. leads (record { date = test_date y m d e; time = v.time })) (refuses refl))
+      (refuses refl)
 
-  pub date_leads : (d : Date) → Leads M (date_at d t)
-  date_leads Today = leads h
-  date_leads Yesterday = minutes_lead kept true 1440 t h (inr refl)
-  date_leads Tomorrow = minutes_lead kept false 1440 t h (inr refl)
+  pub date_leads : (d : Date) → Leads IsMoment (date_at d t)
+  date_leads Today = leads v
+  date_leads Yesterday = minutes_lead kept_moment true 1440 t v (inl refl)
+  date_leads Tomorrow = minutes_lead kept_moment false 1440 t v (inl refl)
   date_leads (MonthNumDay m d) = stated_leads t.year m d
   date_leads (MonthNumDayYear m d y) = stated_leads y m d
   date_leads (YearMonthNumDay y m d) = stated_leads y m d
   date_leads (MonthDay m d) = stated_leads t.year m d
   date_leads (MonthDayYear m d y) = stated_leads y m d
   date_leads (DayMonthYear d m y) = stated_leads y m d
-  date_leads NoDate = leads h
+  date_leads NoDate = leads v
 
-  pub on_day_leads : (n : ℕ) → Leads M (on_day n t)
+  pub on_day_leads : (n : ℕ) → Leads IsMoment (on_day n t)
   unfolding on_day
-  on_day_leads n =
-      tested (ltb n days) _ _ (λ e. leads (kept.dated t _ _ _ h (at_day_moment n t (ltb-true n days e) (kept.valid t h)).date)) (refuses refl)
+  on_day_leads n = tested (ltb n days) _ _ (λ e. leads (at_day_moment n t (ltb-true n days e) v)) (refuses refl)
 
-  pub days_back_lead : (n b : ℕ) → Leads M (days_back n b t)
+  pub days_back_lead : (n b : ℕ) → Leads IsMoment (days_back n b t)
   unfolding days_back
   days_back_lead n b = tested (leb b n) _ _ (λ _. on_day_leads (n - b)) (refuses refl)
 
-  pub week_leads : (s : RelativeSpecifier) (w : ℕ) → Leads M (in_week s w t)
+  pub week_leads : (s : RelativeSpecifier) (w : ℕ) → Leads IsMoment (in_week s w t)
   week_leads This w = on_day_leads _
   week_leads Next w = on_day_leads _
   week_leads Last w = days_back_lead _ _
 
-  by_year_leads : (s : RelativeSpecifier) → Leads M (by_year s t)
-  by_year_leads This = leads h
-  by_year_leads Next = years_lead kept false 1 t h
-  by_year_leads Last = years_lead kept true 1 t h
+  by_year_leads : (s : RelativeSpecifier) → Leads IsMoment (by_year s t)
+  by_year_leads This = leads v
+  by_year_leads Next = years_lead kept_moment false 1 t v
+  by_year_leads Last = years_lead kept_moment true 1 t v
 
-by_unit_leads : (t : Moment) → IsMoment t → (s : RelativeSpecifier) (u : Unit) → Leads IsMoment (by_unit s u t)
-by_unit_leads t v Next u = unit_leads kept_moment false 1 u t (λ e. refl) v
-by_unit_leads t v Last u = unit_leads kept_moment true 1 u t (λ e. refl) v
-by_unit_leads t v This u = refuses {k = 9} refl
+  by_unit_leads : (s : RelativeSpecifier) (u : Unit) → Leads IsMoment (by_unit s u t)
+  by_unit_leads Next u = unit_leads kept_moment false 1 u t (λ e. refl) v
+  by_unit_leads Last u = unit_leads kept_moment true 1 u t (λ e. refl) v
+  by_unit_leads This u = refuses {k = 9} refl
 
 lasts : (back : Bool) (d : Duration) (t : Moment) → IsMoment t → Leads IsMoment (duration_step back d t)
 lasts back d t v = duration_leads kept_moment back d t (λ e. refl) v
 
 expr_leads : (e : DateExpr) (t : Moment) → IsMoment t → Leads IsMoment (date_expr_at e t)
-expr_leads (date d) t v = date_leads kept_moment t v d
+expr_leads (date d) t v = date_leads t v d
 expr_leads (date_relative d s u) t v =
     tested (is_year u && is_month_and_day d) _ _
-    (λ _. behind (by_year s) (date_leads kept_moment t v d) (λ w h. by_year_leads kept_moment w h s)) (refuses refl)
-expr_leads (weekday_expression_before w d) t v = behind (back_to (w % 7)) (lasts true d t v) (λ u h. days_back_lead kept_moment u h _ _)
-expr_leads (weekday_expression_after w d) t v = behind (forward_to (w % 7)) (lasts false d t v) (λ u h. on_day_leads kept_moment u h _)
-expr_leads (date_expression_after d dur) t v = behind (duration_step false dur) (date_leads kept_moment t v d) (lasts false dur)
-expr_leads (date_expression_before d dur) t v = behind (duration_step true dur) (date_leads kept_moment t v d) (lasts true dur)
-expr_leads (before dur d) t v = behind (duration_step true dur) (date_leads kept_moment t v d) (lasts true dur)
-expr_leads (after dur d) t v = behind (duration_step false dur) (date_leads kept_moment t v d) (lasts false dur)
+    (λ _. behind (by_year s) (date_leads t v d) (λ w h. by_year_leads w h s)) (refuses refl)
+expr_leads (weekday_expression_before w d) t v = behind (back_to (w % 7)) (lasts true d t v) (λ u h. days_back_lead u h _ _)
+expr_leads (weekday_expression_after w d) t v = behind (forward_to (w % 7)) (lasts false d t v) (λ u h. on_day_leads u h _)
+expr_leads (date_expression_after d dur) t v = behind (duration_step false dur) (date_leads t v d) (lasts false dur)
+expr_leads (date_expression_before d dur) t v = behind (duration_step true dur) (date_leads t v d) (lasts true dur)
+expr_leads (before dur d) t v = behind (duration_step true dur) (date_leads t v d) (lasts true dur)
+expr_leads (after dur d) t v = behind (duration_step false dur) (date_leads t v d) (lasts false dur)
 expr_leads (unit_relative s u) t v = tested (is_sub_daily_unit u) _ _ (λ _. refuses refl) (by_unit_leads t v s u)
-expr_leads (relative_weekday s w) t v = week_leads kept_moment t v s (w % 7)
-expr_leads (weekday_relative w s u) t v = tested (is_week u) _ _ (λ _. week_leads kept_moment t v s (w % 7)) (refuses refl)
-expr_leads (weekday w) t v = on_day_leads kept_moment t v _
+expr_leads (relative_weekday s w) t v = week_leads t v s (w % 7)
+expr_leads (weekday_relative w s u) t v = tested (is_week u) _ _ (λ _. week_leads t v s (w % 7)) (refuses refl)
+expr_leads (weekday w) t v = on_day_leads t v _
 expr_leads empty t v = leads v
 
 -- a moment of the calendar with a second and a millisecond
@@ -259,7 +260,7 @@ pub valid_leads : (x : DateTime) (n : Moment) → IsMoment n → Leads IsMoment 
 valid_leads x n v = tree_leads kept_moment n v x (λ e. v) (λ u h. time_leads (time_of x) n u v h) (λ e. refl)
 
 -- second and millisecond are kept
-pub kept_second : (s ms : ℕ) → Kept (AtSecond s ms) true
+kept_second : (s ms : ℕ) → Kept (AtSecond s ms) true
 kept_second s ms = record {
   valid = λ t h. h.valid;
   dated =

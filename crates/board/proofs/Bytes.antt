@@ -14,7 +14,7 @@ take-sets [] l n i h = refl
 take-sets (v ∷ vs) l n i h = take-sets vs (set l i v) n (suc i) (omega arith) ∙ take-set-le n l i v h
 
 -- and behind it
-pub drop-sets : (vs l : List ℕ) (n i : ℕ) → i + length vs ≤ n → drop n (sets l i vs) ≡ drop n l
+drop-sets : (vs l : List ℕ) (n i : ℕ) → i + length vs ≤ n → drop n (sets l i vs) ≡ drop n l
 drop-sets [] l n i h = refl
 drop-sets (v ∷ vs) l n i h =
     let past : i + suc (length vs) ≤ n = h in

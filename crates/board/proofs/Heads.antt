@@ -11,9 +11,11 @@ use borrow.Author.Tests.{ltb-true, ltb-false, lt-ltb, le-ltb, ne_eqb}
 use Rattle.refusals.specs.Table as refusal
 use Rattle.refusals.specs.Answers.{Answer, given, refuse}
 use Rattle.refusals.proofs.Holds.{given_holds}
-use Rattle.calendar.specs.Moments.{Outcome, moment, refused as unreached, IsMoment, Valid, second_number, instant_of, moment_in}
+use Rattle.calendar.specs.Gregorian.{days}
+use Rattle.calendar.specs.Moments.{Outcome, moment, refused as unreached, IsMoment, Valid, day_of_moment, on_day, instant_of, moment_in}
 use Rattle.calendar.specs.declared.moments.Moment.{Moment}
-use Rattle.calendar.proofs.Seconds.{second_below, at_own_second}
+use Rattle.calendar.proofs.Dates.{in_days}
+use Rattle.calendar.proofs.Places.{at_own_day, minute_below}
 use Rattle.answer.specs.Answer.{placed}
 use Rattle.steps.specs.Running.{run_of}
 use Rattle.steps.specs.declared.plan.Step.{Step}
@@ -25,20 +27,31 @@ use Rattle.board.specs.Scans.{earlier, scan_from, scan_of, IsBoard}
 
 -- every moment has an instant
 instant_below : (t : Moment) → IsMoment t → instant_of t < instants
-instant_below t v = omega (arith, second_below t v, v.time.millisecond)
+instant_below t v = omega (arith, minute_below t v, v.time)
+
+-- the parts of an instant
+record Parts (d h m s ms i : ℕ) : Type 0 where
+  day : i / 86400000 ≡ d
+  hour : i / 3600000 % 24 ≡ h
+  minute : i / 60000 % 60 ≡ m
+  second : i / 1000 % 60 ≡ s
+  millisecond : i % 1000 ≡ ms
+
+parts : (d h m s ms : ℕ) → h < 24 → m < 60 → s < 60 → ms < 1000 → Parts d h m s ms (1000 * (60 * (1440 * d + 60 * h + m) + s) + ms)
+parts d h m s ms p q r u =
+    record { day = omega arith; hour = omega arith; minute = omega arith; second = omega arith; millisecond = omega arith }
 
 -- a moment is that of its instant
 pub at_own_instant : (t : Moment) → IsMoment t → at_instant (instant_of t) ≡ moment t
-unfolding at_instant
+unfolding at_instant on_day
 at_own_instant t v =
-    let second : instant_of t / 1000 ≡ second_number t = omega (arith, v.time.millisecond) in
-    let millisecond : instant_of t % 1000 ≡ t.millisecond = omega (arith, v.time.millisecond) in
-    rw (lt-ltb _ _ (instant_below t v), second, millisecond) (ap moment (at_own_second t v))
+    let p = parts (day_of_moment t) t.hour t.minute t.second t.millisecond v.time.hour v.time.minute v.time.second v.time.millisecond in
+    rw (p.day, p.hour, p.minute, p.second, p.millisecond, lt-ltb _ _ (in_days v.date)) (ap moment (at_own_day t v))
 
 -- behind all instants there is none
 none_behind : (i : ℕ) → instants ≤ i → at_instant i ≡ unreached refusal.Outside
-unfolding at_instant
-none_behind i h = rw (le-ltb i instants h)
+unfolding at_instant on_day
+none_behind i h = rw (le-ltb (i / 86400000) days (omega arith))
 
 -- a run leads to a moment of the calendar
 run_valid : (ss : List Step) (n : Moment) → Valid (run_of ss n)

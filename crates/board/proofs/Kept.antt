@@ -1,15 +1,15 @@
 -- Making a board gives a right one, and every call keeps it right.
-use Prim.Native.Nat.{ℕ, zero, suc, ◌+◌, ◌*◌, ◌/◌, ◌%◌, ◌≤◌, ◌<◌, min}
+use Prim.Native.Nat.{ℕ, zero, suc, ◌+◌, ◌*◌, ◌≤◌, ◌<◌, min}
 use native.Mathlib.Omega.{arith}
 use mathlib.Core.Path.{◌≡◌, refl, ap, sym, ◌∙◌}
 use mathlib.Core.Bool.{Bool, true, false, cond, ◌&&◌, and-eq-true_iff}
 use mathlib.Core.List.{List, [], ◌∷◌, map}
-use lib.Dec.{eqb, leb, ltb}
+use lib.Dec.{ltb}
 use lib.ListN.{length, get_or, take, set, replicate, length-replicate, length-set}
 use lib.Seq.{sets, length-sets, length-take-le, get_or-set_same, get_or-set_other}
-use borrow.Author.Tests.{eq-eqb, ne_eqb, leb-true, ltb-true, ltb-false}
-use Rattle.refusals.specs.Table.{NoSense, FullBoard}
-use Rattle.refusals.specs.Answers.{Answer, given, refused, refusal_at, refuse, and_then}
+use borrow.Author.Tests.{eq-eqb, ne_eqb, ltb-true, ltb-false}
+use Rattle.refusals.specs.Table.{FullBoard}
+use Rattle.refusals.specs.Answers.{given, refused, refusal_at, refuse, and_then}
 use Rattle.refusals.specs.declared.Refusal.{Refusal}
 use Rattle.refusals.proofs.Holds.{given_holds}
 use Rattle.digits.proofs.Order.{Tri, tri, below, equal, above}
@@ -18,26 +18,32 @@ use Rattle.calendar.specs.Moments.{is_moment, moment_in}
 use Rattle.calendar.specs.declared.moments.Moment.{Moment}
 use Rattle.lexer.specs.Keywords.{words_in}
 use Rattle.lexer.specs.declared.reading.Reading.{Reading}
-use Rattle.steps.specs.Running.{is_list, run_of}
+use Rattle.steps.specs.Running.{is_list}
 use Rattle.steps.specs.declared.plan.Step.{Step}
 use Rattle.steps.proofs.Small.{all_smaller}
 use Rattle.answer.specs.Answer.{placed, answer_of}
 use Rattle.ready.specs.Ready.{ready_of}
 use Rattle.ready.proofs.ReadyPhrases.{made_ready, ready_answers}
-use Rattle.records.specs.Records.{are_records, steps_at, encode_of, decode_of}
-use Rattle.records.proofs.Lists.{decoded_back}
-use Rattle.records.proofs.Runs.{none_listed}
+use Rattle.records.specs.Records.{encode_of}
+use Rattle.records.proofs.Lists.{length-encoded, decoded_back}
 use Rattle.numbers.specs.Slices.{one_if}
 use Rattle.board.specs.Rows.{insert, slot_of, without}
 use Rattle.board.specs.Boards.{Memory, memory, Done, done, count_in, state_of, row_in, is_filled, phrase_at, outcome_at, key_at, keys_from, order_at}
-use Rattle.board.specs.Boards.{make_of, free_slot, slot_for, filled, entered, joined, put_on, add_of, add_ready_of}
-use Rattle.board.specs.Boards.{removed, remove_of, again_of, order_of}
+use Rattle.board.specs.Boards.{make_of, free_slot, slot_for, filled, entered, add_of, removed, remove_of, again_of, order_of}
 use Rattle.board.specs.Scans.{times_in, Held, Sized, IsBoard, Empty, MovedTo, Others, Put, TakenOut}
 use Rattle.board.proofs.Keys.{length-insert, length_without}
 use Rattle.board.proofs.Orders.{Alike, order_few, order_filled, order_emptied, each_once}
 use Rattle.board.proofs.Free.{Free, free_slot_lem, full_filled}
-use Rattle.board.proofs.Gathered.{order_anywhere}
+use Rattle.board.proofs.Anew.{order_anywhere}
 use Rattle.board.proofs.Bytes.{own_slot, other_slot}
+
+-- "Moments are those of demand 2 at the board's now": at every now a held reminder gives what its phrase gives
+pub held-answers :
+    {m : Memory} {s : ℕ} (h : Held m s) (n : Moment) → placed (outcome_at m n s) ≡ answer_of h.reading (words_in h.reading) h.phrase n
+held-answers h n =
+    let made = given_holds (made_ready h.reading h.phrase) h.made in
+    let back = decoded_back h.steps made.most (all_smaller (omega arith) made.small) in
+    rw (h.bytes, back) (rw h.made at (ready_answers h.reading h.phrase n))
 
 differ : ◌≡◌ {A = Bool} true false → ⊥
 differ z = let y : ◌≡◌ {A = ℕ} 0 1 = cc in omega arith
@@ -117,7 +123,7 @@ again_keeps m n board e =
     record {
       sized = record { ready = size.ready; lengths = size.lengths; keys = length-sets m.keys 0 row ∙ size.keys; state = refl };
       now = ok.0;
-      held = board.held;
+      held = λ s f. let h = board.held s f in record { reading = h.reading; phrase = h.phrase; steps = h.steps; made = h.made; bytes = h.bytes };
       row = stored_row (record { few = order_few m n; sized = size.keys; count = refl }) ∙ sym same;
       count = sym (ap (λ (l : List ℕ). length l) same);
     } in
@@ -146,7 +152,9 @@ module _ {m m' : Memory} {s : ℕ} (change : Others m m' s) where
   change_held held own i f = go (tri i s)
     where
       still : (i ≡ s → ⊥) → Held m' i
-      still ne = ap (λ (p : List ℕ). is_list (decode_of p)) (change.phrases i ne) ∙ held i (rw (change.lengths i ne) at f)
+      still ne =
+          let h = held i (rw (change.lengths i ne) at f) in
+          record { reading = h.reading; phrase = h.phrase; steps = h.steps; made = h.made; bytes = change.phrases i ne ∙ h.bytes }
 
       go : Tri i s → Held m' i
       go (below l) = still (λ e. omega arith)
@@ -212,41 +220,46 @@ remove_keeps m s board e =
     let ok = taken (ltb s 256 && is_filled m s) _ _ e in
     rw (← ok.1) (removed_board m s board (rw (← ok.1) at (remove_takes m s board.sized e)))
 
--- a ready phrase that is a list has no more bytes than a slot
-pub list_small : (p : List ℕ) → is_list (decode_of p) ≡ true → length p ≤ 384
-unfolding decode_of
-list_small p e = go (leb (length p) 384) refl e
-  where
-    go : (b : Bool) → leb (length p) 384 ≡ b →
-        is_list (cond (b && (eqb (length p % 16) 0 && are_records (length p / 16) p 0)) (steps_at (length p / 16) p 0) []) ≡ true → length p ≤ 384
-    go true f g = leb-true (length p) 384 f
-    go false f g = absurd (differ (sym g))
+-- a list that was made has a step
+some : (ss : List Step) → is_list ss ≡ true → 0 < length ss
+some [] e = absurd (differ (sym e))
+some (x ∷ ss) e = omega arith
 
 -- the key that was entered is the one at the end
 key_entered : (m : Memory) (n : Moment) (s : ℕ) → key_at (entered m s) n s ≡ key_at m n s
 unfolding key_at
 key_entered m n s = refl
 
-module _ (m : Memory) (p : List ℕ) (list : is_list (decode_of p) ≡ true) where
-  small : length p ≤ 384
-  small = list_small p list
+module _ (m : Memory) (reading : Reading) (phrase : List ℕ) (ss : List Step) (made : ready_of reading (words_in reading) phrase ≡ given ss) where
+  -- the slot with its phrase, and the key in the row
+  abbrev joined : ℕ → Memory
+  joined s = entered (filled m s (encode_of ss)) s
 
-  own_length : (s : ℕ) → Sized m → Free m s → get_or (joined m s p).lengths s 0 ≡ length p
-  own_length s size free = get_or-set_same m.lengths s (length p) 0 (omega (arith, size.lengths, free.here))
+  small : length (encode_of ss) ≤ 384
+  small = omega (arith, length-encoded ss, (given_holds (made_ready reading phrase) made).most)
 
-  own_bytes : (s : ℕ) → Sized m → Free m s → phrase_at (joined m s p) s ≡ p
+  own_length : (s : ℕ) → Sized m → Free m s → get_or (joined s).lengths s 0 ≡ length (encode_of ss)
+  own_length s size free = get_or-set_same m.lengths s (length (encode_of ss)) 0 (omega (arith, size.lengths, free.here))
+
+  own_bytes : (s : ℕ) → Sized m → Free m s → phrase_at (joined s) s ≡ encode_of ss
   own_bytes s size free =
+      let p = encode_of ss in
       let least : min (length p) 384 ≡ length p = omega (arith, small) in
       rw (own_length s size free, least) (own_slot m.ready p s (omega (arith, small, size.ready, free.here)))
 
-  put_in : (s : ℕ) → Sized m → Free m s → Put (λ n. placed (run_of (decode_of p) n)) s m (joined m s p)
+  abbrev now-held : (s : ℕ) → Sized m → Free m s → Held (joined s) s
+  now-held s size free = record { reading = reading; phrase = phrase; steps = ss; made = made; bytes = own_bytes s size free }
+
+  put_in : (s : ℕ) → Sized m → Free m s → Put (answer_of reading (words_in reading) phrase) s m (joined s)
   put_in s size free =
+      let p = encode_of ss in
+      let none : length p ≡ 0 → ⊥ = λ z. omega (arith, length-encoded ss, some ss (given_holds (made_ready reading phrase) made).list) in
       record {
         here = free.here;
         free = free.empty;
         lowest = free.lowest;
-        filled = rw (own_length s size free, ne_eqb (length p) 0 (λ z. differ (sym list ∙ none_listed p z)));
-        gives = λ n. ap (λ (l : List ℕ). placed (run_of (decode_of l) n)) (own_bytes s size free);
+        filled = rw (own_length s size free, ne_eqb (length p) 0 none);
+        gives = λ n. held-answers (now-held s size free) n;
         others =
             record {
               now = count_now m.state (count_in m.state + 1);
@@ -257,9 +270,10 @@ module _ (m : Memory) (p : List ℕ) (list : is_list (decode_of p) ≡ true) whe
             };
       }
 
-  joined_board : (s : ℕ) → IsBoard m → Free m s → IsBoard (joined m s p)
-  joined_board s board free =
+  added-board : (s : ℕ) → IsBoard m → Free m s → IsBoard (joined s)
+  added-board s board free =
       let size = board.sized in
+      let p = encode_of ss in
       let n = moment_in m.state in
       let m₁ = filled m s p in
       let row = insert (key_at m₁ n s) (row_in m) in
@@ -275,102 +289,45 @@ module _ (m : Memory) (p : List ℕ) (list : is_list (decode_of p) ≡ true) whe
         keys = length-sets m.keys 0 row ∙ size.keys;
         state = length-set m.state 7 (count_in m.state + 1) ∙ size.state;
       })
-      (λ f. ap (λ (l : List ℕ). is_list (decode_of l)) (own_bytes s size free) ∙ list)
+      (λ f. now-held s size free)
       refl
       (record { few = omega (arith, free.room); sized = size.keys; count = state ∙ omega arith })
       (ap (insert (key_at m₁ n s)) board.row ∙ sym (order ∙ ap (λ (k : ℕ). insert k (order_at m n)) (key_entered m₁ n s)))
 
-  -- a ready phrase that was put on went to the free slot
-  joined_free : {d : Done} → put_on m p ≡ given d → (free_slot m < 256) × (joined m (free_slot m) p ≡ d.after) × (free_slot m ≡ d.number)
-  unfolding slot_for
+  -- a reminder that was added went to the free slot
+  joined_free : {d : Done} → add_of m (given ss) ≡ given d → (free_slot m < 256) × (joined (free_slot m) ≡ d.after) × (free_slot m ≡ d.number)
+  unfolding add_of slot_for
   joined_free {d} e = go (ltb (free_slot m) 256) refl e
     where
       go : (b : Bool) → ltb (free_slot m) 256 ≡ b →
-          and_then (cond b (given (free_slot m)) (refuse FullBoard 0 0)) (λ s. done s (joined m s p)) ≡ given d →
-          (free_slot m < 256) × (joined m (free_slot m) p ≡ d.after) × (free_slot m ≡ d.number)
+          and_then (cond b (given (free_slot m)) (refuse FullBoard 0 0)) (λ s. done s (joined s)) ≡ given d →
+          (free_slot m < 256) × (joined (free_slot m) ≡ d.after) × (free_slot m ≡ d.number)
       go true f g = (ltb-true _ _ f, cc, cc)
       go false f g = let z : ◌≡◌ {A = ℕ} 0 1 = cc in absurd (omega arith)
 
-  put_puts : {d : Done} → Sized m → put_on m p ≡ given d → Put (λ n. placed (run_of (decode_of p) n)) d.number m d.after
-  put_puts size e =
+  -- one reminder more
+  pub add-puts : {d : Done} → Sized m → add_of m (given ss) ≡ given d → Put (answer_of reading (words_in reading) phrase) d.number m d.after
+  add-puts size e =
       let to = joined_free e in
       rw (← to.1, ← to.2) (put_in (free_slot m) size (free_slot_lem m size to.0))
 
-  put_keeps : {d : Done} → IsBoard m → put_on m p ≡ given d → IsBoard d.after
-  put_keeps board e =
+  pub add-keeps : {d : Done} → IsBoard m → add_of m (given ss) ≡ given d → IsBoard d.after
+  add-keeps board e =
       let to = joined_free e in
-      rw (← to.1) (joined_board (free_slot m) board (free_slot_lem m board.sized to.0))
+      rw (← to.1) (added-board (free_slot m) board (free_slot_lem m board.sized to.0))
 
 -- "24 for a full board"
-put_full :
-    (m : Memory) (p : List ℕ) {r : Refusal} → IsBoard m → put_on m p ≡ refused r →
-    (r ≡ refusal_at FullBoard 0 0) × ((s : ℕ) → s < 256 → is_filled m s ≡ true)
-unfolding slot_for
-put_full m p {r} board e = go (ltb (free_slot m) 256) refl e
-  where
-    go : (b : Bool) → ltb (free_slot m) 256 ≡ b →
-        and_then (cond b (given (free_slot m)) (refuse FullBoard 0 0)) (λ s. done s (joined m s p)) ≡ refused r →
-        (r ≡ refusal_at FullBoard 0 0) × ((s : ℕ) → s < 256 → is_filled m s ≡ true)
-    go true f g = let z : ◌≡◌ {A = ℕ} 0 1 = cc in absurd (omega arith)
-    go false f g = (cc, full_filled m board (ltb-false (free_slot m) 256 f))
-
-module _ (m : Memory) (reading : Reading) (phrase : List ℕ) (ss : List Step) (made : ready_of reading (words_in reading) phrase ≡ given ss) where
-  -- what was made ready is read back from its bytes
-  back : decode_of (encode_of ss) ≡ ss
-  back =
-      let holds = given_holds (made_ready reading phrase) made in
-      decoded_back ss holds.most (all_smaller (omega arith) holds.small)
-
-  is_list_lem : is_list (decode_of (encode_of ss)) ≡ true
-  is_list_lem = ap is_list back ∙ (given_holds (made_ready reading phrase) made).list
-
-  -- "Moments are those of demand 2 at the board's now": its bytes give at every now what the phrase gives
-  made_answers : (n : Moment) → placed (run_of (decode_of (encode_of ss)) n) ≡ answer_of reading (words_in reading) phrase n
-  made_answers n = rw back (rw made at (ready_answers reading phrase n))
-
-  -- one reminder more
-  pub add-puts : {d : Done} → Sized m → add_of m (given ss) ≡ given d → Put (answer_of reading (words_in reading) phrase) d.number m d.after
-  unfolding add_of
-  add-puts size e =
-      let put = put_puts m (encode_of ss) is_list_lem size e in
-      record {
-        here = put.here;
-        free = put.free;
-        lowest = put.lowest;
-        filled = put.filled;
-        gives = λ n. put.gives n ∙ made_answers n;
-        others = put.others;
-      }
-
-  pub add-keeps : {d : Done} → IsBoard m → add_of m (given ss) ≡ given d → IsBoard d.after
-  unfolding add_of
-  add-keeps board e = put_keeps m (encode_of ss) is_list_lem board e
-
 pub add-full :
     (m : Memory) (ss : List Step) {r : Refusal} → IsBoard m → add_of m (given ss) ≡ refused r →
     (r ≡ refusal_at FullBoard 0 0) × ((s : ℕ) → s < 256 → is_filled m s ≡ true)
-unfolding add_of
-add-full m ss board e = put_full m (encode_of ss) board e
-
--- what adding a ready phrase answers: it is on the board; 9 for bytes that stand for no list; or 24, where every slot is filled
-pub data AddedReady (m : Memory) (p : List ℕ) : Answer Done → Type 0 where
-  is_on : {d : Done} → IsBoard d.after → Put (λ n. placed (run_of (decode_of p) n)) d.number m d.after → AddedReady m p (given d)
-  no_list : is_list (decode_of p) ≡ false → AddedReady m p (refuse NoSense 0 0)
-  none_free : is_list (decode_of p) ≡ true → ((s : ℕ) → s < 256 → is_filled m s ≡ true) → AddedReady m p (refuse FullBoard 0 0)
-
-pub added_ready : (m : Memory) (p : List ℕ) → IsBoard m → AddedReady m p (add_ready_of m p)
-unfolding add_ready_of
-added_ready m p board = go (is_list (decode_of p)) refl
+unfolding add_of slot_for
+add-full m ss {r} board e = go (ltb (free_slot m) 256) refl e
   where
-    listed : is_list (decode_of p) ≡ true → (w : Answer Done) → put_on m p ≡ w → AddedReady m p w
-    listed list (given d) e = is_on (put_keeps m p list board e) (put_puts m p list board.sized e)
-    listed list (refused r) e =
-        let full = put_full m p board e in
-        rw full.0 (none_free list full.1)
-
-    go : (b : Bool) → is_list (decode_of p) ≡ b → AddedReady m p (cond b (put_on m p) (refuse NoSense 0 0))
-    go true e = listed e (put_on m p) refl
-    go false e = no_list e
+    go : (b : Bool) → ltb (free_slot m) 256 ≡ b →
+        and_then (cond b (given (free_slot m)) (refuse FullBoard 0 0)) (λ s. done s (entered (filled m s (encode_of ss)) s)) ≡ refused r →
+        (r ≡ refusal_at FullBoard 0 0) × ((s : ℕ) → s < 256 → is_filled m s ≡ true)
+    go true f g = let z : ◌≡◌ {A = ℕ} 0 1 = cc in absurd (omega arith)
+    go false f g = (cc, full_filled m board (ltb-false (free_slot m) 256 f))
 
 -- "the whole order holds each filled slot once"
 pub order_once : (m : Memory) → IsBoard m → (s : ℕ) → s < 256 → times_in s (order_of m) ≡ one_if (is_filled m s)

@@ -2,8 +2,7 @@ pub mod Keys
 pub mod Carried
 pub mod Orders
 pub mod Free
-pub mod Gathered
-pub mod Merging
+pub mod Anew
 pub mod ReadyNumbers
 pub mod Heads
 pub mod Bytes

@@ -3,11 +3,12 @@ use Rattle.std.specs.Prelude.{ℕ, zero, suc, ◌+◌, ◌*◌, ◌/◌, ◌%◌
 use Rattle.std.proofs.lemmas.List.Edits.{sets}
 use Rattle.std.specs.Borrow.{Bor}
 use denote.Triple.Both.{Both}
-use Rattle.refusals.specs.Table.{InvalidMoment, NoSense, Outside, FullBoard, EmptySlot, NothingDue}
+use Rattle.refusals.specs.Table.{InvalidMoment, FullBoard, EmptySlot, NothingDue}
 use Rattle.refusals.specs.Answers.{Answer, given, refused, refuse, and_then, refusal_of}
-use Rattle.calendar.specs.Moments.{Outcome, moment, refused as unreached, moment_in, is_moment, seconds, moment_at, instant_of}
+use Rattle.calendar.specs.Gregorian.{days}
+use Rattle.calendar.specs.Moments.{Outcome, moment, refused as unreached, moment_in, first_moment, with_time, is_moment, on_day, instant_of}
 use Rattle.calendar.specs.declared.moments.Moment.{Moment}
-use Rattle.steps.specs.Running.{is_list, run_of}
+use Rattle.steps.specs.Running.{run_of}
 use Rattle.ready.specs.Ready.{ReadyPhrase}
 use Rattle.records.specs.Records.{ready_size, encode_of, decode_of}
 use Rattle.board.specs.declared.Earliest.{Earliest}
@@ -68,7 +69,7 @@ outcome_at m n s = run_of (decode_of (phrase_at m s)) n
 
 -- the milliseconds of the years 1 to 9999: "a number above all instants"
 abbrev pub instants : ℕ
-instants = 1000 * seconds
+instants = 86400000 * days
 
 -- when a reminder is due: "entries that refuse at the current now are held last"
 abbrev pub due_of : Outcome → ℕ
@@ -81,7 +82,7 @@ key_of o s = 256 * due_of o + s
 
 -- the moment of an instant
 unfoldable pub at_instant : ℕ → Outcome
-at_instant i = cond (ltb i instants) (moment (moment_at (i / 1000) (i % 1000))) (unreached Outside)
+at_instant i = on_day (i / 86400000) (with_time (i / 3600000 % 24) (i / 60000 % 60) (i / 1000 % 60) (i % 1000) first_moment)
 
 -- the key of a slot at a now
 unfoldable pub key_at : Memory → Moment → ℕ → ℕ
@@ -135,21 +136,9 @@ abbrev pub entered : Memory → ℕ → Memory
 entered m s =
     memory m.ready m.lengths (sets m.keys 0 (insert (key_at m (moment_in m.state) s) (row_in m))) (set m.state 7 (count_in m.state + 1))
 
--- both: a ready phrase in its slot, and its key in the row
-abbrev pub joined : Memory → ℕ → List ℕ → Memory
-joined m s p = entered (filled m s p) s
-
--- a ready phrase put on the board: "24 for a full board"
-abbrev pub put_on : Memory → List ℕ → Answer Done
-put_on m p = and_then (slot_for m) (λ s. done s (joined m s p))
-
--- one reminder more: 24 "after a phrase's own 1 to 7"
+-- one reminder more: "24 for a full board, after a phrase's own 1 to 7"
 unfoldable pub add_of : Memory → ReadyPhrase → Answer Done
-add_of m w = and_then w (λ ss. put_on m (encode_of ss))
-
--- one reminder more by "ready bytes as they are stored and sent": "refused 9 where they are no list of steps, then 24"
-unfoldable pub add_ready_of : Memory → List ℕ → Answer Done
-add_ready_of m p = cond (is_list (decode_of p)) (put_on m p) (refuse NoSense 0 0)
+add_of m w = and_then w (λ ss. and_then (slot_for m) (λ s. done s (entered (filled m s (encode_of ss)) s)))
 
 -- a slot that holds nothing any more, and its key out of the row
 abbrev pub removed : Memory → ℕ → Memory
@@ -158,7 +147,7 @@ removed m s =
 
 -- one reminder less: "25 for a slot that holds nothing"
 unfoldable pub remove_of : Memory → ℕ → Answer Done
-remove_of m s = cond (ltb s board_slots && is_filled m s) (done 0 (removed m s)) (refuse EmptySlot 0 0)
+remove_of m s = cond (ltb s board_slots && is_filled m s) (done s (removed m s)) (refuse EmptySlot 0 0)
 
 -- "running all again at a new now": "a refused new now (8)" leaves everything
 unfoldable pub again_of : Memory → Moment → Answer Done
@@ -180,10 +169,6 @@ due_at s (unreached k) = refuse NothingDue 0 0
 unfoldable pub head_of : Memory → Answer Due
 head_of m =
     cond (eqb (count_in m.state) 0) (refuse NothingDue 0 0) (due_at (slot_of (get_or m.keys 0 0)) (at_instant (get_or m.keys 0 0 / 256)))
-
--- "the moment of a slot at the board's now, 25 for an empty one, the entry's own refusal where it refuses"
-unfoldable pub slot_moment : Memory → ℕ → Outcome
-slot_moment m s = cond (ltb s board_slots && is_filled m s) (outcome_at m (moment_in m.state) s) (unreached EmptySlot)
 
 -- "the whole order": the slots of the keys
 unfoldable pub order_of : Memory → List ℕ

@@ -4,10 +4,13 @@ use Rattle.refusals.specs.Table.{NothingDue}
 use Rattle.refusals.specs.Answers.{Answer, given, refused, refuse}
 use Rattle.calendar.specs.Moments.{Outcome, moment, refused as unreached, is_moment, instant_of, moment_in}
 use Rattle.calendar.specs.declared.moments.Moment.{Moment}
+use Rattle.lexer.specs.Keywords.{words_in}
+use Rattle.lexer.specs.declared.reading.Reading.{Reading}
 use Rattle.numbers.specs.Slices.{one_if}
 use Rattle.answer.specs.Answer.{placed}
-use Rattle.records.specs.Records.{decode_of}
-use Rattle.steps.specs.Running.{is_list}
+use Rattle.ready.specs.Ready.{ready_of}
+use Rattle.records.specs.Records.{encode_of}
+use Rattle.steps.specs.declared.plan.Step.{Step}
 use Rattle.board.specs.Boards.{board_slots, board_ready_size, Memory, Due, row_in, is_filled, phrase_at, outcome_at, due_of, order_at}
 
 -- what a slot's reminder gives, or the earliest of the slots behind it: "ties by lower slot"
@@ -72,9 +75,13 @@ pub record TakenOut (s : ℕ) (m m' : Memory) : Type 0 where
   pub free : is_filled m' s ≡ false
   pub others : Others m m' s
 
--- a slot that holds a ready phrase: bytes that stand for a list of steps
-abbrev pub Held : Memory → ℕ → Type 0
-Held m s = is_list (decode_of (phrase_at m s)) ≡ true
+-- a slot that holds a phrase made ready
+pub record Held (m : Memory) (s : ℕ) : Type 0 where
+  pub reading : Reading
+  pub phrase : List ℕ
+  pub steps : List Step
+  pub made : ready_of reading (words_in reading) phrase ≡ given steps
+  pub bytes : phrase_at m s ≡ encode_of steps
 
 -- the arrays that a caller lends
 pub record Sized (m : Memory) : Type 0 where
@@ -83,7 +90,7 @@ pub record Sized (m : Memory) : Type 0 where
   pub keys : length m.keys ≡ board_slots
   pub state : length m.state ≡ 8
 
--- "Invariant: the order is the sorted list of the filled slots' keys at the board's now"; the now is a moment, and each filled slot holds a ready phrase
+-- "Invariant: the order is the sorted list of the filled slots' keys at the board's now"; the now is a moment, and each filled slot holds a phrase made ready
 pub record IsBoard (m : Memory) : Type 0 where
   pub sized : Sized m
   pub now : is_moment (moment_in m.state) ≡ true

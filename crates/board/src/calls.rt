@@ -1,38 +1,21 @@
 // What an app does with a board: made, added to, removed from, run again, and asked.
 ghost use Rattle.std.specs.Prelude.{◌≡◌, List, ℕ, ◌/◌, length};
 ghost use Rattle.std.proofs.lemmas.List.Edits.{sets};
-ghost use Rattle.refusals.specs.Answers.{refused, refusal_of};
-ghost use Rattle.calendar.specs.Moments.{reached_of};
+ghost use Rattle.refusals.specs.Answers.{refusal_of};
 ghost use Rattle.lexer.specs.Keywords.{words_in};
 ghost use Rattle.ready.specs.Ready.{ready_of};
 ghost use Rattle.board.specs.Rows.{slot_of};
-ghost use Rattle.board.specs.Boards.{memory, at_entry, at_exit, memory_after, at_instant, due_at, head_from, added_of};
-ghost use Rattle.board.specs.Boards.{make_of, add_of, add_ready_of, remove_of, again_of, head_of, slot_moment, order_of};
+ghost use Rattle.board.specs.Boards.{memory, at_entry, at_exit, memory_after, at_instant, due_at, make_of, add_of, remove_of, again_of, head_of, order_of, head_from, added_of};
 
-use super::anew::order_anew;
-use super::holding::{hold, hold_ready};
+use super::holding::{hold, order_anew};
 use super::instants::at_instant;
 use super::rows::{drop_slot, put_slots};
-use super::slots::{count, free_slot, outcome_now, put_state};
+use super::slots::{count, free_slot, put_state};
 use super::{Added, BOARD_READY_SIZE, BOARD_SLOTS, Earliest};
 use calendar::moments::{Moment, Reached};
 use lexer::reading::Reading;
 use ready::make_ready;
-use records::run::is_list;
-use refusals::{EMPTY_SLOT, FULL_BOARD, INVALID_MOMENT, NO_SENSE, NONE, Refusal};
-
-// Refusals without a place in a phrase.
-const FULL: Refusal = Refusal {
-    number: FULL_BOARD,
-    place: 0,
-    end: 0,
-};
-
-const SENSELESS: Refusal = Refusal {
-    number: NO_SENSE,
-    place: 0,
-    end: 0,
-};
+use refusals::{EMPTY_SLOT, FULL_BOARD, INVALID_MOMENT, NONE, Refusal};
 
 // A board made empty at a now: 0, or 8 and nothing written.
 pub fn make(lengths: &mut [u32; BOARD_SLOTS], state: &mut [u32; 8], at: Moment) -> u32
@@ -46,13 +29,6 @@ pub fn make(lengths: &mut [u32; BOARD_SLOTS], state: &mut [u32; 8], at: Moment) 
         return 0;
     }
     INVALID_MOMENT
-}
-
-// A reminder that was not added.
-fn not_added(refusal: Refusal) -> Added
-    ensures { result ≡ added_of (refused refusal) }
-{
-    Added { refusal, slot: 0 }
 }
 
 // One reminder more, made ready in a reading: its slot, or what making ready refuses, then 24, and nothing written.
@@ -80,35 +56,16 @@ pub fn add(
                 slot,
             };
         }
-        return not_added(FULL);
+        return Added {
+            refusal: Refusal {
+                number: FULL_BOARD,
+                place: 0,
+                end: 0,
+            },
+            slot: 0,
+        };
     }
-    not_added(refusal)
-}
-
-// One reminder more, a ready phrase as it is stored and sent: its slot, or 9 where it is no list of steps, then 24, and nothing written.
-pub fn add_ready(
-    bytes: &[u8],
-    ready: &mut [u8; BOARD_READY_SIZE],
-    lengths: &mut [u32; BOARD_SLOTS],
-    keys: &mut [u64; BOARD_SLOTS],
-    state: &mut [u32; 8],
-) -> Added
-    ensures value { result ≡ added_of (add_ready_of (at_entry ready lengths keys state) bytes.now) }
-    ensures state_value { let m = at_entry ready lengths keys state in
-        at_exit ready lengths keys state ≡ memory_after m (add_ready_of m bytes.now) }
-{
-    if is_list(bytes) {
-        let slot = free_slot(lengths, state);
-        if slot < BOARD_SLOTS {
-            hold_ready(bytes, slot, ready, lengths, keys, state);
-            return Added {
-                refusal: NONE,
-                slot,
-            };
-        }
-        return not_added(FULL);
-    }
-    not_added(SENSELESS)
+    Added { refusal, slot: 0 }
 }
 
 // One reminder less: 0, or 25 and nothing written.
@@ -174,26 +131,6 @@ pub fn head(keys: &[u64; BOARD_SLOTS], state: &[u32; 8]) -> Earliest
         return Earliest::Nothing;
     }
     earliest(keys[0])
-}
-
-// The moment of a slot's reminder at the board's now: 25 for a slot that holds none, and what the reminder refuses.
-pub fn slot_moment(
-    ready: &[u8; BOARD_READY_SIZE],
-    lengths: &[u32; BOARD_SLOTS],
-    state: &[u32; 8],
-    slot: u32,
-) -> Reached
-    ensures { (keys : List ℕ) → let m = memory ready.now lengths.now keys state.now in
-        reached_of result ≡ slot_moment m slot }
-{
-    let s = slot as usize;
-    if s >= BOARD_SLOTS {
-        return Reached::Refused(EMPTY_SLOT);
-    }
-    if lengths[s] == 0 {
-        return Reached::Refused(EMPTY_SLOT);
-    }
-    outcome_now(ready, lengths, state, s)
 }
 
 // The slots in the order of their moments, at the front of a lent array; how many there are.

@@ -4,7 +4,6 @@ ghost use Rattle.calendar.specs.Moments.{IsMoment, Valid, reached_of, instant_of
 ghost use Rattle.board.specs.Boards.{instants, due_of, at_instant};
 
 use calendar::moments::{Moment, Reached};
-use refusals::OUTSIDE;
 
 // The milliseconds of the years 1 to 9999.
 const INSTANTS: u64 = 315537897600000;
@@ -14,7 +13,8 @@ fn instant(t: Moment) -> u64
     requires { IsMoment t }
     ensures { (result ≡ instant_of t) × (result < instants) }
 {
-    1000 * t.second_number() + (t.millisecond as u64)
+    let minutes = 1440 * (t.day_number() as u64) + 60 * (t.hour as u64) + (t.minute as u64);
+    1000 * (60 * minutes + (t.second as u64)) + (t.millisecond as u64)
 }
 
 // When a reminder is due; behind all instants where it refuses.
@@ -30,10 +30,14 @@ pub(crate) fn due(reached: Reached) -> u64
 
 // The moment of an instant.
 pub(crate) fn at_instant(i: u64) -> Reached
+    requires { i < 72057594037927936 }
     ensures { reached_of result ≡ at_instant i }
 {
-    if i < INSTANTS {
-        return Reached::At(Moment::at_second(i / 1000, (i % 1000) as u32));
-    }
-    Reached::Refused(OUTSIDE)
+    let hour = (i / 3600000 % 24) as u32;
+    let minute = (i / 60000 % 60) as u32;
+    let second = (i / 1000 % 60) as u32;
+    let millisecond = (i % 1000) as u32;
+    Moment::FIRST
+        .with_time(hour, minute, second, millisecond)
+        .on_day((i / 86400000) as u32)
 }

@@ -3,13 +3,11 @@ use calendar::moments::Moment;
 use records::record::READY_SIZE;
 use refusals::Refusal;
 
-mod anew;
 pub mod calls;
 mod holding;
 mod instants;
 mod rows;
 mod slots;
-mod sorting;
 
 // The reminders that a board has room for.
 pub const BOARD_SLOTS: usize = 256;

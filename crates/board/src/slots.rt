@@ -1,14 +1,13 @@
 // The slots, the now and the count in the caller's memory.
 ghost use Rattle.std.specs.Prelude.{◌≡◌, List, ℕ, ◌≤◌, ◌<◌, min};
-ghost use Rattle.calendar.specs.Moments.{IsMoment, Valid, moment_in, reached_of};
-ghost use Rattle.board.specs.Boards.{board_slots, memory, count_in, state_of, outcome_at, key_of, lowest_free, free_slot};
+ghost use Rattle.calendar.specs.Moments.{moment_in};
+ghost use Rattle.board.specs.Boards.{board_slots, memory, count_in, state_of, key_at, lowest_free, free_slot};
 
 use super::instants::due;
 use super::{BOARD_READY_SIZE, BOARD_SLOTS};
-use calendar::moments::{Moment, Reached};
+use calendar::moments::Moment;
 use records::record::READY_SIZE;
-use records::run::run_valid;
-use refusals::INVALID_MOMENT;
+use records::run::run_ready;
 
 // The now.
 pub(crate) fn now_of(state: &[u32; 8]) -> Moment
@@ -81,46 +80,18 @@ pub(crate) fn free_slot(lengths: &[u32; BOARD_SLOTS], state: &[u32; 8]) -> usize
     BOARD_SLOTS
 }
 
-// What a slot's reminder gives at a valid now.
-pub(crate) fn outcome_at(
+// The key of a slot at a now.
+pub(crate) fn key_at(
     ready: &[u8; BOARD_READY_SIZE],
     lengths: &[u32; BOARD_SLOTS],
     slot: usize,
     at: Moment,
-) -> Reached
-    requires { (slot < board_slots) × IsMoment at }
-    ensures by_index { (keys state : List ℕ) → reached_of result ≡ outcome_at (memory ready.now lengths.now keys state) at slot }
-    ensures valid { Valid (reached_of result) }
+) -> u64
+    requires { slot < board_slots }
+    ensures { (keys state : List ℕ) → result ≡ key_at (memory ready.now lengths.now keys state) at slot }
 {
     let start = READY_SIZE * slot;
     let end = start + at_most(lengths[slot], READY_SIZE);
     let all = &ready[..];
-    run_valid(&all[start..end], at)
-}
-
-// What it gives at the board's now: 8 where the memory holds none.
-pub(crate) fn outcome_now(
-    ready: &[u8; BOARD_READY_SIZE],
-    lengths: &[u32; BOARD_SLOTS],
-    state: &[u32; 8],
-    slot: usize,
-) -> Reached
-    requires { slot < board_slots }
-    ensures by_index { (keys : List ℕ) → let m = memory ready.now lengths.now keys state.now in
-        reached_of result ≡ outcome_at m (moment_in m.state) slot }
-    ensures valid { Valid (reached_of result) }
-{
-    let at = now_of(state);
-    if at.valid() {
-        return outcome_at(ready, lengths, slot, at);
-    }
-    Reached::Refused(INVALID_MOMENT)
-}
-
-// The key of a slot whose reminder gives this.
-pub(crate) fn key_of(reached: Reached, slot: usize) -> u64
-    requires { Valid (reached_of reached) × (slot < board_slots) }
-    ensures { result ≡ key_of (reached_of reached) slot }
-{
-    256 * due(reached) + (slot as u64)
+    256 * due(run_ready(&all[start..end], at)) + (slot as u64)
 }

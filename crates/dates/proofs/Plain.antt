@@ -1,4 +1,4 @@
--- What is read of lexemes does not depend on how many digits their runs had: of a duration and of a time in either reading, of a date in the first.
+-- What is read of lexemes does not depend on how many digits their runs had; of a date this holds in the first reading.
 use mathlib.Core.Path.{◌≡◌, refl}
 use mathlib.Core.Bool.{true, false}
 use mathlib.Core.List.{List}
@@ -8,7 +8,6 @@ use lib.Dec.{ltb}
 use lib.ListN.{drop, length-map}
 use borrow.Author.Tests.{lt-ltb}
 use Rattle.lexer.specs.Lexemes.{Monday, Sunday, January, December, Dash, Dot, Slash, NUM, value_of}
-use Rattle.lexer.specs.declared.reading.Reading.{Reading}
 use Rattle.lexer.specs.declared.reading.Reading.TheVariants.{First}
 use Rattle.numbers.specs.Slices.{get, within}
 use Rattle.numbers.specs.Numbers.{num_of}
@@ -24,8 +23,8 @@ use Rattle.dates.proofs.LexemesTaken.{num_took}
 use Rattle.dates.proofs.Durations.{then_same}
 
 -- a number, of which the digits are not read
-number_plain : (r : Reading) (l : List ℕ) → parsed_number (num_of r (plain_of l)) ≡ parsed_number (num_of r l)
-number_plain r l = num_unread parsed_number (λ a. refl) r l
+number_plain : (l : List ℕ) → parsed_number (num_of First (plain_of l)) ≡ parsed_number (num_of First l)
+number_plain l = num_unread parsed_number (λ a. refl) First l
 
 -- an article
 article_plain : (l : List ℕ) → is_article (plain_of l) ≡ is_article l
@@ -58,9 +57,9 @@ unfolding relative_specifier_of
 specifier_plain l = simp (get_plain, eqb-plain)
 
 -- a number and a unit
-specific_plain : (r : Reading) (l : List ℕ) → specific_of r (plain_of l) ≡ specific_of r l
+specific_plain : (l : List ℕ) → specific_of First (plain_of l) ≡ specific_of First l
 unfolding specific_of
-specific_plain r l = simp (number_plain, drop-plain, unit_plain)
+specific_plain l = simp (number_plain, drop-plain, unit_plain)
 
 -- an article and a unit
 article_unit_plain : (l : List ℕ) → article_of (plain_of l) ≡ article_of l
@@ -68,25 +67,25 @@ unfolding article_of
 article_unit_plain l = simp (article_plain, drop-plain, unit_plain)
 
 -- a part of a duration
-concrete_plain : (r : Reading) (l : List ℕ) → concrete_of r (plain_of l) ≡ concrete_of r l
+concrete_plain : (l : List ℕ) → concrete_of First (plain_of l) ≡ concrete_of First l
 unfolding concrete_of
-concrete_plain r l = simp (specific_plain, article_unit_plain)
+concrete_plain l = simp (specific_plain, article_unit_plain)
 
 -- a part of a duration and what D reads behind it
-duration_turn_plain : (r : Reading) (D : List ℕ → Parsed Duration) → ((m : List ℕ) → D (plain_of m) ≡ D m)
-    → (l : List ℕ) → duration_turn r D (plain_of l) ≡ duration_turn r D l
+duration_turn_plain : (D : List ℕ → Parsed Duration) → ((m : List ℕ) → D (plain_of m) ≡ D m)
+    → (l : List ℕ) → duration_turn First D (plain_of l) ≡ duration_turn First D l
 unfolding duration_turn
-duration_turn_plain r D same l = simp (concrete_plain, at_plain, drop-plain, same)
+duration_turn_plain D same l = simp (concrete_plain, at_plain, drop-plain, same)
 
 -- a duration
-pub duration_plain : (r : Reading) (l : List ℕ) → duration_of r (plain_of l) ≡ duration_of r l
+pub duration_plain : (l : List ℕ) → duration_of First (plain_of l) ≡ duration_of First l
 unfolding duration_of
-duration_plain r l = again_plain nothing (duration_turn r) ◌≡◌ refl (duration_turn_plain r) l
+duration_plain l = again_plain nothing (duration_turn First) ◌≡◌ refl duration_turn_plain l
 
 -- a minute
-minute_plain : (r : Reading) (l : List ℕ) → minute_of r (plain_of l) ≡ minute_of r l
+minute_plain : (l : List ℕ) → minute_of First (plain_of l) ≡ minute_of First l
 unfolding minute_of
-minute_plain r l = simp (at_plain, drop-plain, number_plain)
+minute_plain l = simp (at_plain, drop-plain, number_plain)
 
 -- the half of the day
 half_plain : (hour minute t : ℕ) (l : List ℕ) → half_of hour minute t (plain_of l) ≡ half_of hour minute t l
@@ -94,14 +93,14 @@ unfolding half_of
 half_plain hour minute t l = simp at_plain
 
 -- a time in numbers
-clock_plain : (r : Reading) (l : List ℕ) → clock_of r (plain_of l) ≡ clock_of r l
+clock_plain : (l : List ℕ) → clock_of First (plain_of l) ≡ clock_of First l
 unfolding clock_of
-clock_plain r l = simp (number_plain, drop-plain, minute_plain, half_plain)
+clock_plain l = simp (number_plain, drop-plain, minute_plain, half_plain)
 
 -- a time
-pub time_plain : (r : Reading) (l : List ℕ) → time_of r (plain_of l) ≡ time_of r l
+pub time_plain : (l : List ℕ) → time_of First (plain_of l) ≡ time_of First l
 unfolding time_of
-time_plain r l = simp (at_plain, clock_plain)
+time_plain l = simp (at_plain, clock_plain)
 
 -- a day by its name
 named_plain : (l : List ℕ) → named_day_of (plain_of l) ≡ named_day_of l

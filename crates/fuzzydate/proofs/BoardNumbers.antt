@@ -1,5 +1,5 @@
 -- What the numbers of a board's calls say. Assumes nothing.
-use Prim.Native.Nat.{ℕ, ◌≤◌, ◌<◌, min, zero-le}
+use Prim.Native.Nat.{ℕ, ◌≤◌, ◌<◌, min}
 use native.Mathlib.Omega.{arith}
 use mathlib.Core.Path.{◌≡◌, refl}
 use mathlib.Core.Bool.{Bool, true, false, cond, ◌&&◌}
@@ -7,9 +7,9 @@ use mathlib.Core.List.{List, map}
 use lib.Dec.{ltb}
 use lib.ListN.{length, take, length-map, length-take, replicate}
 use lib.Seq.{sets}
-use borrow.Author.Tests.{ltb-true, ne_eqb}
-use Rattle.refusals.specs.Table.{InvalidMoment, NoSense, FullBoard, EmptySlot}
-use Rattle.refusals.specs.Answers.{Answer, given, refusal_at, refuse, and_then, refusal_of}
+use borrow.Author.Tests.{ltb-true}
+use Rattle.refusals.specs.Table.{InvalidMoment, FullBoard, EmptySlot}
+use Rattle.refusals.specs.Answers.{given, refusal_at, refuse, and_then, refusal_of}
 use Rattle.refusals.proofs.Holds.{Holds, of_given, of_refusal, Bounded}
 use Rattle.calendar.specs.Moments.{is_moment}
 use Rattle.calendar.specs.declared.moments.Moment.{Moment}
@@ -17,12 +17,9 @@ use Rattle.lexer.specs.Keywords.{words_in}
 use Rattle.lexer.specs.declared.reading.Reading.{Reading}
 use Rattle.ready.specs.Ready.{ReadyPhrase, ready_of}
 use Rattle.ready.proofs.ReadyPhrases.{MadeReady, made_ready}
-use Rattle.records.specs.Records.{encode_of, decode_of}
-use Rattle.steps.specs.Running.{is_list}
 use Rattle.board.specs.Rows.{slot_of}
-use Rattle.board.specs.Boards.{Memory, Done, done, make_of, slot_for, joined, put_on, add_of, add_ready_of, remove_of, again_of, order_of, free_slot, count_in, is_filled, memory, state_of, order_at, removed, added_of}
-use Rattle.board.specs.declared.Added.{Added}
-use Rattle.fuzzydate.specs.Called.{code_of, added_code, added_number}
+use Rattle.board.specs.Boards.{Memory, Done, done, make_of, slot_for, add_of, remove_of, again_of, order_of, free_slot, count_in, is_filled, memory, state_of, order_at, removed}
+use Rattle.fuzzydate.specs.Called.{code_of}
 
 -- a refusal without a place is its number
 plain : (k : ℕ) (b : Bool) (d : Done) → (refusal_of (cond b (given d) (refuse k 0 0))).number ≡ code_of (cond b (given d) (refuse k 0 0))
@@ -35,7 +32,7 @@ make_code m n = plain InvalidMoment (is_moment n) (record { number = 0; after = 
 
 pub remove_code : (m : Memory) (s : ℕ) → (refusal_of (remove_of m s)).number ≡ code_of (remove_of m s)
 unfolding remove_of
-remove_code m s = plain EmptySlot (ltb s 256 && is_filled m s) (record { number = 0; after = removed m s })
+remove_code m s = plain EmptySlot (ltb s 256 && is_filled m s) (record { number = s; after = removed m s })
 
 pub again_code : (m : Memory) (n : Moment) → (refusal_of (again_of m n)).number ≡ code_of (again_of m n)
 unfolding again_of
@@ -46,42 +43,18 @@ again_code m n =
 abbrev pub OneOf256 : Done → Type 0
 OneOf256 d = d.number < 256
 
-put_within : (m : Memory) (p : List ℕ) → Holds OneOf256 (Bounded 1 24 256) (put_on m p)
-unfolding slot_for
-put_within m p = slot (free_slot m) (ltb (free_slot m) 256) refl
-  where
-    slot : (k : ℕ) (b : Bool) → ltb k 256 ≡ b →
-        Holds OneOf256 (Bounded 1 24 256) (and_then (cond b (given k) (refuse FullBoard 0 0)) (λ k. done k (joined m k p)))
-    slot k true e = of_given (ltb-true k 256 e)
-    slot k false e = of_refusal {r = refusal_at FullBoard 0 0} (omega arith)
-
 pub added_within : (m : Memory) (reading : Reading) (s : List ℕ) → Holds OneOf256 (Bounded 1 24 256) (add_of m (ready_of reading (words_in reading) s))
-unfolding add_of
+unfolding add_of slot_for
 added_within m reading s = go (made_ready reading s)
   where
+    slot : (k : ℕ) (b : Bool) → ltb k 256 ≡ b → (f : ℕ → Memory) →
+        Holds OneOf256 (Bounded 1 24 256) (and_then (cond b (given k) (refuse FullBoard 0 0)) (λ k. done k (f k)))
+    slot k true e f = of_given (ltb-true k 256 e)
+    slot k false e f = of_refusal {r = refusal_at FullBoard 0 0} (omega arith)
+
     go : {w : ReadyPhrase} → Holds MadeReady (Bounded 1 7 (min (length s) 256)) w → Holds OneOf256 (Bounded 1 24 256) (add_of m w)
-    go (of_given {x} p) = put_within m (encode_of x)
+    go (of_given p) = slot (free_slot m) (ltb (free_slot m) 256) refl _
     go (of_refusal {r} b) = of_refusal {r = r} (omega (arith, b))
-
-pub ready_within : (m : Memory) (p : List ℕ) → Holds OneOf256 (Bounded 1 24 256) (add_ready_of m p)
-unfolding add_ready_of
-ready_within m p = go (is_list (decode_of p))
-  where
-    go : (b : Bool) → Holds OneOf256 (Bounded 1 24 256) (cond b (put_on m p) (refuse NoSense 0 0))
-    go true = put_within m p
-    go false = of_refusal {r = refusal_at NoSense 0 0} (omega arith)
-
--- a slot of the board and a part within the phrase, and they are the code
-pub record AddedCoded (w : Answer Done) (a : Added) : Type 0 where
-  pub may : (a.slot < 256) × (a.refusal.place ≤ a.refusal.end) × (a.refusal.end ≤ 256)
-  pub says : added_number a ≡ added_code w
-
-pub added_coded : {w : Answer Done} {a : Added} → Holds OneOf256 (Bounded 1 24 256) w → a ≡ added_of w → AddedCoded w a
-added_coded h e = rw e (go h)
-  where
-    go : {w : Answer Done} → Holds OneOf256 (Bounded 1 24 256) w → AddedCoded w (added_of w)
-    go (of_given p) = record { may = (p, zero-le, zero-le); says = refl }
-    go (of_refusal {r} b) = record { may = (omega arith, b.start, b.within); says = rw (ne_eqb r.number 0 (λ z. omega (arith, z, b.least))) }
 
 -- an order has at most 256 slots
 few : (n : ℕ) (l : List ℕ) → length (map slot_of (take n l)) ≤ n

@@ -4,5 +4,3 @@ pub mod Readings
 pub mod HandedOn
 pub mod WrittenBack
 pub mod WrittenNumbers
-pub mod PinNumbers
-pub mod CompletedNumbers

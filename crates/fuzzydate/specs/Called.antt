@@ -9,7 +9,6 @@ use Rattle.calendar.specs.declared.moments.Moment.{Moment}
 use Rattle.lexer.specs.Keywords.{words_in}
 use Rattle.lexer.specs.Words.{folded}
 use Rattle.lexer.specs.Visits.{looked_up}
-use Rattle.lexer.specs.Completions.{complete_of, count_after}
 use Rattle.lexer.specs.declared.find.Found.{Found}
 use Rattle.lexer.specs.declared.find.Found.TheVariants.{Lexeme, Unknown}
 use Rattle.lexer.specs.declared.find.Looked.{Looked}
@@ -29,8 +28,6 @@ use Rattle.zones.specs.declared.instants.Instant.{Instant}
 use Rattle.zoned.specs.Local.{evaluate_in_zone}
 use Rattle.zoned.specs.declared.local.Local.{Local}
 use Rattle.board.specs.Boards.{Done, Due}
-use Rattle.board.specs.declared.Added.{Added}
-use Rattle.bundle.specs.declared.find.Place.{Place}
 use Rattle.fuzzydate.specs.declared.Chosen.{Chosen}
 use Rattle.fuzzydate.specs.declared.Chosen.TheVariants.{As, Neither}
 
@@ -39,7 +36,7 @@ abbrev pub major : ℕ
 major = 1
 
 abbrev pub minor : ℕ
-minor = 1
+minor = 0
 
 abbrev pub patch : ℕ
 patch = 0
@@ -121,18 +118,6 @@ abbrev pub found_after : Answer Looked → List ℕ → List ℕ
 found_after (given l) lent = lexeme_code l.found ∷ l.count ∷ []
 found_after (refused r) lent = lent
 
--- a word of the reading of a number by its beginning, in so many bytes of room: 15, then 27, then 17
-abbrev pub complete_in : ℕ → List ℕ → ℕ → ℕ → Answer (List ℕ)
-complete_in k prefix which room = and_then (reading_of k) (λ reading. complete_of reading prefix which room)
-
--- how many such words there are is written over what was lent; on a refusal it stays
-abbrev pub completed_by : Answer Reading → List ℕ → Answer (List ℕ) → List ℕ → List ℕ
-completed_by (given reading) prefix answer lent = count_after lent reading prefix answer
-completed_by (refused r) prefix answer lent = lent
-
-abbrev pub completed_after : ℕ → List ℕ → Answer (List ℕ) → List ℕ → List ℕ
-completed_after k prefix answer lent = completed_by (reading_of k) prefix answer lent
-
 -- a rule's occurrences from a start on, as many as so many numbers have room for: "8 for a start that is no moment, 18 for a rule outside this,
 -- 19 for a start that doesn't match or lies past UNTIL"
 abbrev pub list_in : List ℕ → Moment → ℕ → Answer (List ℕ)
@@ -160,24 +145,10 @@ abbrev pub local_after : Answer Local → List ℕ → List ℕ
 local_after (given x) lent = nine x.civil x.west x.offset
 local_after (refused r) lent = lent
 
--- until when a file is good, in seconds since 1970 with a sign, is written over what was lent; on a refusal it stays
-abbrev pub until_after : Answer ℕ → List ℕ → List ℕ
-until_after (given s) lent = turned s ∷ []
-until_after (refused r) lent = lent
-
--- the place of a zone's file in its bundle, and its length, are written over what was lent; on a refusal it stays
-abbrev pub place_after : Answer Place → List ℕ → List ℕ
-place_after (given p) lent = p.start ∷ p.length ∷ []
-place_after (refused r) lent = lent
-
 -- of a reminder that is added: 0 for the number and the place, and its slot from bit 32 on
 abbrev pub added_code : Answer Done → ℕ
 added_code (given d) = 4294967296 * d.number
 added_code (refused r) = code r
-
--- the same of the code's answer
-abbrev pub added_number : Added → ℕ
-added_number a = cond (eqb a.refusal.number 0) (4294967296 * a.slot) (code a.refusal)
 
 -- of the one that is due first: its slot likewise
 abbrev pub head_code : Answer Due → ℕ

@@ -1,10 +1,9 @@
 // What apps call: phrases, nows, ready phrases, stamps and moments as numbers and byte slices.
-ghost use Rattle.std.specs.Prelude.{◌≡◌, List, ℕ, ◌+◌, ◌*◌, ◌≤◌, ◌<◌, length};
+ghost use Rattle.std.specs.Prelude.{◌≡◌, List, ℕ, ◌+◌, ◌*◌, ◌≤◌, length};
 ghost use Rattle.std.proofs.lemmas.List.Edits.{sets};
 ghost use Rattle.calendar.specs.Gregorian.{days};
 ghost use Rattle.calendar.specs.Moments.{seven, reached_of, moment_in};
 ghost use Rattle.answer.specs.Answer.{placed};
-ghost use Rattle.steps.specs.Pins.{pin_of};
 ghost use Rattle.steps.specs.Running.{run_of};
 ghost use Rattle.records.specs.Records.{decode_of};
 ghost use Rattle.refusals.specs.Writings.{buffer_of};
@@ -15,23 +14,18 @@ ghost use Rattle.fuzzydate.specs.Called.{stamp_in, nine, stamp_after, written_co
 ghost use Rattle.repeats.specs.Listing.{rows_after};
 ghost use Rattle.coming.specs.Next.{answered};
 ghost use Rattle.zoned.specs.Local.{located_of, run_in_zone};
-ghost use Rattle.zones.specs.Until.{until_of};
-ghost use Rattle.bundle.specs.Bundles.{find_of};
-ghost use Rattle.board.specs.Boards.{memory, at_entry, at_exit, memory_after, make_of, add_of, add_ready_of, remove_of, again_of, slot_moment, head_of, order_of};
+ghost use Rattle.board.specs.Boards.{memory, at_entry, at_exit, memory_after, make_of, add_of, remove_of, again_of, head_of, order_of};
 ghost use Rattle.fuzzydate.specs.Called.{found_in, found_after, list_in, next_in, instant_from, read_in_zone, due_after, local_after};
-ghost use Rattle.fuzzydate.specs.Called.{complete_in, completed_after, until_after, place_after, added_code, added_number, head_code, head_after};
+ghost use Rattle.fuzzydate.specs.Called.{added_code, head_code, head_after};
 
 use answer::{Answered, answer};
-use board::calls::{add, add_ready, again, head, make, order, remove, slot_moment};
-use board::{Added, BOARD_READY_SIZE, BOARD_SLOTS, Earliest};
-use bundle::find::{ZoneFound, find_zone};
+use board::calls::{add, again, head, make, order, remove};
+use board::{BOARD_READY_SIZE, BOARD_SLOTS, Earliest};
 use calendar::moments::{MOMENT_NUMBERS, Moment, Reached};
 use coming::next;
-use lexer::complete::complete;
 use lexer::find::{Found, look_up};
 use lexer::reading::Reading;
 use ready::make_ready;
-use records::pin::pin;
 use records::record::{READY_SIZE, encode};
 use records::run::run_ready;
 use refusals::{INVALID_MOMENT, NO_READING, NO_RULE, NOTHING_DUE, Refusal, Wrote};
@@ -44,8 +38,6 @@ use stamp::{Offset, Stamp};
 use tzif::octets::turned;
 use zoned::local::{Located, run_in_zone};
 use zones::instants::Instant;
-use zones::search::Resolved;
-use zones::until::zone_until;
 
 // Where the place of a refusal stands in an answer, and where the length of its part does.
 const PLACE: u64 = 65536;
@@ -58,7 +50,7 @@ const STAMP_NUMBERS: usize = MOMENT_NUMBERS + 2;
 // The version of what apps call, which the file VERSION says.
 const MAJOR: u32 = 1;
 
-const MINOR: u32 = 1;
+const MINOR: u32 = 0;
 
 const PATCH: u32 = 0;
 
@@ -97,18 +89,6 @@ fn written(wrote: Wrote) -> u64
     ensures { result ≡ wrote.number + 4294967296 * wrote.count }
 {
     (wrote.number as u64) + LENGTH * (wrote.count as u64)
-}
-
-// How adding to a board ended as one number: the slot, or a refusal.
-fn added(a: Added) -> u64
-    requires { (a.slot < 256) × (a.refusal.place ≤ a.refusal.end) × (a.refusal.end ≤ 256) }
-    ensures { result ≡ added_number a }
-{
-    let refusal = a.refusal;
-    if refusal.number == 0 {
-        return LENGTH * (a.slot as u64);
-    }
-    code(refusal)
 }
 
 // The moment of seven numbers.
@@ -192,7 +172,7 @@ fn reached(at: Reached, moment: &mut [u32; MOMENT_NUMBERS]) -> u64
     }
 }
 
-// The version as one number: 1001000 for 1.1.0.
+// The version as one number: 1000000 for 1.0.0.
 #[unsafe(no_mangle)]
 pub extern "C" fn fuzzy_version() -> u32
     ensures { result ≡ version }
@@ -256,16 +236,6 @@ pub extern "C" fn fuzzy_run(
     reached(run_ready(ready, moment_in(at)), moment)
 }
 
-// A moment's seven numbers as the ready phrase that gives it at every now: the length of its record in bytes, and it at the start of the lent array;
-// or 8 and nothing written.
-#[unsafe(no_mangle)]
-pub extern "C" fn fuzzy_pin(moment: &[u32; MOMENT_NUMBERS], ready: &mut [u8; READY_SIZE]) -> u64
-    ensures value { result ≡ ready_code (pin_of (moment_in moment.now)) }
-    ensures ready_after { ready.new ≡ ready_after (pin_of (moment_in moment.now)) ready.old }
-{
-    written(pin(moment_in(moment), ready))
-}
-
 // A text as an RFC 3339 stamp: 0 and the stamp's nine numbers, or 14 or 12 and nothing written.
 #[unsafe(no_mangle)]
 pub extern "C" fn fuzzy_read_stamp(text: &[u8], stamp: &mut [u32; STAMP_NUMBERS]) -> u64
@@ -321,27 +291,6 @@ pub extern "C" fn fuzzy_find_word(reading: u32, word: &[u8], found: &mut [u32; 2
             0
         }
     }
-}
-
-// The which-th word of reading 1 or 2 that begins with a prefix, counted from 0, at the front of a lent text: its length in bytes, and how many there
-// are; or 15, 27 or 17 and nothing written.
-#[unsafe(no_mangle)]
-pub extern "C" fn fuzzy_complete(
-    reading: u32,
-    prefix: &[u8],
-    which: u32,
-    count: &mut [u32; 1],
-    word: &mut [u8],
-) -> u64
-    ensures value { result ≡ written_code (complete_in reading prefix.now which (length word.old)) }
-    ensures count_after { let answer = complete_in reading prefix.now which (length word.old) in
-        count.new ≡ completed_after reading prefix.now answer count.old }
-    ensures word_after { word.new ≡ buffer_of word.old (complete_in reading prefix.now which (length word.old)) }
-{
-    let Chosen::As(chosen) = choose(reading) else {
-        return NO_READING as u64;
-    };
-    written(complete(chosen, prefix, which, count, word))
 }
 
 // The occurrences of an RFC 5545 rule from a start on, rows of seven numbers from the front of a lent buffer on, as many as it has room for: their
@@ -460,36 +409,6 @@ pub extern "C" fn fuzzy_read_in_zone(
     made
 }
 
-// Until when a zone's file is good: 0 and the second of its last transition, or 21 or 22 and nothing written.
-#[unsafe(no_mangle)]
-pub extern "C" fn fuzzy_zone_until(zone: &[u8], until: &mut [u64; 1]) -> u64
-    ensures value { result ≡ code_of (until_of zone.now) }
-    ensures until_after { until.new ≡ until_after (until_of zone.now) until.old }
-{
-    match zone_until(zone) {
-        Resolved::At(second) => {
-            *until = [turned(second)];
-            0
-        }
-        Resolved::Refused(number) => number as u64,
-    }
-}
-
-// Where the file of a zone stands in a bundle, by its name: 0, and its place and length; or 28 or 29 and nothing written.
-#[unsafe(no_mangle)]
-pub extern "C" fn fuzzy_find_zone(bundle: &[u8], name: &[u8], place: &mut [u64; 2]) -> u64
-    ensures value { result ≡ code_of (find_of bundle.now name.now) }
-    ensures place_after { place.new ≡ place_after (find_of bundle.now name.now) place.old }
-{
-    match find_zone(bundle, name) {
-        ZoneFound::At(p) => {
-            *place = [p.start as u64, p.length as u64];
-            0
-        }
-        ZoneFound::Refused(number) => number as u64,
-    }
-}
-
 // A board made empty at a now: 0, or 8 and nothing written.
 #[unsafe(no_mangle)]
 pub extern "C" fn fuzzy_board_make_in(
@@ -521,23 +440,12 @@ pub extern "C" fn fuzzy_board_add_in(
     let Chosen::As(chosen) = choose(reading) else {
         return NO_READING as u64;
     };
-    added(add(chosen, phrase, ready, lengths, keys, state))
-}
-
-// One reminder more on a board, ready as it is stored and sent: its slot, or 9 or 24 and nothing written.
-#[unsafe(no_mangle)]
-pub extern "C" fn fuzzy_board_add_ready_in(
-    held: &mut [u8; BOARD_READY_SIZE],
-    lengths: &mut [u32; BOARD_SLOTS],
-    keys: &mut [u64; BOARD_SLOTS],
-    state: &mut [u32; 8],
-    ready: &[u8],
-) -> u64
-    ensures value { result ≡ added_code (add_ready_of (at_entry held lengths keys state) ready.now) }
-    ensures state_value { let m = at_entry held lengths keys state in
-        at_exit held lengths keys state ≡ memory_after m (add_ready_of m ready.now) }
-{
-    added(add_ready(ready, held, lengths, keys, state))
+    let added = add(chosen, phrase, ready, lengths, keys, state);
+    let refusal = added.refusal;
+    if refusal.number == 0 {
+        return LENGTH * (added.slot as u64);
+    }
+    code(refusal)
 }
 
 // One reminder less on a board: 0, or 25 and nothing written.
@@ -569,22 +477,6 @@ pub extern "C" fn fuzzy_board_again_in(
         memory ready.now lengths.now keys.new state.new ≡ memory_after m (again_of m (moment_in at.now)) }
 {
     again(ready, lengths, keys, state, moment_in(at)) as u64
-}
-
-// When a slot's reminder is due at the board's now: 0 and the moment's seven numbers, or 25 or what running refuses, and nothing written.
-#[unsafe(no_mangle)]
-pub extern "C" fn fuzzy_board_moment_in(
-    ready: &[u8; BOARD_READY_SIZE],
-    lengths: &[u32; BOARD_SLOTS],
-    state: &[u32; 8],
-    slot: u32,
-    moment: &mut [u32; MOMENT_NUMBERS],
-) -> u64
-    ensures by_index { (keys : List ℕ) → result ≡ code_of (placed (slot_moment (memory ready.now lengths.now keys state.now) slot)) }
-    ensures by_index_2 { (keys : List ℕ) → let m = memory ready.now lengths.now keys state.now in
-        moment.new ≡ moment_after (placed (slot_moment m slot)) moment.old }
-{
-    reached(slot_moment(ready, lengths, state, slot), moment)
 }
 
 // The reminder of a board that is due first: its slot and its moment's seven numbers, or 26 and nothing written.

@@ -6,7 +6,7 @@ use mathlib.Core.Bool.{Bool, true, false, cond}
 use Rattle.calendar.specs.Moments.{IsMoment, Outcome, moment, refused, and_then}
 use Rattle.calendar.specs.declared.moments.Moment.{Moment}
 use Rattle.answer.proofs.Leads.{Leads, leads, refuses}
-use Rattle.later.proofs.InOrder.{InOrder, own_time}
+use Rattle.later.proofs.InOrder.{InOrder}
 
 -- "both answered with a moment"
 pub record Kept (o p : Outcome) : Type 0 where
@@ -22,11 +22,6 @@ no_first = record { kept = λ x y e f. let z : ◌≡◌ {A = ℕ} 0 1 = cc in a
 
 no_second : {k : ℕ} {o : Outcome} → Kept o (refused k)
 no_second = record { kept = λ x y e f. let z : ◌≡◌ {A = ℕ} 0 1 = cc in absurd (omega arith) }
-
--- the same outcome twice
-pub itself : (o : Outcome) → Kept o o
-itself (moment t) = both (record { time = own_time t; day = omega arith })
-itself (refused k) = no_first
 
 -- by a test of each
 pub tested : (b c : Bool) (k : ℕ) (o p : Outcome) → (b ≡ true → c ≡ true → Kept o p) → Kept (cond b o (refused k)) (cond c p (refused k))

@@ -16,17 +16,16 @@ use Rattle.dates.specs.declared.date.Date.{Date}
 use Rattle.dates.specs.declared.date.Date.TheVariants.{YearMonthNumDay, MonthNumDayYear, DayMonthYear, MonthDayYear}
 use Rattle.dates.specs.declared.date.Date.TheVariants.{MonthNumDay, MonthDay, Today, Tomorrow, Yesterday, Empty}
 use Rattle.evaluation.specs.Dates.{date_at}
-use Rattle.steps.specs.Pins.{pinned_at}
 use Rattle.steps.specs.Running.{start_at, move_by, act_of}
 use Rattle.steps.specs.declared.plan.Start.{Start}
-use Rattle.steps.specs.declared.plan.Start.TheVariants.{Now, Senseless, OnDate, InWeek, FromToday, Pinned}
+use Rattle.steps.specs.declared.plan.Start.TheVariants.{Now, Senseless, OnDate, InWeek, FromToday}
 use Rattle.steps.specs.declared.plan.Move.{Move}
 use Rattle.steps.specs.declared.plan.Move.TheVariants.{Minutes, Months, Years, BackTo, ForwardTo}
 use Rattle.steps.specs.declared.plan.Step.{Step}
 use Rattle.steps.specs.declared.plan.Step.TheVariants.{From, By, AtTime}
 use Rattle.later.specs.Nows.{SameTime}
 use Rattle.later.proofs.InOrder.{InOrder, on_dates, at_minutes}
-use Rattle.later.proofs.Outcomes.{Kept, both, itself, no_first, tested}
+use Rattle.later.proofs.Outcomes.{Kept, both, no_first, tested}
 use Rattle.later.proofs.Weekdays.{in_week_kept, forward_to_kept, back_to_kept}
 use Rattle.later.proofs.Stated.{date_kept, time_kept}
 
@@ -84,7 +83,6 @@ module _ {t u : Moment} (v : IsMoment t) (w : IsMoment u) (a : InOrder t u) wher
   start_kept (OnDate d) = date_at_kept d
   start_kept (InWeek s w) = in_week_kept a s (w % 7)
   start_kept (FromToday w) = forward_to_kept a (w % 7) (omega arith)
-  start_kept (Pinned d ms) = itself (pinned_at d ms)
 
   move_kept : (m : Move) → Kept (move_by m t) (move_by m u)
   move_kept (Minutes back k) = minutes_kept back k

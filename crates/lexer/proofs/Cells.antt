@@ -8,7 +8,6 @@ use lib.ListN.{length, get_or, take, drop, length-append, get_or-append}
 use lib.Seq.{take_at, drop_at, drop-drop, drop-append-add, get_or-drop, get_or-append-add}
 use Rattle.lexer.specs.Words.{Word}
 use Rattle.lexer.specs.Table.{fixed, row_of, cells, blank, spelling_at, lexeme_at}
-use Rattle.lexer.proofs.Fixed.{fixed_spells, fixed_apart}
 
 pub length-fixed : (n : ℕ) (w : List ℕ) → length (fixed n w) ≡ n
 length-fixed zero w = refl
@@ -26,11 +25,10 @@ module _ (w : Word) where
   row_length : length (row_of w) ≡ 16
   row_length = simp (length-append, length-fixed)
 
-  -- the number at a place behind the fillers
-  row_number : (j : ℕ) → get_or (row_of w) (14 + j) 0 ≡ get_or (length w.spelling ∷ w.lexeme ∷ []) j 0
-  row_number j =
-      ap (λ (n : ℕ). get_or (row_of w) (n + j) 0) (sym front_length)
-      ∙ get_or-append-add front (length w.spelling ∷ w.lexeme ∷ []) j 0
+  row_lexeme : get_or (row_of w) 15 0 ≡ w.lexeme
+  row_lexeme =
+      ap (λ (n : ℕ). get_or (row_of w) (n + 1) 0) (sym front_length)
+      ∙ get_or-append-add front (length w.spelling ∷ w.lexeme ∷ []) 1 0
 
 pub cells_length : (ws : List Word) → length (cells ws) ≡ length ws * 16
 cells_length [] = refl
@@ -44,7 +42,7 @@ cells_from (w ∷ ws) (suc i) h =
     let e : suc i * 16 ≡ length (row_of w) + i * 16 = omega (arith, row_length w) in
     ap (λ (n : ℕ). drop n (row_of w ++ cells ws)) e ∙ drop-append-add (row_of w) (cells ws) (i * 16) ∙ cells_from ws i (le_of_suc-le-suc h)
 
--- row i: the first 8 bytes of its word, the next 4, the word itself, its length and its lexeme
+-- row i: the first 8 bytes of its word, the next 4, and its lexeme
 module _ (ws : List Word) (i : ℕ) (h : i < length ws) where
   abbrev rest : List ℕ
   rest = fixed 2 [] ++ (length (spelling_at ws i) ∷ lexeme_at ws i ∷ []) ++ cells (drop (suc i) ws)
@@ -62,16 +60,8 @@ module _ (ws : List Word) (i : ℕ) (h : i < length ws) where
       ∙ drop_at (fixed 8 (spelling_at ws i)) (tail ++ rest) 8 (length-fixed 8 (spelling_at ws i)))
       ∙ take_at tail rest 4 (length-fixed 4 (drop 8 (spelling_at ws i)))
 
-  pub spelling_cells : length (spelling_at ws i) < 12 → take (length (spelling_at ws i)) (drop (i * 16) (cells ws)) ≡ spelling_at ws i
-  spelling_cells short =
-      let s = spelling_at ws i in
-      let whole = ap (λ (l : List ℕ). l ++ rest) (sym (fixed_apart 8 s)) in
-      ap (take (length s)) (from_head ∙ sym (append_assoc (fixed 8 s) (fixed 4 (drop 8 s)) rest) ∙ whole)
-      ∙ fixed_spells 12 s rest (omega arith)
-
-  -- the length at 14, and the lexeme at 15
-  pub number_cell : (j : ℕ) → j < 2 → get_or (cells ws) (i * 16 + (14 + j)) 0 ≡ get_or (length (spelling_at ws i) ∷ lexeme_at ws i ∷ []) j 0
-  number_cell j l =
+  pub lexeme-cell : get_or (cells ws) (i * 16 + 15) 0 ≡ lexeme_at ws i
+  lexeme-cell =
       let w = get_or ws i blank in
-      sym (get_or-drop (i * 16) (cells ws) (14 + j) 0) ∙ ap (λ (l : List ℕ). get_or l (14 + j) 0) (cells_from ws i h)
-      ∙ get_or-append (row_of w) (cells (drop (suc i) ws)) 0 (14 + j) (omega (arith, row_length w)) ∙ row_number w j
+      sym (get_or-drop (i * 16) (cells ws) 15 0) ∙ ap (λ (l : List ℕ). get_or l 15 0) (cells_from ws i h)
+      ∙ get_or-append (row_of w) (cells (drop (suc i) ws)) 0 15 (omega (arith, row_length w)) ∙ row_lexeme w

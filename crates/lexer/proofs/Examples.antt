@@ -3,15 +3,14 @@ use mathlib.Core.Path.{◌≡◌, refl}
 use mathlib.Core.List.{List, [], ◌∷◌, map}
 use Prim.Native.Nat.{ℕ, ◌+◌, ◌*◌}
 use Prim.Native.Char.{code}
-use lib.ListN.{length, replicate}
+use lib.ListN.{replicate}
 use Rattle.lexer.specs.Lexemes.{Fifty, Fourty, Five, Eight, In, Day, From, January, March, RD, TH, Dash, Comma, Colon, NUM}
 use Rattle.digits.specs.Bytes.{bytes_of}
 use Rattle.lexer.specs.Keywords.{keywords, words_in}
 use Rattle.lexer.specs.Classes.{class_of, mark_of}
 use Rattle.refusals.specs.Table as refusal
-use Rattle.refusals.specs.Answers.{Answer, given, refuse}
+use Rattle.refusals.specs.Answers.{given, refuse}
 use Rattle.lexer.specs.Lex.{word_at, number_at, token_at, Item, item, Lexed, lexed, codes_of, front}
-use Rattle.lexer.specs.Completions.{completions, complete_of}
 use Rattle.lexer.specs.declared.reading.Reading.{Reading}
 use Rattle.lexer.specs.declared.reading.Reading.TheVariants.{First, Second}
 
@@ -70,55 +69,3 @@ examples_hold = refl
 most_lexemes : (reading : Reading) → codes_of (front (words_in reading) (replicate 65 (code ","))) ≡ replicate 64 Comma
 unfolding front token_at word_at number_at class_of mark_of
 most_lexemes reading = refl
-
--- a prefix, which of its words is asked for and in how many bytes of room; how many there are, and the answer
-record Completing : Type 0 where
-  reading : Reading
-  prefix : List ℕ
-  which : ℕ
-  room : ℕ
-  count : ℕ
-  answer : Answer (List ℕ)
-
-abbrev completes : Reading → List ℕ → ℕ → ℕ → ℕ → Answer (List ℕ) → Completing
-completes reading p which room n r = record { reading = reading; prefix = p; which = which; room = room; count = n; answer = r }
-
-abbrev completing : List Completing
-completing =
-    completes First (bytes_of "frid") 0 11 1 (given (bytes_of "friday")) ∷
-    completes First (bytes_of "FRI") 0 11 1 (given (bytes_of "friday")) ∷
-    -- a whole word is a beginning of itself
-    completes First (bytes_of "day") 0 11 2 (given (bytes_of "day")) ∷
-    completes First (bytes_of "day") 1 11 2 (given (bytes_of "days")) ∷
-    completes First (bytes_of "day") 2 11 2 (refuse refusal.NoWord 0 0) ∷
-    -- the empty prefix lists all, in order
-    completes First [] 0 1 133 (given (bytes_of "a")) ∷
-    completes First [] 132 11 133 (given (bytes_of "zero")) ∷
-    completes First [] 133 11 133 (refuse refusal.NoWord 0 0) ∷
-    completes Second [] 135 11 136 (given (bytes_of "zero")) ∷
-    completes Second [] 136 11 136 (refuse refusal.NoWord 0 0) ∷
-    -- the usual spellings are words of the second only
-    completes First (bytes_of "fort") 0 11 0 (refuse refusal.NoWord 0 0) ∷
-    completes Second (bytes_of "fort") 1 11 2 (given (bytes_of "forty")) ∷
-    -- room for the word, and a byte less; a word that there is not is refused first
-    completes First (bytes_of "seventeent") 0 11 1 (given (bytes_of "seventeenth")) ∷
-    completes First (bytes_of "seventeenth") 0 10 1 (refuse refusal.NoRoom 0 0) ∷
-    completes First (bytes_of "seventeenth") 1 10 1 (refuse refusal.NoWord 0 0) ∷
-    completes First (bytes_of "seventeenths") 0 11 0 (refuse refusal.NoWord 0 0) ∷
-    -- inside a word is no beginning, and neither are the fillers of a row or other bytes
-    completes First (bytes_of "riday") 0 11 0 (refuse refusal.NoWord 0 0) ∷
-    completes First (bytes_of "day.") 0 11 0 (refuse refusal.NoWord 0 0) ∷
-    completes First (0 ∷ []) 0 11 0 (refuse refusal.NoWord 0 0) ∷
-    completes First (255 ∷ []) 0 11 0 (refuse refusal.NoWord 0 0) ∷
-    []
-
--- they are completed so
-completing_holds : map (λ (x : Completing). complete_of x.reading x.prefix x.which x.room) completing
-    ≡ map (λ (x : Completing). x.answer) completing
-unfolding complete_of completions keywords words_in
-completing_holds = refl
-
-counts_hold : map (λ (x : Completing). length (completions x.reading x.prefix)) completing
-    ≡ map (λ (x : Completing). x.count) completing
-unfolding completions keywords words_in
-counts_hold = refl

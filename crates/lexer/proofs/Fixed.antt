@@ -1,7 +1,7 @@
 -- The first bytes of a word as a row has them: one after the other, and in two parts. Assumes nothing.
 use mathlib.Core.Path.{◌≡◌, refl, ap, ◌∙◌}
 use mathlib.Core.List.{List, [], ◌∷◌, ◌++◌}
-use Prim.Native.Nat.{ℕ, zero, suc, ◌%◌, ◌≤◌, ◌<◌}
+use Prim.Native.Nat.{ℕ, zero, suc, ◌%◌, ◌<◌}
 use native.Mathlib.Nat.{not-suc-le-zero, le_of_suc-le-suc}
 use native.Mathlib.Omega.{arith}
 use lib.ListN.{length, get_or, set, take, drop}
@@ -21,13 +21,6 @@ pub fixed_take : (n : ℕ) (w : List ℕ) → fixed n (take n w) ≡ fixed n w
 fixed_take zero w = refl
 fixed_take (suc n) [] = refl
 fixed_take (suc n) (b ∷ w) = ap (◌∷◌ b) (fixed_take n w)
-
--- a word that has no more is at their front
-pub fixed_spells : (n : ℕ) (w l : List ℕ) → length w ≤ n → take (length w) (fixed n w ++ l) ≡ w
-fixed_spells zero [] l h = refl
-fixed_spells zero (b ∷ w) l h = absurd (not-suc-le-zero h)
-fixed_spells (suc n) [] l h = refl
-fixed_spells (suc n) (b ∷ w) l h = ap (◌∷◌ b) (fixed_spells n w l (le_of_suc-le-suc h))
 
 -- the last four are those of the word behind the others
 pub fixed_apart : (n : ℕ) (w : List ℕ) → fixed (suc (suc (suc (suc n)))) w ≡ fixed n w ++ fixed 4 (drop n w)

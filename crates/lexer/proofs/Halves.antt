@@ -15,10 +15,10 @@ use Rattle.lexer.specs.declared.find.Order.{Order}
 use Rattle.lexer.specs.declared.find.Order.TheVariants.{Less, Same, More}
 use Rattle.lexer.specs.declared.find.Found.{Found}
 use Rattle.lexer.specs.declared.find.Found.TheVariants.{Lexeme, Unknown}
-use Rattle.lexer.proofs.Order.{same_equal, more_less, less_more, less_trans}
+use Rattle.lexer.proofs.Order.{same_equal, more_less, less_more, less_trans, clash}
 
 -- w comes before the first row
-abbrev pub before : Word → List Word → Bool
+abbrev before : Word → List Word → Bool
 before w [] = true
 before w (x ∷ xs) = is_less (ordered w.spelling x.spelling)
 
@@ -33,7 +33,7 @@ is_less_lem Same t = absurd t
 is_less_lem More t = absurd t
 
 -- the first row comes before each later one
-pub first_least : (w : Word) (ws : List Word) → T (before w ws) → T (increasing ws) → (k : ℕ) → k < length ws
+first_least : (w : Word) (ws : List Word) → T (before w ws) → T (increasing ws) → (k : ℕ) → k < length ws
     → ordered w.spelling (spelling_at ws k) ≡ Less
 first_least w [] b t k h = absurd (not-suc-le-zero h)
 first_least w (x ∷ xs) b t zero h = is_less_lem (ordered w.spelling x.spelling) b
@@ -42,7 +42,7 @@ first_least w (x ∷ xs) b t (suc k) h =
     (first_least x xs (and_l (before x xs) (increasing xs) t) (and_r (before x xs) (increasing xs) t) k (le_of_suc-le-suc h))
 
 -- a row comes before each later one
-pub rising : (ws : List Word) → T (increasing ws) → (i k : ℕ) → i < k → k < length ws → ordered (spelling_at ws i) (spelling_at ws k) ≡ Less
+rising : (ws : List Word) → T (increasing ws) → (i k : ℕ) → i < k → k < length ws → ordered (spelling_at ws i) (spelling_at ws k) ≡ Less
 rising [] t i k l h = absurd (not-suc-le-zero h)
 rising (w ∷ ws) t i zero l h = absurd (not-suc-le-zero l)
 rising (w ∷ ws) t zero (suc k) l h =
@@ -71,9 +71,9 @@ module _ (ws : List Word) (t : T (increasing ws)) (f : List ℕ) (m : ℕ) (hm :
       go (equal q) = ap (λ (n : ℕ). ordered (spelling_at ws n) f) (sym q) ∙ e
       go (above l) = absurd (omega arith)
 
-  -- row m spells f: each row before it comes before f
-  pub all_before : ordered (spelling_at ws m) f ≡ Same → (k : ℕ) → k < m → ordered (spelling_at ws k) f ≡ Less
-  all_before e k h = ap (ordered (spelling_at ws k)) (sym (same_equal (spelling_at ws m) f e)) ∙ rising ws t k m h hm
+  -- row m spells f: no row before it does
+  pub none_before : ordered (spelling_at ws m) f ≡ Same → (k : ℕ) → k < m → ordered (spelling_at ws k) f ≡ Same → ⊥
+  none_before e k h d = clash (ap (ordered (spelling_at ws k)) (sym (same_equal (spelling_at ws m) f e)) ∙ rising ws t k m h hm) d tt
 
 -- a row that does not spell f is passed over
 passed : (o : Order) (a b : Found) → (o ≡ Same → ⊥) → cond (is_same o) a b ≡ b

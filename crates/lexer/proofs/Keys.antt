@@ -30,10 +30,10 @@ module _ (b : ℕ) (w : List ℕ) (t : T (small (b ∷ w))) where
   first_least : 97 ≤ b
   first_least = leb→le 97 b (and_l (leb 97 b) (leb b 122) (and_l (is_small b) (small w) t))
 
-  pub first_most : b ≤ 122
+  first_most : b ≤ 122
   first_most = leb→le b 122 (and_r (leb 97 b) (leb b 122) (and_l (is_small b) (small w) t))
 
-  pub rest_small : T (small w)
+  rest_small : T (small w)
   rest_small = and_r (is_small b) (small w) t
 
 small_plain : (w : List ℕ) → T (small w) → Plain w

@@ -8,11 +8,6 @@ pub mod Cells
 pub mod Fixed
 pub mod Rows
 pub mod Visited
-pub mod Search
-pub mod Standing
-pub mod Prefixes
-pub mod Spanned
-pub mod Completed
 pub mod Runs
 pub mod Lines
 pub mod Places

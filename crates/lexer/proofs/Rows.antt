@@ -13,7 +13,7 @@ use Rattle.lexer.specs.Words.{Word, small}
 use Rattle.lexer.specs.Table.{sorted, cells, spelling_at, lexeme_at, bytes_from, head_of, tail_of}
 use Rattle.lexer.specs.declared.reading.Reading.{Reading}
 use Rattle.lexer.specs.declared.reading.Reading.TheVariants.{First, Second}
-use Rattle.lexer.proofs.Cells.{cells_length, head_cells, tail_cells, spelling_cells, number_cell}
+use Rattle.lexer.proofs.Cells.{cells_length, head_cells, tail_cells, lexeme-cell}
 use Rattle.lexer.proofs.Halves.{increasing}
 
 -- each word has at most 11 letters, all of them small
@@ -97,14 +97,6 @@ module _ (reading : Reading) (i : ℕ) (h : i < count_in reading) where
     unfolding tail_of
     row_tail = rw lent (ap (bytes_from 0) (tail_cells rows i in_table))
 
-    -- the word itself
-    pub row_spelling : take (length spelling) (drop (i * 16) words) ≡ spelling
-    row_spelling = rw lent (spelling_cells rows i in_table row_short)
-
-    -- how long it is
-    pub row_size : get_or words (i * 16 + 14) 0 ≡ length spelling
-    row_size = rw lent (number_cell rows i in_table 0 (omega arith))
-
     -- what it means
     pub row_lexeme : get_or words (i * 16 + 15) 0 ≡ lexeme_at rows i
-    row_lexeme = rw lent (number_cell rows i in_table 1 (omega arith))
+    row_lexeme = rw lent (lexeme-cell rows i in_table)

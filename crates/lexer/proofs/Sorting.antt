@@ -11,7 +11,7 @@ use Rattle.lexer.specs.declared.find.Found.{Found}
 use Rattle.lexer.specs.declared.find.Found.TheVariants.{Lexeme}
 use Rattle.lexer.proofs.Order.{same_equal}
 
-pub is_same_lem : (o : Order) → is_same o ≡ true → o ≡ Same
+is_same_lem : (o : Order) → is_same o ≡ true → o ≡ Same
 is_same_lem Less e = absurd (false≢true e)
 is_same_lem Same e = refl
 is_same_lem More e = absurd (false≢true e)

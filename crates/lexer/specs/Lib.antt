@@ -3,7 +3,5 @@ pub mod Words
 pub mod Keywords
 pub mod Table
 pub mod Visits
-pub mod Completions
-pub mod Spans
 pub mod Classes
 pub mod Lex

@@ -3,7 +3,6 @@ ghost use Rattle.std.specs.Prelude.{◌≡◌, List, ℕ, ◌≤◌, ◌<◌};
 ghost use Rattle.lexer.specs.Keywords.{words_in, count_in};
 ghost use Rattle.lexer.specs.Words.{folded};
 ghost use Rattle.lexer.specs.Visits.{looked_up};
-ghost use Rattle.lexer.specs.Spans.{place_of};
 ghost use Rattle.lexer.specs.Table.{sorted, cells, spelling_at, by_key, Stands};
 
 use super::reading::Reading;
@@ -12,7 +11,7 @@ use super::word::row_of;
 
 // How one word stands to another in byte order.
 #[derive(Drop)]
-pub enum Order {
+enum Order {
     Less,
     Same,
     More,
@@ -29,14 +28,6 @@ pub enum Found {
 #[derive(Drop)]
 pub struct Looked {
     pub found: Found,
-    pub count: u32,
-}
-
-// What a search says: the lexeme, how many rows come before the word, and how many were compared.
-#[derive(Drop)]
-pub(crate) struct Place {
-    pub found: Found,
-    pub row: usize,
     pub count: u32,
 }
 
@@ -62,11 +53,10 @@ fn compare(reading: Reading, words: &[u8], i: usize, head: u64, tail: u64) -> Or
     Order::Same
 }
 
-// What the word means that two numbers stand for, and where it stands: a search by halves, the lower of two middles first, each row counted
-// that is compared.
-pub(crate) fn find(reading: Reading, words: &[u8], head: u64, tail: u64) -> Place
+// What the word means that two numbers stand for: a search by halves, the lower of two middles first, each row counted that is compared.
+pub(crate) fn find(reading: Reading, words: &[u8], head: u64, tail: u64) -> Looked
     requires { words.now ≡ cells (sorted (words_in reading)) }
-    ensures { (w : List ℕ) → Stands head tail w → result ≡ place_of (words_in reading) w }
+    ensures { (w : List ℕ) → Stands head tail w → result ≡ looked_up (words_in reading) w }
 {
     let mut count: u32 = 0;
     let mut lo: usize = 0;
@@ -78,45 +68,29 @@ pub(crate) fn find(reading: Reading, words: &[u8], head: u64, tail: u64) -> Plac
         match o {
             Order::Less => lo = mid + 1,
             Order::Same => {
-                return Place {
+                return Looked {
                     found: Found::Lexeme(lexeme_at(reading, words, mid)),
-                    row: mid,
                     count,
                 };
             }
             Order::More => hi = mid,
         }
     }
-    Place {
+    Looked {
         found: Found::Unknown,
-        row: lo,
         count,
     }
 }
 
-// What a word of any bytes means by the rows that are lent, and where it stands.
-pub(crate) fn seek(reading: Reading, words: &[u8], word: &[u8]) -> Place
+// What a word of any bytes means by the rows that are lent, and how many of them it is compared with.
+fn look_in(reading: Reading, words: &[u8], word: &[u8]) -> Looked
     requires { words.now ≡ cells (sorted (words_in reading)) }
-    ensures value { result ≡ place_of (words_in reading) (folded word.now) }
-    ensures few { result.count ≤ 8 }
+    ensures { result ≡ looked_up (words_in reading) (folded word.now) }
 {
     let row = row_of(word);
     let head = bytes_at(&row, 0, 8);
     let tail = bytes_at(&row, 8, 4);
     find(reading, words, head, tail)
-}
-
-// What it means, and how many of the rows it is compared with.
-fn look_in(reading: Reading, words: &[u8], word: &[u8]) -> Looked
-    requires { words.now ≡ cells (sorted (words_in reading)) }
-    ensures { result ≡ looked_up (words_in reading) (folded word.now) }
-{
-    let place = seek(reading, words, word);
-    let found = place.found;
-    Looked {
-        found,
-        count: place.count,
-    }
 }
 
 // What a word of any bytes means in one of the readings, and how many rows it is compared with.

@@ -1,7 +1,6 @@
 // The lexer: a phrase, as bytes, cut into lexemes.
 
 mod class;
-pub mod complete;
 pub mod find;
 pub mod lex;
 pub mod lexeme;

@@ -5,7 +5,6 @@ ghost use Rattle.lexer.specs.Keywords.{words_in, count_in};
 ghost use Rattle.lexer.specs.declared.reading.Reading.TheVariants.{First, Second};
 ghost use Rattle.lexer.specs.Table.{sorted, cells, spelling_at, lexeme_at, bytes_from, head_of, tail_of};
 
-use super::part::part;
 use super::reading::Reading;
 
 const FIRST_WORDS: [u8; 2128] = *b"\
@@ -343,13 +342,4 @@ pub(crate) fn lexeme_at(reading: Reading, words: &[u8], i: usize) -> u64
     ensures { result ≡ lexeme_at (sorted (words_in reading)) i }
 {
     words[i * 16 + 15] as u64
-}
-
-// The word itself.
-pub(crate) fn spelling_at(reading: Reading, words: &[u8], i: usize) -> &[u8]
-    requires { (words.now ≡ cells (sorted (words_in reading))) × (i < count_in reading) }
-    ensures { result.now ≡ spelling_at (sorted (words_in reading)) i }
-{
-    let n = words[i * 16 + 14] as usize;
-    part(words, i * 16, i * 16 + n)
 }

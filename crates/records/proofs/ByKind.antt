@@ -161,11 +161,6 @@ of_11 : Tested 11
 unfolding step_from
 of_11 f a b c h = rw (form_0 f, single a b c)
 
--- two numbers and one form
-of_12 : Tested 12
-unfolding step_from
-of_12 f a b c h = rw (form_0 f, pair a b c)
-
 -- a direction, and minutes in two numbers
 of_6 : Tested 6
 unfolding step_from
@@ -201,8 +196,8 @@ of_10 : Tested 10
 unfolding step_from
 of_10 f a b c h = each Timed 4 ((((tt, empty), pair), pair), pair) no_time f a b c
 
--- no kind from 13 on
-no_kind : (k : ℕ) → 13 ≤ k → Tested k
+-- no kind from 12 on
+no_kind : (k : ℕ) → 12 ≤ k → Tested k
 unfolding step_from
 no_kind k i f a b c h =
     rw (
@@ -217,7 +212,6 @@ no_kind k i f a b c h =
       ne_eqb k 9 (λ e. absurd (omega arith)),
       ne_eqb k 10 (λ e. absurd (omega arith)),
       ne_eqb k 11 (λ e. absurd (omega arith)),
-      ne_eqb k 12 (λ e. absurd (omega arith)),
       ne_eqb 1 k (λ e. absurd (omega arith)),
       le-ltb f 0 (omega arith),
     )
@@ -225,6 +219,6 @@ no_kind k i f a b c h =
 -- so it is for every record
 pub by_kind : (k : ℕ) → Tested k
 by_kind =
-    each Tested 13
-    (((((((((((((tt, of_0), of_1), of_2), of_3), of_4), of_5), of_6), of_7), of_8), of_9), of_10), of_11), of_12)
+    each Tested 12
+    ((((((((((((tt, of_0), of_1), of_2), of_3), of_4), of_5), of_6), of_7), of_8), of_9), of_10), of_11)
     no_kind

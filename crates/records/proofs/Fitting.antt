@@ -11,7 +11,7 @@ use Rattle.dates.specs.declared.units.RelativeSpecifier.{RelativeSpecifier}
 use Rattle.dates.specs.declared.units.RelativeSpecifier.TheVariants.{This, Next, Last}
 use Rattle.steps.proofs.Small.{SmallStart, SmallStep}
 use Rattle.steps.specs.declared.plan.Start.{Start}
-use Rattle.steps.specs.declared.plan.Start.TheVariants.{Now, Senseless, OnDate, InWeek, FromToday, Pinned}
+use Rattle.steps.specs.declared.plan.Start.TheVariants.{Now, Senseless, OnDate, InWeek, FromToday}
 use Rattle.steps.specs.declared.plan.Move.TheVariants.{Minutes, Months, Years, BackTo, ForwardTo}
 use Rattle.steps.specs.declared.plan.Step.{Step}
 use Rattle.steps.specs.declared.plan.Step.TheVariants.{From, By, AtTime}
@@ -55,7 +55,6 @@ start_fits Senseless h = omega arith
 start_fits (OnDate d) h = date_fits d h
 start_fits (InWeek s w) h = week_fits s w h
 start_fits (FromToday w) h = omega arith
-start_fits (Pinned d ms) h = omega arith
 
 -- every number of a step
 pub in_bytes : (s : Step) → Fits s → InBytes (words_of s)

@@ -4,4 +4,3 @@ pub mod Fitting
 pub mod Lists
 pub mod Runs
 pub mod ByKind
-pub mod Pins

@@ -13,7 +13,7 @@ use Rattle.dates.specs.declared.time.Time.TheVariants.{HourMin, HourMinAM, HourM
 use Rattle.dates.specs.declared.units.RelativeSpecifier.{RelativeSpecifier}
 use Rattle.dates.specs.declared.units.RelativeSpecifier.TheVariants.{This, Next, Last}
 use Rattle.steps.specs.declared.plan.Start.{Start}
-use Rattle.steps.specs.declared.plan.Start.TheVariants.{Now, Senseless, OnDate, InWeek, FromToday, Pinned}
+use Rattle.steps.specs.declared.plan.Start.TheVariants.{Now, Senseless, OnDate, InWeek, FromToday}
 use Rattle.steps.specs.declared.plan.Move.{Move}
 use Rattle.steps.specs.declared.plan.Move.TheVariants.{Minutes, Months, Years, BackTo, ForwardTo}
 use Rattle.steps.specs.declared.plan.Step.{Step}
@@ -62,7 +62,6 @@ of_start Senseless = (refl, refl, refl)
 of_start (OnDate d) = of_date d
 of_start (InWeek s w) = of_week s w
 of_start (FromToday w) = (refl, refl, refl)
-of_start (Pinned d ms) = (refl, refl, refl)
 
 of_move : (m : Move) → Numbers (move_words m) (By m)
 unfolding step_from

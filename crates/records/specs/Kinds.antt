@@ -6,16 +6,16 @@ use Rattle.records.specs.Words.{row, look}
 abbrev pub forms_of : ℕ → ℕ
 forms_of k =
     look k
-    (row 1 1 ∷ row 2 1 ∷ row 3 10 ∷ row 4 3 ∷ row 5 1 ∷ row 6 2 ∷ row 7 2 ∷ row 8 2 ∷ row 9 1 ∷ row 10 4 ∷ row 11 1 ∷ row 12 1 ∷ [])
+    (row 1 1 ∷ row 2 1 ∷ row 3 10 ∷ row 4 3 ∷ row 5 1 ∷ row 6 2 ∷ row 7 2 ∷ row 8 2 ∷ row 9 1 ∷ row 10 4 ∷ row 11 1 ∷ [])
     0
 
 -- whether the first number may be other than 0
 abbrev pub has_first : ℕ → ℕ → Bool
-has_first k f = cond (ltb k 3) false (look k (row 3 (ltb f 6) ∷ row 10 (not (eqb f 0)) ∷ []) true)
+has_first k f = look k (row 1 false ∷ row 2 false ∷ row 3 (ltb f 6) ∷ row 10 (not (eqb f 0)) ∷ []) true
 
 -- the second
 abbrev pub has_second : ℕ → ℕ → Bool
-has_second k f = look k (row 3 (ltb f 6) ∷ row 6 true ∷ row 10 (not (eqb f 0)) ∷ row 12 true ∷ []) false
+has_second k f = look k (row 3 (ltb f 6) ∷ row 6 true ∷ row 10 (not (eqb f 0)) ∷ []) false
 
 -- the third
 abbrev pub has_third : ℕ → ℕ → Bool

@@ -1,6 +1,5 @@
 -- A ready phrase as bytes: a record of 16 bytes for each step. docs/FORMAT.md shows it.
 use Rattle.std.specs.Prelude.{ℕ, zero, suc, ◌+◌, ◌*◌, ◌/◌, ◌%◌, Bool, true, cond, ◌&&◌, List, [], ◌∷◌, ◌++◌, leb, eqb, length, take, drop}
-use Rattle.refusals.specs.Answers.{Answer, given, and_then}
 use Rattle.steps.specs.Running.{starts, times}
 use Rattle.steps.specs.declared.plan.Step.{Step}
 use Rattle.records.specs.Bytes.{low_first, num_of}
@@ -19,10 +18,6 @@ bytes_of_words w = low_first 4 (w.kind + 256 * w.form) ++ low_first 4 w.a ++ low
 abbrev pub encode_of : List Step → List ℕ
 encode_of [] = []
 encode_of (s ∷ ss) = bytes_of_words (words_of s) ++ encode_of ss
-
--- the bytes of a ready phrase, where there is one
-abbrev pub ready_bytes : Answer (List Step) → Answer (List ℕ)
-ready_bytes w = and_then w (λ ss. given (encode_of ss))
 
 -- the number at a place of four bytes
 abbrev pub word_at : List ℕ → ℕ → ℕ

@@ -8,7 +8,7 @@ use Rattle.dates.specs.declared.time.Time.TheVariants.{HourMin, HourMinAM, HourM
 use Rattle.dates.specs.declared.units.RelativeSpecifier.{RelativeSpecifier}
 use Rattle.dates.specs.declared.units.RelativeSpecifier.TheVariants.{This, Next, Last}
 use Rattle.steps.specs.declared.plan.Start.{Start}
-use Rattle.steps.specs.declared.plan.Start.TheVariants.{Now, Senseless, OnDate, InWeek, FromToday, Pinned}
+use Rattle.steps.specs.declared.plan.Start.TheVariants.{Now, Senseless, OnDate, InWeek, FromToday}
 use Rattle.steps.specs.declared.plan.Move.{Move}
 use Rattle.steps.specs.declared.plan.Move.TheVariants.{Minutes, Months, Years, BackTo, ForwardTo}
 use Rattle.steps.specs.declared.plan.Step.{Step}
@@ -45,7 +45,6 @@ start_words Senseless = words 2 0 0 0 0
 start_words (OnDate d) = date_words d
 start_words (InWeek s w) = week_words s w
 start_words (FromToday w) = words 5 0 w 0 0
-start_words (Pinned d ms) = words 12 0 d ms 0
 
 -- a direction: on 0, back 1
 abbrev pub direction : Bool → ℕ
@@ -121,6 +120,5 @@ step_from w =
     ∷ row 9 (By (BackTo w.a))
     ∷ row 10 (AtTime (time_from w.form w.a w.b))
     ∷ row 11 (By (ForwardTo w.a))
-    ∷ row 12 (From (Pinned w.a w.b))
     ∷ [])
     (From Now)

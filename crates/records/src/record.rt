@@ -16,7 +16,7 @@ pub(crate) const SIZE: usize = 16;
 pub const READY_SIZE: usize = 24 * SIZE;
 
 // A record at a place.
-pub(crate) fn put_words(b: &mut [u8], at: usize, w: Words)
+fn put_words(b: &mut [u8], at: usize, w: Words)
     requires { at + 16 ≤ length b.old }
     ensures { b.new ≡ sets b.old at (bytes_of_words w) }
 {
@@ -91,7 +91,6 @@ fn forms(kind: u32) -> u32
         9 => 1,
         10 => 4,
         11 => 1,
-        12 => 1,
         _ => 0,
     }
 }
@@ -100,10 +99,9 @@ fn forms(kind: u32) -> u32
 fn has_first(kind: u32, form: u32) -> bool
     ensures { result ≡ has_first kind form }
 {
-    if kind < 3 {
-        return false;
-    }
     match kind {
+        1 => false,
+        2 => false,
         3 => form < 6,
         10 => form != 0,
         _ => true,
@@ -118,7 +116,6 @@ fn has_second(kind: u32, form: u32) -> bool
         3 => form < 6,
         6 => true,
         10 => form != 0,
-        12 => true,
         _ => false,
     }
 }

@@ -98,25 +98,16 @@ pub fn walk(b: &[u8], first: usize, end: usize, at: Moment, from: Moment) -> Rea
     Reached::At(t)
 }
 
-// A ready phrase at a valid now: 9 for a slice that stands for no list, then the steps in order.
-pub fn run_valid(b: &[u8], at: Moment) -> Reached
-    requires { IsMoment at }
-    ensures result_value { reached_of result ≡ run_of (decode_of b.now) at }
-    ensures valid { Valid (reached_of result) }
-{
-    if is_list(b) {
-        return walk(b, 0, b.len() / SIZE, at, at);
-    }
-    Reached::Refused(NO_SENSE)
-}
-
-// A ready phrase at a now: 8, then what it gives at a valid one.
+// A ready phrase at a now: 8, then 9 for a slice that stands for no list, then the steps in order.
 pub fn run_ready(b: &[u8], at: Moment) -> Reached
     ensures result_value { reached_of result ≡ run_of (decode_of b.now) at }
     ensures valid { Valid (reached_of result) }
 {
     if at.valid() {
-        return run_valid(b, at);
+        if is_list(b) {
+            return walk(b, 0, b.len() / SIZE, at, at);
+        }
+        return Reached::Refused(NO_SENSE);
     }
     Reached::Refused(INVALID_MOMENT)
 }

@@ -95,7 +95,6 @@ fn start_words(start: Start) -> Words
         Start::OnDate(date) => date_words(date),
         Start::InWeek(s, w) => week_words(s, w),
         Start::FromToday(w) => numbers(5, 0, w, 0, 0),
-        Start::Pinned(day, millisecond) => numbers(12, 0, day, millisecond, 0),
     }
 }
 
@@ -193,7 +192,6 @@ pub(crate) fn step_from(w: Words) -> Step
         9 => Step::By(Move::BackTo(a)),
         10 => Step::AtTime(time_from(form, a, b)),
         11 => Step::By(Move::ForwardTo(a)),
-        12 => Step::From(Start::Pinned(a, b)),
         _ => Step::From(Start::Now),
     }
 }

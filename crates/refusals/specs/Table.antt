@@ -104,15 +104,3 @@ EmptySlot = 25
 -- "26 when no entry has a moment"
 abbrev pub NothingDue : ℕ
 NothingDue = 26
-
--- no word of the reading begins with the prefix, or not so many do
-abbrev pub NoWord : ℕ
-NoWord = 27
-
--- bytes that are no bundle of zones
-abbrev pub NoBundle : ℕ
-NoBundle = 28
-
--- a name that the bundle has not
-abbrev pub UnknownZone : ℕ
-UnknownZone = 29

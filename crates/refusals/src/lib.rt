@@ -99,12 +99,3 @@ pub const EMPTY_SLOT: u32 = 25;
 
 // No entry of the board has a moment, so that nothing is due.
 pub const NOTHING_DUE: u32 = 26;
-
-// No word of the reading begins with the prefix, or not so many do.
-pub const NO_WORD: u32 = 27;
-
-// The bytes are no bundle of zones.
-pub const NO_BUNDLE: u32 = 28;
-
-// The bundle has no zone of this name.
-pub const UNKNOWN_ZONE: u32 = 29;

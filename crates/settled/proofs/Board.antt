@@ -3,14 +3,12 @@ use mathlib.Core.Path.{ap}
 use mathlib.Core.List.{[]}
 use Rattle.board.specs.Boards.{Memory, head_from}
 use Rattle.settled.proofs.Settled.{Same, Settled, same, through}
-use Rattle.settled.proofs.Values.{earliest_one, reached_one}
+use Rattle.settled.proofs.Values.{earliest_one}
 use Rattle.board.proofs.calls.make.Reads as make'
 use Rattle.board.proofs.calls.add.Reads as add'
-use Rattle.board.proofs.calls.add_ready.Reads as add-ready'
 use Rattle.board.proofs.calls.remove.Reads as remove'
 use Rattle.board.proofs.calls.again.Reads as again'
 use Rattle.board.proofs.calls.head.Reads as head'
-use Rattle.board.proofs.calls.slot_moment.Reads as slot_moment'
 use Rattle.board.proofs.calls.order.Reads as order'
 
 pub make : Settled make'.Post × Same make'.Post (λ κs z e. e.0.now) × Same make'.Post (λ κs z e. e.1.0.now)
@@ -34,20 +32,6 @@ add = (
   same add'.Post _ _ (λ κs a z e p. ap (λ (m : Memory). m.state) p.1),
 )
 
-pub add-ready :
-    Settled add-ready'.Post
-    × Same add-ready'.Post (λ κs z e. e.1.0.now)
-    × Same add-ready'.Post (λ κs z e. e.1.1.0.now)
-    × Same add-ready'.Post (λ κs z e. e.1.1.1.0.now)
-    × Same add-ready'.Post (λ κs z e. e.1.1.1.1.0.now)
-add-ready = (
-  same add-ready'.Post _ _ (λ κs a z e p. p.0),
-  same add-ready'.Post _ _ (λ κs a z e p. ap (λ (m : Memory). m.ready) p.1),
-  same add-ready'.Post _ _ (λ κs a z e p. ap (λ (m : Memory). m.lengths) p.1),
-  same add-ready'.Post _ _ (λ κs a z e p. ap (λ (m : Memory). m.keys) p.1),
-  same add-ready'.Post _ _ (λ κs a z e p. ap (λ (m : Memory). m.state) p.1),
-)
-
 pub remove : Settled remove'.Post × Same remove'.Post (λ κs z e. e.0.now) × Same remove'.Post (λ κs z e. e.1.0.now) × Same remove'.Post (λ κs z e. e.1.1.0.now)
 remove = (
   same remove'.Post _ _ (λ κs a z e p. p.0 []),
@@ -65,9 +49,6 @@ again = (
 
 pub head : Settled head'.Post
 head = through head'.Post (λ κs. head_from) (λ κs. earliest_one) (same head'.Post _ _ (λ κs a z e p. p [] []))
-
-pub slot_moment_lem : Settled slot_moment'.Post
-slot_moment_lem = through slot_moment'.Post _ (λ κs. reached_one) (same slot_moment'.Post _ _ (λ κs a z e p. p []))
 
 pub order : Settled order'.Post × Same order'.Post (λ κs z e. e.1.1.0.now)
 order = (

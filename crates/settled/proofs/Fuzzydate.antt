@@ -21,12 +21,6 @@ use Rattle.fuzzydate.proofs.fuzzy_board_remove_in.Reads as fuzzy_board_remove_in
 use Rattle.fuzzydate.proofs.fuzzy_board_again_in.Reads as fuzzy_board_again_in'
 use Rattle.fuzzydate.proofs.fuzzy_board_head_in.Reads as fuzzy_board_head_in'
 use Rattle.fuzzydate.proofs.fuzzy_board_order_in.Reads as fuzzy_board_order_in'
-use Rattle.fuzzydate.proofs.fuzzy_pin.Reads as fuzzy_pin'
-use Rattle.fuzzydate.proofs.fuzzy_complete.Reads as fuzzy_complete'
-use Rattle.fuzzydate.proofs.fuzzy_zone_until.Reads as fuzzy_zone_until'
-use Rattle.fuzzydate.proofs.fuzzy_find_zone.Reads as fuzzy_find_zone'
-use Rattle.fuzzydate.proofs.fuzzy_board_add_ready_in.Reads as fuzzy_board_add_ready_in'
-use Rattle.fuzzydate.proofs.fuzzy_board_moment_in.Reads as fuzzy_board_moment_in'
 
 pub fuzzy_version : Settled fuzzy_version'.Post
 fuzzy_version = same fuzzy_version'.Post _ _ (λ κs a z e p. p)
@@ -133,45 +127,6 @@ fuzzy_board_order_in = (
   same fuzzy_board_order_in'.Post _ _ (λ κs a z e p. p.1 [] []),
 )
 
-pub fuzzy_pin : Settled fuzzy_pin'.Post × Same fuzzy_pin'.Post (λ κs z e. e.1.0.now)
-fuzzy_pin = (same fuzzy_pin'.Post _ _ (λ κs a z e p. p.0), same fuzzy_pin'.Post _ _ (λ κs a z e p. p.1))
-
-pub fuzzy_complete :
-    Settled fuzzy_complete'.Post
-    × Same fuzzy_complete'.Post (λ κs z e. e.1.1.1.0.now)
-    × Same fuzzy_complete'.Post (λ κs z e. e.1.1.1.1.0.now)
-fuzzy_complete = (
-  same fuzzy_complete'.Post _ _ (λ κs a z e p. p.0),
-  same fuzzy_complete'.Post _ _ (λ κs a z e p. p.1.0),
-  same fuzzy_complete'.Post _ _ (λ κs a z e p. p.1.1),
-)
-
-pub fuzzy_zone_until : Settled fuzzy_zone_until'.Post × Same fuzzy_zone_until'.Post (λ κs z e. e.1.0.now)
-fuzzy_zone_until = (same fuzzy_zone_until'.Post _ _ (λ κs a z e p. p.0), same fuzzy_zone_until'.Post _ _ (λ κs a z e p. p.1))
-
-pub fuzzy_find_zone : Settled fuzzy_find_zone'.Post × Same fuzzy_find_zone'.Post (λ κs z e. e.1.1.0.now)
-fuzzy_find_zone = (same fuzzy_find_zone'.Post _ _ (λ κs a z e p. p.0), same fuzzy_find_zone'.Post _ _ (λ κs a z e p. p.1))
-
-pub fuzzy_board_add_ready_in :
-    Settled fuzzy_board_add_ready_in'.Post
-    × Same fuzzy_board_add_ready_in'.Post (λ κs z e. e.0.now)
-    × Same fuzzy_board_add_ready_in'.Post (λ κs z e. e.1.0.now)
-    × Same fuzzy_board_add_ready_in'.Post (λ κs z e. e.1.1.0.now)
-    × Same fuzzy_board_add_ready_in'.Post (λ κs z e. e.1.1.1.0.now)
-fuzzy_board_add_ready_in = (
-  same fuzzy_board_add_ready_in'.Post _ _ (λ κs a z e p. p.0),
-  same fuzzy_board_add_ready_in'.Post _ _ (λ κs a z e p. ap (λ (m : Memory). m.ready) p.1),
-  same fuzzy_board_add_ready_in'.Post _ _ (λ κs a z e p. ap (λ (m : Memory). m.lengths) p.1),
-  same fuzzy_board_add_ready_in'.Post _ _ (λ κs a z e p. ap (λ (m : Memory). m.keys) p.1),
-  same fuzzy_board_add_ready_in'.Post _ _ (λ κs a z e p. ap (λ (m : Memory). m.state) p.1),
-)
-
-pub fuzzy_board_moment_in : Settled fuzzy_board_moment_in'.Post × Same fuzzy_board_moment_in'.Post (λ κs z e. e.1.1.1.1.0.now)
-fuzzy_board_moment_in = (
-  same fuzzy_board_moment_in'.Post _ _ (λ κs a z e p. p.0 []),
-  same fuzzy_board_moment_in'.Post _ _ (λ κs a z e p. p.1 []),
-)
-
 pub fuzzy_version_open : Open fuzzy_version'.Asked
 fuzzy_version_open κs a = tt
 
@@ -225,21 +180,3 @@ fuzzy_board_head_in_open κs a = tt
 
 pub fuzzy_board_order_in_open : Open fuzzy_board_order_in'.Asked
 fuzzy_board_order_in_open κs a = tt
-
-pub fuzzy_pin_open : Open fuzzy_pin'.Asked
-fuzzy_pin_open κs a = tt
-
-pub fuzzy_complete_open : Open fuzzy_complete'.Asked
-fuzzy_complete_open κs a = tt
-
-pub fuzzy_zone_until_open : Open fuzzy_zone_until'.Asked
-fuzzy_zone_until_open κs a = tt
-
-pub fuzzy_find_zone_open : Open fuzzy_find_zone'.Asked
-fuzzy_find_zone_open κs a = tt
-
-pub fuzzy_board_add_ready_in_open : Open fuzzy_board_add_ready_in'.Asked
-fuzzy_board_add_ready_in_open κs a = tt
-
-pub fuzzy_board_moment_in_open : Open fuzzy_board_moment_in'.Asked
-fuzzy_board_moment_in_open κs a = tt

@@ -6,7 +6,6 @@ use Rattle.lexer.proofs.lex.lex.Reads as lex'
 use Rattle.lexer.proofs.part.part.Reads as part'
 use Rattle.lexer.proofs.part.offending.Reads as offending'
 use Rattle.lexer.proofs.find.look_up.Reads as look_up'
-use Rattle.lexer.proofs.complete.complete.Reads as complete'
 
 pub token_at_lem : Settled token_at'.Post
 token_at_lem = same token_at'.Post _ _ (λ κs a z e p. p)
@@ -29,13 +28,3 @@ offending = (same offending'.Post _ _ (λ κs a z e p. p.0), same offending'.Pos
 
 pub look_up : Settled look_up'.Post
 look_up = same look_up'.Post _ _ (λ κs a z e p. p.0)
-
-pub complete :
-    Settled complete'.Post
-    × Same complete'.Post (λ κs z e. e.1.1.1.0.now)
-    × Same complete'.Post (λ κs z e. e.1.1.1.1.0.now)
-complete = (
-  same complete'.Post _ _ (λ κs a z e p. p.0),
-  same complete'.Post _ _ (λ κs a z e p. p.1.0),
-  same complete'.Post _ _ (λ κs a z e p. p.1.1),
-)

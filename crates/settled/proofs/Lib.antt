@@ -21,7 +21,6 @@ pub mod Coming
 pub mod Tzif
 pub mod Zones
 pub mod Zoned
-pub mod Bundle
 pub mod Board
 pub mod Fuzzydate
 pub mod Text

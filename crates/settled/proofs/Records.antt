@@ -2,18 +2,13 @@
 use Rattle.settled.proofs.Settled.{Same, Settled, same, through}
 use Rattle.settled.proofs.Values.{reached_one}
 use Rattle.records.proofs.record.encode.Reads as encode'
-use Rattle.records.proofs.pin.pin.Reads as pin'
 use Rattle.records.proofs.run.is_list.Reads as is_list'
 use Rattle.records.proofs.run.step_at.Reads as step_at'
 use Rattle.records.proofs.run.walk.Reads as walk'
-use Rattle.records.proofs.run.run_valid.Reads as run_valid'
 use Rattle.records.proofs.run.run_ready.Reads as run_ready'
 
 pub encode : Same encode'.Post (λ κs z e. e.1.0.now)
 encode = same encode'.Post _ _ (λ κs a z e p. p)
-
-pub pin : Settled pin'.Post × Same pin'.Post (λ κs z e. e.1.0.now)
-pin = (same pin'.Post _ _ (λ κs a z e p. p.0), same pin'.Post _ _ (λ κs a z e p. p.1))
 
 pub is_list_lem : Settled is_list'.Post
 is_list_lem = same is_list'.Post _ _ (λ κs a z e p. p)
@@ -23,9 +18,6 @@ step_at_lem = same step_at'.Post _ _ (λ κs a z e p. p)
 
 pub walk : Settled walk'.Post
 walk = through walk'.Post _ (λ κs. reached_one) (same walk'.Post _ _ (λ κs a z e p. p.0))
-
-pub run_valid : Settled run_valid'.Post
-run_valid = through run_valid'.Post _ (λ κs. reached_one) (same run_valid'.Post _ _ (λ κs a z e p. p.0))
 
 pub run_ready_lem : Settled run_ready'.Post
 run_ready_lem = through run_ready'.Post _ (λ κs. reached_one) (same run_ready'.Post _ _ (λ κs a z e p. p.0))

@@ -4,8 +4,6 @@ use Rattle.settled.proofs.Values.{reached_one}
 use Rattle.steps.proofs.plan.none.Reads as none'
 use Rattle.steps.proofs.plan.single.Reads as single'
 use Rattle.steps.proofs.plan.add.Reads as add'
-use Rattle.steps.proofs.plan.fixed_of.Reads as fixed_of'
-use Rattle.steps.proofs.pin.pinned_at.Reads as pinned_at'
 use Rattle.steps.proofs.run.act.Reads as act'
 use Rattle.steps.proofs.run.is_start.Reads as is_start'
 use Rattle.steps.proofs.run.one_if_time.Reads as one-if_time'
@@ -19,12 +17,6 @@ single = same single'.Post _ _ (λ κs a z e p. p)
 
 pub add : Settled add'.Post
 add = same add'.Post _ _ (λ κs a z e p. p)
-
-pub fixed_of_lem : Settled fixed_of'.Post
-fixed_of_lem = same fixed_of'.Post _ _ (λ κs a z e p. p)
-
-pub pinned_at_lem : Settled pinned_at'.Post
-pinned_at_lem = through pinned_at'.Post _ (λ κs. reached_one) (same pinned_at'.Post _ _ (λ κs a z e p. p.0))
 
 pub act : Settled act'.Post
 act = through act'.Post _ (λ κs. reached_one) (same act'.Post _ _ (λ κs a z e p. p.0))

@@ -3,7 +3,6 @@ use Rattle.settled.proofs.Settled.{Settled, same}
 use Rattle.tzif.proofs.file.check.Reads as check'
 use Rattle.tzif.proofs.file.transition_at.Reads as transition_at'
 use Rattle.tzif.proofs.file.offset_behind.Reads as offset_behind'
-use Rattle.tzif.proofs.octets.four.Reads as four'
 use Rattle.tzif.proofs.octets.turned.Reads as turned'
 
 pub check : Settled check'.Post
@@ -14,9 +13,6 @@ transition_at = same transition_at'.Post _ _ (λ κs a z e p. p.0)
 
 pub offset_behind_lem : Settled offset_behind'.Post
 offset_behind_lem = same offset_behind'.Post _ _ (λ κs a z e p. p.0)
-
-pub four : Settled four'.Post
-four = same four'.Post _ _ (λ κs a z e p. p.0)
 
 pub turned : Settled turned'.Post
 turned = same turned'.Post _ _ (λ κs a z e p. p)

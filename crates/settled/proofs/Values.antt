@@ -31,7 +31,6 @@ use Rattle.rules.specs.declared.read.RuleRead.TheVariants.{Is as IsRule, Refused
 use Rattle.zones.specs.Civil.{answer_of}
 use Rattle.zones.specs.declared.search.Resolved.{Resolved}
 use Rattle.zones.specs.declared.search.Resolved.TheVariants.{At as ResolvedAt, Refused as ResolvedRefused}
-use Rattle.zones.specs.Until.{known_of}
 use Rattle.zones.specs.Instants.{arrived_of}
 use Rattle.zones.specs.declared.instants.Instant.{Instant}
 use Rattle.zones.specs.declared.instants.Arrived.{Arrived}
@@ -40,10 +39,6 @@ use Rattle.zoned.specs.Local.{located_of}
 use Rattle.zoned.specs.declared.local.Local.{Local}
 use Rattle.zoned.specs.declared.local.Located.{Located}
 use Rattle.zoned.specs.declared.local.Located.TheVariants.{At as LocatedAt, Refused as LocatedRefused}
-use Rattle.bundle.specs.Bundles.{found_of}
-use Rattle.bundle.specs.declared.find.Place.{Place}
-use Rattle.bundle.specs.declared.find.ZoneFound.{ZoneFound}
-use Rattle.bundle.specs.declared.find.ZoneFound.TheVariants.{At as FoundAt, Refused as FoundRefused}
 use Rattle.board.specs.Boards.{Due, head_from}
 use Rattle.board.specs.declared.Earliest.{Earliest}
 use Rattle.board.specs.declared.Earliest.TheVariants.{Next as NextDue, Nothing as NothingDue}
@@ -175,17 +170,6 @@ resolved_back (ResolvedRefused k) = refl
 pub resolved_one : (x y : Resolved) → answer_of x ≡ answer_of y → x ≡ y
 resolved_one = given_back answer_of resolved_of resolved_back
 
-abbrev until_at : Answer ℕ → Resolved
-until_at (given s) = ResolvedAt s
-until_at (refused_answer r) = ResolvedRefused r.number
-
-until_back : (x : Resolved) → until_at (known_of x) ≡ x
-until_back (ResolvedAt s) = refl
-until_back (ResolvedRefused k) = refl
-
-pub until_one : (x y : Resolved) → known_of x ≡ known_of y → x ≡ y
-until_one = given_back known_of until_at until_back
-
 abbrev arrived : Reach Instant → Arrived
 arrived (moment x) = ArrivedAt x
 arrived (refused k) = ArrivedRefused k
@@ -207,17 +191,6 @@ located_back (LocatedRefused k) = refl
 
 pub located_one : (x y : Located) → located_of x ≡ located_of y → x ≡ y
 located_one = given_back located_of located located_back
-
-abbrev found_at : Answer Place → ZoneFound
-found_at (given p) = FoundAt p
-found_at (refused_answer r) = FoundRefused r.number
-
-found_back : (x : ZoneFound) → found_at (found_of x) ≡ x
-found_back (FoundAt p) = refl
-found_back (FoundRefused k) = refl
-
-pub found_one : (x y : ZoneFound) → found_of x ≡ found_of y → x ≡ y
-found_one = given_back found_of found_at found_back
 
 abbrev earliest : Answer Due → Earliest
 earliest (given d) = NextDue d.slot d.moment

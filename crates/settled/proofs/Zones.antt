@@ -1,13 +1,12 @@
 -- The promises of `zones`. Assumes nothing.
 use Rattle.settled.proofs.Settled.{Settled, same, through}
-use Rattle.settled.proofs.Values.{resolved_one, until_one, arrived_one}
+use Rattle.settled.proofs.Values.{resolved_one, arrived_one}
 use Rattle.zones.proofs.civil.in_years.Reads as in_years'
 use Rattle.zones.proofs.civil.moment_of_second.Reads as moment_of_second'
 use Rattle.zones.proofs.civil.second_of_moment.Reads as second_of_moment'
 use Rattle.zones.proofs.search.shift_at.Reads as shift_at'
 use Rattle.zones.proofs.search.civil_of.Reads as civil_of'
 use Rattle.zones.proofs.search.resolve.Reads as resolve'
-use Rattle.zones.proofs.until.zone_until.Reads as zone_until'
 use Rattle.zones.proofs.instants.fixed_step.Reads as fixed_step'
 use Rattle.zones.proofs.instants.clock_of.Reads as clock_of'
 use Rattle.zones.proofs.instants.settle.Reads as settle'
@@ -29,9 +28,6 @@ civil_of_lem = same civil_of'.Post _ _ (λ κs a z e p. p)
 
 pub resolve : Settled resolve'.Post
 resolve = through resolve'.Post _ (λ κs. resolved_one) (same resolve'.Post _ _ (λ κs a z e p. p))
-
-pub zone_until : Settled zone_until'.Post
-zone_until = through zone_until'.Post _ (λ κs. until_one) (same zone_until'.Post _ _ (λ κs a z e p. p))
 
 pub fixed_step_lem : Settled fixed_step'.Post
 fixed_step_lem = through fixed_step'.Post _ (λ κs. arrived_one) (same fixed_step'.Post _ _ (λ κs a z e p. p.0))

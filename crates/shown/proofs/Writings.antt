@@ -1,16 +1,15 @@
 -- What a writing gives: the phrase of a moment that has one, or a refusal without a part. Assumes nothing.
 use Prim.Native.Nat.{ℕ, ◌≤◌}
+use native.Mathlib.Omega.{arith}
 use mathlib.Core.Path.{◌≡◌, refl}
 use mathlib.Core.Bool.{Bool, true, false, cond, and-eq-true_iff}
 use mathlib.Core.List.{List}
-use mathlib.Core.Logic.{◌⊎◌, inl, inr}
 use lib.Dec.{eqb, leb}
 use lib.ListN.{length}
 use borrow.Author.Tests.{eqb-true, leb-true}
 use Rattle.refusals.specs.Table.{InvalidMoment, NotWhole, NoRoom}
 use Rattle.refusals.specs.Answers.{given, refuse, refusal_at}
-use Rattle.refusals.specs.declared.Refusal.{Refusal}
-use Rattle.refusals.proofs.Holds.{Holds, of_given, of_refusal, given_holds}
+use Rattle.refusals.proofs.Holds.{Holds, of_given, of_refusal, Bounded, given_holds}
 use Rattle.calendar.specs.Moments.{IsMoment, is_moment}
 use Rattle.calendar.specs.declared.moments.Moment.{Moment}
 use Rattle.calendar.proofs.Valid.{test_moment}
@@ -34,24 +33,22 @@ pub record TextOf (t : Moment) (room : ℕ) (text : List ℕ) : Type 0 where
   pub fits : length text ≤ room
   pub short : length text ≤ 26
 
--- why nothing is written: 8, 16 or 17, without a part
-abbrev pub Unwritten : Refusal → Type 0
-Unwritten r = (r ≡ refusal_at InvalidMoment 0 0) ⊎ ((r ≡ refusal_at NotWhole 0 0) ⊎ (r ≡ refusal_at NoRoom 0 0))
-
--- whatever is written is the moment's phrase; whatever is refused is so by one of these
-pub writing : (t : Moment) (room : ℕ) → Holds (TextOf t room) Unwritten (shown_of t room)
+-- whatever is written is the moment's phrase; whatever is refused is so by 8, 16 or 17
+pub writing : (t : Moment) (room : ℕ) → Holds (TextOf t room) (Bounded 8 17 0) (shown_of t room)
 unfolding shown_of
 writing t room = go (is_moment t) refl (is_whole t) refl (leb (length (phrase_text t)) room) refl
   where
+    none : {k : ℕ} → 8 ≤ k → k ≤ 17 → Holds (TextOf t room) (Bounded 8 17 0) (refuse k 0 0)
+    none {k} l h = of_refusal {r = refusal_at k 0 0} (record { least = l; most = h; start = omega arith; within = omega arith })
+
     go : (a : Bool) → is_moment t ≡ a → (b : Bool) → is_whole t ≡ b → (c : Bool) → leb (length (phrase_text t)) room ≡ c →
-        Holds (TextOf t room) Unwritten
-        (cond a (cond b (cond c (given (phrase_text t)) (refuse NoRoom 0 0)) (refuse NotWhole 0 0)) (refuse InvalidMoment 0 0))
+        Holds (TextOf t room) (Bounded 8 17 0) (cond a (cond b (cond c (given (phrase_text t)) (refuse NoRoom 0 0)) (refuse NotWhole 0 0)) (refuse InvalidMoment 0 0))
     go true p true q true r =
         let v = test_moment t p in
         of_given (record { moment = v; whole = test_whole t q; is = refl; fits = leb-true _ _ r; short = phrase_short t v })
-    go true p true q false r = of_refusal (inr (inr refl))
-    go true p false q c r = of_refusal (inr (inl refl))
-    go false p b q c r = of_refusal (inl refl)
+    go true p true q false r = none (omega arith) (omega arith)
+    go true p false q c r = none (omega arith) (omega arith)
+    go false p b q c r = none (omega arith) (omega arith)
 
 -- whatever is written is read as the moment that was shown, at every valid now
 pub written_reads : (reading : Reading) (t : Moment) (room : ℕ) (text : List ℕ) (n : Moment) → shown_of t room ≡ given text

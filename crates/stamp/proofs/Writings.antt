@@ -4,14 +4,13 @@ use native.Mathlib.Omega.{arith}
 use mathlib.Core.Path.{◌≡◌, refl}
 use mathlib.Core.Bool.{Bool, true, false, cond}
 use mathlib.Core.List.{List}
-use mathlib.Core.Logic.{◌⊎◌, inl, inr, ⊎_elim}
+use mathlib.Core.Logic.{⊎_elim}
 use lib.Dec.{leb}
 use lib.ListN.{length, length-append}
 use borrow.Author.Tests.{leb-true}
 use Rattle.refusals.specs.Table.{InvalidMoment, NoStamp, NoRoom}
 use Rattle.refusals.specs.Answers.{given, refuse, refusal_at}
-use Rattle.refusals.specs.declared.Refusal.{Refusal}
-use Rattle.refusals.proofs.Holds.{Holds, of_given, of_refusal}
+use Rattle.refusals.proofs.Holds.{Holds, of_given, of_refusal, Bounded}
 use Rattle.calendar.specs.Moments.{IsMoment, is_moment}
 use Rattle.calendar.proofs.Valid.{test_moment}
 use Rattle.stamp.specs.Stamps.{IsOffset, is_offset, offset_text, fraction_text, stamp_text, written_of}
@@ -35,19 +34,17 @@ pub record TextOf (st : Stamp) (room : ℕ) (text : List ℕ) : Type 0 where
   pub is : stamp_text st ≡ text
   pub fits : length text ≤ room
 
--- why nothing is written: 8, 14 or 17, without a part
-abbrev pub Unwritten : Refusal → Type 0
-Unwritten r = (r ≡ refusal_at InvalidMoment 0 0) ⊎ ((r ≡ refusal_at NoStamp 0 0) ⊎ (r ≡ refusal_at NoRoom 0 0))
-
--- whatever is written is the stamp's text; whatever is refused is so by one of these
-pub writing : (st : Stamp) (room : ℕ) → Holds (TextOf st room) Unwritten (written_of st room)
+-- whatever is written is the stamp's text; whatever is refused is so by 8, 14 or 17
+pub writing : (st : Stamp) (room : ℕ) → Holds (TextOf st room) (Bounded 8 17 0) (written_of st room)
 unfolding written_of
 writing st room =
     go (is_moment st.moment) refl (is_offset st.offset) refl (leb (length (stamp_text st)) room) refl
   where
+    none : {k : ℕ} → 8 ≤ k → k ≤ 17 → Holds (TextOf st room) (Bounded 8 17 0) (refuse k 0 0)
+    none {k} l h = of_refusal {r = refusal_at k 0 0} (record { least = l; most = h; start = omega arith; within = omega arith })
+
     go : (a : Bool) → is_moment st.moment ≡ a → (b : Bool) → is_offset st.offset ≡ b → (c : Bool) → leb (length (stamp_text st)) room ≡ c →
-        Holds (TextOf st room) Unwritten
-        (cond a (cond b (cond c (given (stamp_text st)) (refuse NoRoom 0 0)) (refuse NoStamp 0 0)) (refuse InvalidMoment 0 0))
+        Holds (TextOf st room) (Bounded 8 17 0) (cond a (cond b (cond c (given (stamp_text st)) (refuse NoRoom 0 0)) (refuse NoStamp 0 0)) (refuse InvalidMoment 0 0))
     go true p true q true r =
         of_given (record {
           moment = test_moment st.moment p;
@@ -55,6 +52,6 @@ writing st room =
           is = refl;
           fits = leb-true _ _ r;
         })
-    go true p true q false r = of_refusal (inr (inr refl))
-    go true p false q c r = of_refusal (inr (inl refl))
-    go false p b q c r = of_refusal (inl refl)
+    go true p true q false r = none (omega arith) (omega arith)
+    go true p false q c r = none (omega arith) (omega arith)
+    go false p b q c r = none (omega arith) (omega arith)

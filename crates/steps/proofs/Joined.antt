@@ -12,7 +12,7 @@ use Rattle.evaluation.specs.Worlds.{World, Lawful}
 use Rattle.steps.specs.Joining.{refuses, fixed_of, together, join_of, joined, add_step, are_apart, all_apart}
 use Rattle.steps.specs.Running.{start_in, move_in, act_in, walk_in, is_start, is_time_step, count_of, starts, times}
 use Rattle.steps.specs.declared.plan.Start.{Start}
-use Rattle.steps.specs.declared.plan.Start.TheVariants.{Now, Senseless, OnDate, InWeek, FromToday, Pinned}
+use Rattle.steps.specs.declared.plan.Start.TheVariants.{Now, Senseless, OnDate, InWeek, FromToday}
 use Rattle.steps.specs.declared.plan.Move.{Move}
 use Rattle.steps.specs.declared.plan.Move.TheVariants.{Minutes, Months, Years, BackTo, ForwardTo}
 use Rattle.steps.specs.declared.plan.Step.{Step}
@@ -50,7 +50,6 @@ meeting (From Senseless) s = refusal refl refl
 meeting (From (OnDate d)) s = apart refl
 meeting (From (InWeek r w)) s = apart refl
 meeting (From (FromToday w)) s = apart refl
-meeting (From (Pinned d ms)) s = apart refl
 meeting (By (Minutes back m)) s = behind_minutes back m s
 meeting (By (Months back k)) s = apart refl
 meeting (By (Years back k)) s = apart refl
@@ -73,7 +72,6 @@ module _ {S : Type 0} (w : World S) (Good : S → Type 0) (lawful : Lawful w Goo
   start_good (OnDate d) x y g e = lawful.settle_good _ y e
   start_good (InWeek s d) x y g e = lawful.settle_good _ y e
   start_good (FromToday d) x y g e = lawful.settle_good _ y e
-  start_good (Pinned d ms) x y g e = lawful.settle_good _ y e
 
   act_good : (s : Step) (n x y : S) → Good x → act_in w s n x ≡ moment y → Good y
   act_good (From s) n x y g e = start_good s x y g e

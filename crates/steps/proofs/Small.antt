@@ -5,7 +5,7 @@ use mathlib.Core.List.{List, [], ◌∷◌}
 use Rattle.dates.proofs.Small.{Small, SmallDate, SmallTime}
 use Rattle.steps.specs.Joining.{join_of, joined, add_step, minutes_of}
 use Rattle.steps.specs.declared.plan.Start.{Start}
-use Rattle.steps.specs.declared.plan.Start.TheVariants.{Now, Senseless, OnDate, InWeek, FromToday, Pinned}
+use Rattle.steps.specs.declared.plan.Start.TheVariants.{Now, Senseless, OnDate, InWeek, FromToday}
 use Rattle.steps.specs.declared.plan.Move.{Move}
 use Rattle.steps.specs.declared.plan.Move.TheVariants.{Minutes, Months, Years, BackTo, ForwardTo}
 use Rattle.steps.specs.declared.plan.Step.{Step}
@@ -19,7 +19,6 @@ SmallStart Senseless = Unit
 SmallStart (OnDate d) = SmallDate d
 SmallStart (InWeek s w) = Small w
 SmallStart (FromToday w) = Small w
-SmallStart (Pinned d ms) = Small d × Small ms
 
 -- of a move, but for minutes
 abbrev pub SmallMove : Move → Type 0

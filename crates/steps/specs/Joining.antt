@@ -2,7 +2,7 @@
 use Rattle.std.specs.Prelude.{ℕ, ◌+◌, Bool, true, false, cond, List, [], ◌∷◌}
 use Rattle.std.specs.Bool.{beq}
 use Rattle.steps.specs.declared.plan.Start.{Start}
-use Rattle.steps.specs.declared.plan.Start.TheVariants.{Now, Senseless, OnDate, InWeek, FromToday, Pinned}
+use Rattle.steps.specs.declared.plan.Start.TheVariants.{Now, Senseless, OnDate, InWeek, FromToday}
 use Rattle.steps.specs.declared.plan.Move.{Move}
 use Rattle.steps.specs.declared.plan.Move.TheVariants.{Minutes, Months, Years, BackTo, ForwardTo}
 use Rattle.steps.specs.declared.plan.Step.{Step}
@@ -19,7 +19,6 @@ is_refusal Senseless = true
 is_refusal (OnDate d) = false
 is_refusal (InWeek s w) = false
 is_refusal (FromToday w) = false
-is_refusal (Pinned d ms) = false
 
 -- whether a step is one
 abbrev pub refuses : Step → Bool

@@ -8,9 +8,8 @@ use Rattle.evaluation.specs.Worlds.{World, offset}
 use Rattle.evaluation.specs.Weekdays.{in_week, forward_to, back_to}
 use Rattle.evaluation.specs.Dates.{date_at}
 use Rattle.evaluation.specs.Times.{time_at}
-use Rattle.steps.specs.Pins.{pinned_at}
 use Rattle.steps.specs.declared.plan.Start.{Start}
-use Rattle.steps.specs.declared.plan.Start.TheVariants.{Now, Senseless, OnDate, InWeek, FromToday, Pinned}
+use Rattle.steps.specs.declared.plan.Start.TheVariants.{Now, Senseless, OnDate, InWeek, FromToday}
 use Rattle.steps.specs.declared.plan.Move.{Move}
 use Rattle.steps.specs.declared.plan.Move.TheVariants.{Minutes, Months, Years, BackTo, ForwardTo}
 use Rattle.steps.specs.declared.plan.Step.{Step}
@@ -18,14 +17,13 @@ use Rattle.steps.specs.declared.plan.Step.TheVariants.{From, By, AtTime}
 
 -- The steps of a list in a world, at its now n.
 module _ {S : Type 0} (w : World S) where
-  -- "start (now, a date rule, or refusal 9)" or a pinned moment, from x
+  -- "start (now, a date rule, or refusal 9)", from x
   abbrev pub start_in : Start → S → Reach S
   start_in Now x = moment x
   start_in Senseless x = refused refusal.NoSense
   start_in (OnDate d) x = w.settle (date_at d (w.civil x))
   start_in (InWeek s d) x = w.settle (in_week s (d % 7) (w.civil x))
   start_in (FromToday d) x = w.settle (forward_to (d % 7) (w.civil x))
-  start_in (Pinned d ms) x = w.settle (pinned_at d ms)
 
   -- "fixed length, months, years, back to a weekday" or on to one, from x: "Fixed steps after a time or after now act on the instant; date,
   -- month and year steps act on the civil time."
@@ -72,14 +70,13 @@ is_time_step (From s) = false
 is_time_step (By m) = false
 is_time_step (AtTime time) = true
 
--- the time steps that a start needs: "one for a dated start and none for now"; a refusal and a pinned moment need none
+-- the time steps that a start needs: "one for a dated start and none for now"; a refusal needs none
 abbrev pub times_from : Start → ℕ
 times_from Now = 0
 times_from Senseless = 0
 times_from (OnDate d) = 1
 times_from (InWeek s w) = 1
 times_from (FromToday w) = 1
-times_from (Pinned d ms) = 0
 
 -- and a first step
 abbrev pub times_due : Step → ℕ
@@ -123,7 +120,7 @@ module _ {S : Type 0} (w : World S) where
   ahead_in (By m ∷ ss) n t = and_then (move_by m t) (ahead_in ss n)
   ahead_in (AtTime time ∷ ss) n t = and_then (w.settle (time_at time (w.civil n) t)) (walk_in w ss n)
 
-  -- a dated start is ahead of its time step; now and a pinned moment are in the world
+  -- a dated start is ahead of its time step; now is in the world
   abbrev pub lead_in : List Step → S → Reach S
   lead_in ss n = cond (is_dated ss) (ahead_in ss n (w.civil n)) (walk_in w ss n n)
 

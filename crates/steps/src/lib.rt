@@ -1,4 +1,3 @@
 // The steps of a ready phrase: how they are joined, and how a list of them is run at a now.
-pub mod pin;
 pub mod plan;
 pub mod run;

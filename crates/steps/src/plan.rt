@@ -7,7 +7,7 @@ use dates::date::Date;
 use dates::time::Time;
 use dates::units::RelativeSpecifier;
 
-// Where a list starts: at now, at a refusal, by a date rule, or at a pinned moment, by its day's number and its millisecond of that day.
+// Where a list starts; all but the first two are date rules.
 #[derive(Drop)]
 pub enum Start {
     Now,
@@ -15,7 +15,6 @@ pub enum Start {
     OnDate(Date),
     InWeek(RelativeSpecifier, u32),
     FromToday(u32),
-    Pinned(u32, u32),
 }
 
 // A way on from a moment.
@@ -114,7 +113,6 @@ fn is_refusal(start: Start) -> bool
         Start::OnDate(_) => false,
         Start::InWeek(_, _) => false,
         Start::FromToday(_) => false,
-        Start::Pinned(_, _) => false,
     }
 }
 
@@ -143,7 +141,7 @@ fn length_of(way: Move) -> Fixed
 }
 
 // A step as a fixed length.
-pub fn fixed_of(step: Step) -> Fixed
+fn fixed_of(step: Step) -> Fixed
     ensures { result ≡ fixed_of step }
 {
     match step {

@@ -4,7 +4,6 @@ ghost use Rattle.calendar.specs.Moments.{IsMoment, reached_of, Valid};
 ghost use Rattle.numbers.specs.Slices.{one_if};
 ghost use Rattle.steps.specs.Running.{start_at, move_by, act_of, is_start, is_time_step, times_from, times_due};
 
-use super::pin::pinned_at;
 use super::plan::{Move, Start, Step};
 use calendar::moments::{Moment, Reached};
 use evaluation::date::date_at;
@@ -23,7 +22,6 @@ fn start_at(start: Start, t: Moment) -> Reached
         Start::OnDate(date) => date_at(date, t),
         Start::InWeek(s, w) => in_week(s, w % 7, t),
         Start::FromToday(w) => forward_to(w % 7, t),
-        Start::Pinned(day, millisecond) => pinned_at(day, millisecond),
     }
 }
 
@@ -86,7 +84,6 @@ fn times_from(start: Start) -> u32
         Start::OnDate(_) => 1,
         Start::InWeek(_, _) => 1,
         Start::FromToday(_) => 1,
-        Start::Pinned(_, _) => 0,
     }
 }
 

@@ -24,7 +24,7 @@ pub record Narrow (h : Header) : Type 0 where
 abbrev pub octet_at : List ℕ → ℕ → ℕ
 octet_at l at = get_or l at 0
 
--- the number of four octets, the highest first
+-- "network octet order": the number of four octets
 unfoldable pub four_at : List ℕ → ℕ → ℕ
 four_at l at = 16777216 * octet_at l at + 65536 * octet_at l (at + 1) + 256 * octet_at l (at + 2) + octet_at l (at + 3)
 
@@ -32,7 +32,7 @@ four_at l at = 16777216 * octet_at l at + 65536 * octet_at l (at + 1) + 256 * oc
 unfoldable pub eight_at : List ℕ → ℕ → ℕ
 eight_at l at = 4294967296 * four_at l at + four_at l (at + 4)
 
--- a number of 64 bits with a sign, in two's complement, plus 2^63; and the way back
+-- "two's complement": a number of 64 bits with a sign, plus 2^63; and the way back
 abbrev pub turned : ℕ → ℕ
 turned u = cond (ltb u 9223372036854775808) (u + 9223372036854775808) (u - 9223372036854775808)
 
@@ -64,11 +64,11 @@ block_length w h = w * h.timecnt + h.timecnt + 6 * h.typecnt + h.charcnt + (w + 
 unfoldable pub second_at : List ℕ → ℕ
 second_at l = 44 + block_length 4 (header_at l 0)
 
--- none, or one for each of k types
+-- "MUST either be zero or equal to "typecnt""
 abbrev pub zero_or : ℕ → ℕ → Bool
 zero_or n k = eqb n 0 || eqb n k
 
--- the second header's counts: at least one type and one octet of designations; "leap-second records are refused"
+-- the second header's counts: types and designations "MUST NOT be zero"; "leap-second records are refused"
 abbrev pub are_counts : Header → Bool
 are_counts h =
     leb 1 h.typecnt && (leb 1 h.charcnt && (eqb h.leapcnt 0 && (zero_or h.isutcnt h.typecnt && zero_or h.isstdcnt h.typecnt)))
@@ -81,11 +81,11 @@ time_at l b i = turned (eight_at l (b + 8 * i))
 unfoldable pub is_time : ℕ → Bool
 is_time t = (ltb (t + 31622400) year_one || leb (year_one + 31536000) t) && ltb t (year_one + 315506361600)
 
--- "times ascending": the first, or above the one before
+-- "sorted in strictly ascending order": the first, or above the one before
 abbrev pub is_above : List ℕ → ℕ → ℕ → Bool
 is_above l b i = eqb i 0 || ltb (time_at l b (i - 1)) (time_at l b i)
 
--- a transition, with the number of its type, "indexes in range", in one octet behind all times
+-- a transition, with its type "in the range [0, "typecnt" - 1]", one octet behind all times
 unfoldable pub is_transition : List ℕ → ℕ → Header → ℕ → Bool
 is_transition l b h i = is_time (time_at l b i) && (ltb (octet_at l (b + 8 * h.timecnt + i)) h.typecnt && is_above l b i)
 
@@ -93,7 +93,7 @@ is_transition l b h i = is_time (time_at l b i) && (ltb (octet_at l (b + 8 * h.t
 unfoldable pub offset_at : List ℕ → ℕ → ℕ → ℕ
 offset_at l types j = raised (four_at l (types + 6 * j))
 
--- type j: "offsets not above -25 or not below 26 hours" are refused, and the designation begins among the designations
+-- type j: "offsets not above -25 or not below 26 hours" are refused, and the designation begins in "[0, "charcnt" - 1]"
 unfoldable pub is_type : List ℕ → ℕ → Header → ℕ → Bool
 is_type l b h j =
     (ltb 0 (offset_at l (b + 9 * h.timecnt) j) && ltb (offset_at l (b + 9 * h.timecnt) j) 183600)

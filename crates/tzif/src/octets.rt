@@ -14,7 +14,7 @@ pub(crate) fn octet(file: &[u8], at: usize) -> u64
 }
 
 // The number of four octets at a place.
-pub fn four(file: &[u8], at: usize) -> u64
+pub(crate) fn four(file: &[u8], at: usize) -> u64
     requires { at + 4 ≤ length file.now }
     ensures { (result ≡ four_at file.now at) × (result < 4294967296) }
 {

@@ -10,7 +10,7 @@ use Rattle.calendar.specs.Moments.{moment, seconds}
 use Rattle.calendar.specs.declared.moments.Moment.{Moment}
 use Rattle.calendar.proofs.Outcomes.{then_moment}
 use Rattle.steps.specs.Running.{act_in, act_of, walk_of}
-use Rattle.steps.specs.declared.plan.Start.TheVariants.{Now, Senseless, OnDate, InWeek, FromToday, Pinned}
+use Rattle.steps.specs.declared.plan.Start.TheVariants.{Now, Senseless, OnDate, InWeek, FromToday}
 use Rattle.steps.specs.declared.plan.Move.TheVariants.{Minutes, Months, Years, BackTo, ForwardTo}
 use Rattle.steps.specs.declared.plan.Step.{Step}
 use Rattle.steps.specs.declared.plan.Step.TheVariants.{From, By, AtTime}
@@ -23,20 +23,19 @@ use Rattle.zones.specs.declared.instants.Instant.{Instant}
 use Rattle.zones.specs.declared.instants.Arrived.{Arrived}
 use Rattle.zones.specs.declared.instants.Arrived.TheVariants.{At}
 use Rattle.zoned.specs.InZone.{in_zone}
-use Rattle.zoned.specs.Kinds.{act_by}
+use Rattle.zoned.specs.Kinds.{kind_of, act_by}
 
 -- one record is one step
 pub one-step : (i : ℕ) (l : List ℕ) (n t : Moment) → walk_of (steps_at (i + 1 - i) l (16 * i)) n t ≡ act_of (step_from (words_at l (16 * i))) n t
 one-step i l n t = let one : i + 1 - i ≡ 1 = omega arith in rw one (then_moment (act_of (step_from (words_at l (16 * i))) n t))
 
 module _ (z : Zone) where
-  pub by_kind : (s : Step) (n x : Instant) → act_in (in_zone z) s n x ≡ act_by z s n x
+  pub by_kind : (s : Step) (n x : Instant) → act_in (in_zone z) s n x ≡ act_by z (kind_of s) s n x
   by_kind (From Now) n x = refl
   by_kind (From Senseless) n x = refl
   by_kind (From (OnDate d)) n x = refl
   by_kind (From (InWeek s d)) n x = refl
   by_kind (From (FromToday d)) n x = refl
-  by_kind (From (Pinned d ms)) n x = refl
   by_kind (By (Minutes back k)) n x = refl
   by_kind (By (Months back k)) n x = refl
   by_kind (By (Years back k)) n x = refl

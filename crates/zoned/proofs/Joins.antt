@@ -15,8 +15,7 @@ use Rattle.zones.specs.Instants.{instant_by, with_millisecond, arrive, fixed_fro
 use Rattle.zones.specs.declared.instants.Instant.{Instant}
 use Rattle.zoned.specs.InZone.{in_zone}
 use Rattle.digits.proofs.Order.{le-or_lt}
-use Rattle.zones.proofs.Bounds.{through, bounds}
-use Rattle.zones.proofs.Bounds.{arrive_past, arrive_in, arrive_low, back_out, back_in, fixed_keeps, settle_keeps, with_good}
+use Rattle.zones.proofs.Bounds.{through, below, arrive_past, arrive_in, arrive_low, back_out, back_in, fixed_keeps, settle_keeps, with_good}
 
 -- no transition lies in UTC years 0 and 1
 not_there : (r : Row) → Bounded r → (s x : ℕ) → year_one ≤ s + 31622400 → x < year_one + 31536000 → s < r.at → r.at ≤ x → ⊥
@@ -44,7 +43,7 @@ module _ (z : Zone) (v : IsZone z) where
     where
       near : x < year_one + 90000 → civil_one ≤ civil_of z x
       near k =
-          let e = shift_same z.first z.rows v.bounded s x l (omega (arith, (bounds z v s).1)) (omega arith) in
+          let e = shift_same z.first z.rows v.bounded s x l (omega (arith, below z v s)) (omega arith) in
           omega arith
 
   -- on: only 22 arises, and stays
@@ -62,7 +61,7 @@ module _ (z : Zone) (v : IsZone z) where
           ap (arrive z) same
           ∙ sym (ap (λ (r : Reach ℕ). and_then r (fixed_from z false b)) (arrive_in z v (x + 60 * a) h (border x (x + 60 * a) (omega arith) g.low)))
 
-  -- further back than below year 1 is below year 1
+  -- further back than below z v year 1 is below z v year 1
   stays_low : (a b x : ℕ) → x < last_in z → 60 * a ≤ x → civil_of z (x - 60 * a) < civil_one → fixed_from z true (a + b) x ≡ refused 12
   stays_low a b x known h l = ⊎_elim within (back_out z v (a + b) x) (le-or_lt (60 * (a + b)) x)
     where

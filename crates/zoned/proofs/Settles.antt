@@ -7,7 +7,7 @@ use mathlib.Core.List.{List, [], ◌∷◌}
 use mathlib.Core.Logic.{◌⊎◌, inl, inr, ⊎_elim}
 use lib.Dec.{leb, ltb}
 use lib.ListN.{length, take, drop}
-use borrow.Author.Tests.{ltb-true, ltb-false}
+use borrow.Author.Tests.{ltb-true}
 use Rattle.refusals.specs.Table.{InvalidMoment, NoSense, Outside, NoZone, PastLast}
 use Rattle.refusals.specs.Answers.{Answer, given, refusal_at, and_then}
 use Rattle.refusals.specs.declared.Refusal.{Refusal}
@@ -21,7 +21,7 @@ use Rattle.phrase.specs.Read.{read_of}
 use Rattle.answer.specs.Answer.{placed}
 use Rattle.answer.proofs.Leads.{Leads, leads, refuses}
 use Rattle.steps.specs.Running.{act_of, act_in, walk_of, walk_in, ahead_in, is_list, is_dated, run_in}
-use Rattle.steps.specs.declared.plan.Start.TheVariants.{Now, Senseless, OnDate, InWeek, FromToday, Pinned}
+use Rattle.steps.specs.declared.plan.Start.TheVariants.{Now, Senseless, OnDate, InWeek, FromToday}
 use Rattle.steps.specs.declared.plan.Move.TheVariants.{Minutes, Months, Years, BackTo, ForwardTo}
 use Rattle.steps.specs.declared.plan.Step.{Step}
 use Rattle.steps.specs.declared.plan.Step.TheVariants.{From, By, AtTime}
@@ -36,11 +36,10 @@ use Rattle.zones.specs.Civil.{shift_at, civil_of, last_in, resolve, in_years, se
 use Rattle.zones.specs.Instants.{with_millisecond, arrive, fixed_from, fixed_step, clock_of, instant_at, Good, Shown}
 use Rattle.zones.specs.declared.instants.Instant.{Instant}
 use Rattle.zones.proofs.Resolved.{only_22_23}
-use Rattle.zones.proofs.Bounds.{bounds, fixed_keeps, settle_keeps, good_years, good_moment, file_zone}
-use Rattle.zones.proofs.Moments.{second_again}
+use Rattle.zones.proofs.Bounds.{below, fixed_keeps, settle_keeps, good_moment, file_zone}
 use Rattle.zoned.specs.InZone.{in_zone, run_at}
 use Rattle.zoned.specs.Kinds.{up_to_time}
-use Rattle.zoned.specs.Local.{East, West, IsLocal, local_at, shown_in, run_in_zone, evaluate_in_zone}
+use Rattle.zoned.specs.Local.{IsLocal, local_at, shown_in, run_in_zone, evaluate_in_zone}
 use Rattle.zoned.specs.declared.local.Local.{Local}
 use Rattle.zoned.proofs.Acts.{years_good}
 use Rattle.zoned.proofs.Ahead.{ahead_split}
@@ -117,7 +116,6 @@ module _ (z : Zone) (v : IsZone z) where
     act_ends (From (OnDate d)) x h = civil_ends (From (OnDate d)) x h
     act_ends (From (InWeek s d)) x h = civil_ends (From (InWeek s d)) x h
     act_ends (From (FromToday d)) x h = civil_ends (From (FromToday d)) x h
-    act_ends (From (Pinned d ms)) x h = civil_ends (From (Pinned d ms)) x h
     act_ends (By (Minutes back m)) x h = fixed_ends back m x h
     act_ends (By (Months back m)) x h = civil_ends (By (Months back m)) x h
     act_ends (By (Years back m)) x h = civil_ends (By (Years back m)) x h
@@ -163,27 +161,15 @@ module _ (z : Zone) (v : IsZone z) where
       go false known near e f g = of_refusal {r = refusal_at InvalidMoment 0 0} (inl (omega arith))
 
   -- what the clocks show there
-  module _ (x : Instant) (h : Shown z x) where
-    abbrev shift : ℕ
-    shift = shift_at z.first z.rows x.second
-
-    -- west of UTC or not
-    abbrev by : Bool → Local
-    by west = record { civil = clock_of z x; second = x.second; west = one_if west; offset = cond west (90000 - shift) (shift - 90000) }
-
-    clocks : second_of_moment (clock_of z x) ≡ x.second + shift
-    clocks = second_again (civil_of z x.second) x.millisecond (good_years z v x.second h.good)
-
-    side : (west : Bool) → ltb shift 90000 ≡ west → East (by west) ⊎ West (by west)
-    side true e =
-        let less = ltb-true shift 90000 e in
-        inr (record { west = refl; some = omega arith; offset = omega (arith, bounds z v x.second); clocks = omega (arith, clocks) })
-    side false e =
-        let more = ltb-false shift 90000 e in
-        inl (record { west = refl; offset = omega (arith, bounds z v x.second); clocks = omega (arith, clocks) })
-
-    local_is : IsLocal (local_at z x)
-    local_is = record { civil = at_moment x h; side = side (ltb shift 90000) refl }
+  local_is : (x : Instant) → Shown z x → IsLocal (local_at z x)
+  local_is x h = let by = go (shift_at z.first z.rows x.second) (below z v x.second) in record { civil = at_moment x h; west = by.0; offset = by.1 }
+    where
+      go : (o : ℕ) → o < 183600 → (one_if (ltb o 90000) ≤ 1) × (cond (ltb o 90000) (90000 - o) (o - 90000) < 93600)
+      go o most = by_side (ltb o 90000)
+        where
+          by_side : (west : Bool) → (one_if west ≤ 1) × (cond west (90000 - o) (o - 90000) < 93600)
+          by_side true = (omega arith, omega arith)
+          by_side false = (omega arith, omega arith)
 
 -- with the file, or 21
 pub run_in_zone_settled : (ss : List Step) (file : List ℕ) (n : Instant) → Holds IsLocal (Stops 8 0) (run_in_zone ss file n)

@@ -1,13 +1,13 @@
 -- A list of steps or a reading at an instant of a file's zone, and what the clocks show where it ends.
-use Rattle.std.specs.Prelude.{ℕ, ◌+◌, ◌-◌, ◌<◌, ◌≡◌, cond, List, ◌⊎◌, ltb}
+use Rattle.std.specs.Prelude.{ℕ, ◌-◌, ◌≤◌, ◌<◌, cond, List, ltb}
 use Rattle.refusals.specs.Answers.{Answer, given, refuse, and_then}
-use Rattle.calendar.specs.Moments.{Reach, IsMoment, second_number}
+use Rattle.calendar.specs.Moments.{Reach, IsMoment}
 use Rattle.calendar.specs.declared.moments.Moment.{Moment}
 use Rattle.numbers.specs.Slices.{one_if}
 use Rattle.phrase.specs.Tree.{DateTime}
 use Rattle.answer.specs.Answer.{placed}
 use Rattle.steps.specs.declared.plan.Step.{Step}
-use Rattle.tzif.specs.Zones.{Zone, year_one}
+use Rattle.tzif.specs.Zones.{Zone}
 use Rattle.tzif.specs.File.{zone_of}
 use Rattle.zones.specs.Civil.{shift_at}
 use Rattle.zones.specs.Instants.{clock_of}
@@ -26,23 +26,11 @@ shown_by o t s = record {
   offset = cond (ltb o 90000) (90000 - o) (o - 90000);
 }
 
--- the clocks show the instant plus the offset: fuzzy.h's "below 26 hours east of UTC where west is 0"
-pub record East (x : Local) : Type 0 where
-  pub west : x.west ≡ 0
-  pub offset : x.offset < 93600
-  pub clocks : year_one + second_number x.civil ≡ x.second + x.offset
-
--- or the instant less the offset: "and 1 second to below 25 hours west of it where west is 1"
-pub record West (x : Local) : Type 0 where
-  pub west : x.west ≡ 1
-  pub some : 0 < x.offset
-  pub offset : x.offset < 90000
-  pub clocks : year_one + second_number x.civil + x.offset ≡ x.second
-
--- what they can show: a moment of the calendar, at an offset on one side of UTC
+-- what they can show: a moment of the calendar, west 0 or 1, and an offset below 26 hours
 pub record IsLocal (x : Local) : Type 0 where
   pub civil : IsMoment x.civil
-  pub side : East x ⊎ West x
+  pub west : x.west ≤ 1
+  pub offset : x.offset < 93600
 
 -- in a zone at an instant
 abbrev pub local_at : Zone → Instant → Local

@@ -6,39 +6,59 @@ ghost use Rattle.steps.specs.Running.{act_in, walk_in, lead_in, is_list};
 ghost use Rattle.records.specs.Words.{step_from};
 ghost use Rattle.records.specs.Records.{words_at, steps_at, decode_of};
 ghost use Rattle.zoned.specs.InZone.{in_zone, run_at};
-ghost use Rattle.zoned.specs.Kinds.{is_now, stays, civil_step, up_to_time};
+ghost use Rattle.zoned.specs.Kinds.{startKind, moveKind, kind_of, civil_step, up_to_time};
 
 use records::run::{is_list, step_at, walk};
 use refusals::{INVALID_MOMENT, NO_SENSE, PAST_LAST};
-use steps::plan::{Fixed, Start, Step, fixed_of};
+use steps::plan::{Move, Start, Step};
 use steps::run::{one_if_time, times_due};
 use tzif::file::Places;
 use zones::civil::in_years;
 use zones::instants::{Arrived, Instant, clock_of, fixed_step, settle};
 use zones::search::civil_of;
 
-// Is a start now, which stays at the instant? Every start is named, so that a new one has to be placed.
-fn is_now(start: Start) -> bool
-    ensures { result ≡ is_now start }
+// What a step asks for in a zone: nothing, a fixed length on the instant, or an act on the civil time.
+#[derive(Drop)]
+enum Kind {
+    Stays,
+    Fixed { back: bool, count: u64 },
+    Civil,
+}
+
+// Of a start. Here and below every start and every move is named, so that a new one has to be placed.
+fn start_kind(start: Start) -> Kind
+    ensures { result ≡ startKind start }
 {
     match start {
-        Start::Now => true,
-        Start::Senseless => false,
-        Start::OnDate(_) => false,
-        Start::InWeek(_, _) => false,
-        Start::FromToday(_) => false,
-        Start::Pinned(_, _) => false,
+        Start::Now => Kind::Stays,
+        Start::Senseless => Kind::Civil,
+        Start::OnDate(_) => Kind::Civil,
+        Start::InWeek(_, _) => Kind::Civil,
+        Start::FromToday(_) => Kind::Civil,
     }
 }
 
-// Does a step stay at the instant?
-fn stays(step: Step) -> bool
-    ensures { result ≡ stays step }
+// Of a move.
+fn move_kind(way: Move) -> Kind
+    ensures { result ≡ moveKind way }
+{
+    match way {
+        Move::Minutes { back, count } => Kind::Fixed { back, count },
+        Move::Months { .. } => Kind::Civil,
+        Move::Years { .. } => Kind::Civil,
+        Move::BackTo(_) => Kind::Civil,
+        Move::ForwardTo(_) => Kind::Civil,
+    }
+}
+
+// Of a step.
+fn kind_of(step: Step) -> Kind
+    ensures { result ≡ kind_of step }
 {
     match step {
-        Step::From(start) => is_now(start),
-        Step::By(_) => false,
-        Step::AtTime(_) => false,
+        Step::From(start) => start_kind(start),
+        Step::By(way) => move_kind(way),
+        Step::AtTime(_) => Kind::Civil,
     }
 }
 
@@ -59,13 +79,10 @@ fn act_in(b: &[u8], i: usize, file: &[u8], p: Places, n: Instant, x: Instant) ->
     ensures result_value { arrived_of result ≡ act_in (in_zone (zone_in file.now p)) (step_from (words_at b.now (16 * i))) n x }
     ensures kept { Kept (zone_in file.now p) (arrived_of result) }
 {
-    let step = step_at(b, i);
-    if stays(step) {
-        return Arrived::At(x);
-    }
-    match fixed_of(step) {
-        Fixed::Length { back, count } => fixed_step(file, p, back, count, x),
-        Fixed::Other => act_civil(b, i, file, p, n, x),
+    match kind_of(step_at(b, i)) {
+        Kind::Stays => Arrived::At(x),
+        Kind::Fixed { back, count } => fixed_step(file, p, back, count, x),
+        Kind::Civil => act_civil(b, i, file, p, n, x),
     }
 }
 

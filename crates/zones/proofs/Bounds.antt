@@ -28,16 +28,11 @@ pub through :
 through P (moment x) f y e go = go x refl e
 through P (refused k) f y e go = let z : ◌≡◌ {A = ℕ} 0 1 = cc in absurd (omega arith)
 
--- an offset's bounds: above -25 and below 26 hours
-abbrev pub Offset : ℕ → Type 0
-Offset o = (0 < o) × (o < 183600)
-
--- every offset is within them
-shift_bounds : (o : ℕ) (rs : List Row) → Offset o → AllBounded rs → (s : ℕ) → Offset (shift_at o rs s)
-shift_bounds o [] h b s = h
-shift_bounds o (r ∷ rs) h b s =
-    ⊎_elim (λ k. rw (le-leb r.at s k) (shift_bounds r.shift rs (b.0.some, b.0.shift) b.1 s)) (λ k. rw (lt-leb r.at s k) h)
-    (le-or_lt r.at s)
+-- every offset is below the bound
+shift-below : (o : ℕ) (rs : List Row) → o < 183600 → AllBounded rs → (s : ℕ) → shift_at o rs s < 183600
+shift-below o [] h b s = h
+shift-below o (r ∷ rs) h b s =
+    ⊎_elim (λ k. rw (le-leb r.at s k) (shift-below r.shift rs b.0.shift b.1 s)) (λ k. rw (lt-leb r.at s k) h) (le-or_lt r.at s)
 
 -- the last transition is before year 9999
 last_below : (from : ℕ) (rs : List Row) → from < year_one + 315506361600 → AllBounded rs → last_of from rs < year_one + 315506361600
@@ -45,12 +40,12 @@ last_below from [] h b = h
 last_below from (r ∷ rs) h b = last_below r.at rs b.0.high b.1
 
 module _ (z : Zone) (v : IsZone z) where
-  pub bounds : (s : ℕ) → Offset (shift_at z.first z.rows s)
-  bounds s = shift_bounds z.first z.rows (v.some, v.first) v.bounded s
+  pub below : (s : ℕ) → shift_at z.first z.rows s < 183600
+  below s = shift-below z.first z.rows v.first v.bounded s
 
   -- before the last transition no civil time passes year 9999
   pub high : (s : ℕ) → s < last_in z → civil_of z s < civil_one + seconds
-  high s h = omega (arith, (bounds s).1, last_below 0 z.rows (omega arith) v.bounded)
+  high s h = omega (arith, below s, last_below 0 z.rows (omega arith) v.bounded)
 
   -- where a fixed length arrives
   pub arrive_past : (s : ℕ) → last_in z ≤ s → arrive z s ≡ refused PastLast

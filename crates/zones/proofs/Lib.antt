@@ -2,6 +2,5 @@ pub mod Resolved
 pub mod OneOffset
 pub mod Searched
 pub mod Pieces
-pub mod Last
 pub mod Moments
 pub mod Bounds

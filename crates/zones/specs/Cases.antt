@@ -1,10 +1,8 @@
 -- Worked seconds, computed: both sides of a gap, of an overlap and of the last transition.
 use Rattle.std.specs.Prelude.{ℕ, ◌+◌, ◌-◌, ◌≡◌, refl, List, [], ◌∷◌, map}
-use Rattle.refusals.specs.Answers.{given, refuse}
 use Rattle.calendar.specs.Moments.{Reach, moment, refused}
 use Rattle.tzif.specs.Zones.{Row, Zone}
 use Rattle.zones.specs.Civil.{shift_at, resolve}
-use Rattle.zones.specs.Until.{last_known}
 
 -- 2026-03-08T07:00:00Z, 2026-11-01T06:00:00Z, and a last transition at 2027-03-07T23:00:00Z
 abbrev march : ℕ
@@ -65,7 +63,3 @@ shifts_as_listed = refl
 -- "all, if there is none"
 pub none_known : resolve (record { first = 90000; rows = [] }) march ≡ refused 22
 none_known = refl
-
--- known until the last transition, and not at all without one
-pub until_as_listed : map last_known (new_york.rows ∷ [] ∷ []) ≡ (given last ∷ refuse 22 0 0 ∷ [])
-until_as_listed = refl

@@ -1,5 +1,4 @@
 pub mod Civil
 pub mod Instants
 pub mod Search
-pub mod Until
 pub mod Cases

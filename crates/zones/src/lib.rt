@@ -2,4 +2,3 @@
 pub mod civil;
 pub mod instants;
 pub mod search;
-pub mod until;

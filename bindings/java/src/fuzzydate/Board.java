@@ -9,9 +9,6 @@ import java.util.Optional;
 /**
  * Up to 256 ready reminders, each in a slot of 0 to 255, and the order of their moments at the board's now. A refused call leaves all of it
  * unchanged. The calls on one board run one after another, from whatever threads.
- *
- * <p>Every reminder is run at the board's now: "an hour from now", added at 9:30, is 01:00 after midnight's {@link #again}. One that must
- * keep the moment of its author's now is read at that now, pinned by {@link Fuzzydate#pin}, and added by {@link #addReady}.
  */
 public final class Board {
     private static final byte[] NO_PHRASE = {};
@@ -42,14 +39,6 @@ public final class Board {
         return add(reading, Fuzzydate.bytes(phrase));
     }
 
-    /**
-     * Adds a reminder that is ready, as it is stored or sent: adding a phrase is making it ready and adding that. It is refused for
-     * {@link Reason#NO_SENSE} where the bytes are not a ready phrase, then for a full board.
-     */
-    public synchronized int addReady(byte[] ready) throws Refusal {
-        return Calls.length(Refusal.check(Calls.boardAddReady(memory, ready), NO_PHRASE));
-    }
-
     /** Removes a reminder: its slot is free again. It is refused for an empty slot, and for 256 and above. */
     public synchronized void remove(int slot) throws Refusal {
         Refusal.check(Calls.boardRemove(memory, slot), NO_PHRASE);
@@ -77,16 +66,6 @@ public final class Board {
             }
             throw new IllegalStateException(refusal);
         }
-    }
-
-    /**
-     * Finds when a slot's reminder is due at the board's now; with {@link #order} a list screen has its dates. It is refused for an empty
-     * slot, and for 256 and above, else as {@link Fuzzydate#run} refuses the slot's ready phrase.
-     */
-    public synchronized LocalDateTime moment(int slot) throws Refusal {
-        int[] moment = new int[Calls.MOMENT_NUMBERS];
-        Refusal.check(Calls.boardMoment(memory, slot, moment), NO_PHRASE);
-        return Moments.of(moment);
     }
 
     /**

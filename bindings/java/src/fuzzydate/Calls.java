@@ -4,8 +4,8 @@ import java.nio.ByteBuffer;
 
 /**
  * The functions of fuzzy.h by their names there, over fuzzydate_jni.c. An answer is the header's one number; what a call writes goes to the
- * front of its last array, an instant's second and a count to the one before it, and on a refusal nothing does. A board is a direct buffer
- * of BOARD_SIZE bytes, used by one thread at a time.
+ * front of its last array, an instant's second to the one before it, and on a refusal nothing does. A board is a direct buffer of
+ * BOARD_SIZE bytes, used by one thread at a time.
  */
 final class Calls {
     static final int MOMENT_NUMBERS = 7;
@@ -15,7 +15,6 @@ final class Calls {
     static final int STAMP_SIZE = 29;
     static final int PHRASE_SIZE = 26;
     static final int LOCAL_NUMBERS = 9;
-    static final int PLACE_NUMBERS = 2;
     static final int BOARD_SLOTS = 256;
     static final int BOARD_SIZE = 101408;
 
@@ -31,15 +30,11 @@ final class Calls {
 
     static native long run(byte[] ready, int[] now, int[] moment);
 
-    static native long pin(int[] moment, byte[] ready);
-
     static native long readStamp(byte[] text, int[] stamp);
 
     static native long writeStamp(int[] stamp, byte[] text);
 
     static native long findWord(int reading, byte[] word, int[] found);
-
-    static native long complete(int reading, byte[] prefix, int which, int[] count, byte[] word);
 
     static native long writePhrase(int[] moment, byte[] text);
 
@@ -51,23 +46,15 @@ final class Calls {
 
     static native long readInZone(int reading, byte[] phrase, byte[] zone, long second, int millisecond, long[] due, int[] local);
 
-    static native long zoneUntil(byte[] zone, long[] until);
-
-    static native long findZone(byte[] bundle, byte[] name, long[] place);
-
     static native long boardMake(ByteBuffer board, int[] now);
 
     static native long boardAdd(ByteBuffer board, int reading, byte[] phrase);
-
-    static native long boardAddReady(ByteBuffer board, byte[] ready);
 
     static native long boardRemove(ByteBuffer board, int slot);
 
     static native long boardAgain(ByteBuffer board, int[] now);
 
     static native long boardHead(ByteBuffer board, int[] moment);
-
-    static native long boardMoment(ByteBuffer board, int slot, int[] moment);
 
     static native long boardOrder(ByteBuffer board, int[] slots);
 

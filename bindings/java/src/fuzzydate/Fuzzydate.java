@@ -19,19 +19,16 @@ import java.util.List;
  */
 public final class Fuzzydate {
     /** The version of these classes; {@link #version} gives that of the library. */
-    public static final String VERSION = "1.1.0";
+    public static final String VERSION = "1.0.0";
 
     private static final byte[] NO_PHRASE = {};
 
     /** The days of the years 1 to 9999: no rule has more occurrences. */
     private static final int MOST_OCCURRENCES = 3_652_059;
 
-    /** As many bytes as a phrase may have, so that no word of a newer library is too long. */
-    private static final int MOST_WORD = 256;
-
     private Fuzzydate() {}
 
-    /** The version of the library: 1001000 for 1.1.0, by 1000000 * major + 1000 * minor + patch. */
+    /** The version of the library: 1000000 for 1.0.0, by 1000000 * major + 1000 * minor + patch. */
     public static int version() {
         return Calls.version();
     }
@@ -67,10 +64,7 @@ public final class Fuzzydate {
         return makeReady(reading, bytes(phrase));
     }
 
-    /**
-     * Runs a ready phrase at a now: gives what {@link #read} gives for its phrase at that now, in the reading that it was made in; of a
-     * pinned moment, that moment.
-     */
+    /** Runs a ready phrase at a now: gives what {@link #read} gives for its phrase at that now, in the reading that it was made in. */
     public static LocalDateTime run(byte[] ready, LocalDateTime now) throws Refusal {
         int[] moment = new int[Calls.MOMENT_NUMBERS];
         Refusal.check(Calls.run(ready, Moments.numbers(now, Calls.MOMENT_NUMBERS), moment), NO_PHRASE);
@@ -80,17 +74,6 @@ public final class Fuzzydate {
     /** Runs a ready phrase at a now that is cut to milliseconds, such as {@code LocalDateTime.now()}. */
     public static LocalDateTime runCutToMillis(byte[] ready, LocalDateTime now) throws Refusal {
         return run(ready, now.truncatedTo(ChronoUnit.MILLIS));
-    }
-
-    /**
-     * Makes the ready phrase that gives this moment at every now, its second and millisecond included: for a reminder that is read once at
-     * its author's now and must not move any more. A {@link Board} runs every reminder at the board's now; {@link Board#addReady} puts a
-     * pinned one on it. A library of version 1.0 refuses such a ready phrase for {@link Reason#NO_SENSE}.
-     */
-    public static byte[] pin(LocalDateTime moment) throws Refusal {
-        byte[] ready = new byte[Calls.READY_SIZE];
-        long answer = Calls.pin(Moments.numbers(moment, Calls.MOMENT_NUMBERS), ready);
-        return Arrays.copyOf(ready, Calls.length(Refusal.check(answer, NO_PHRASE)));
     }
 
     /**
@@ -130,29 +113,6 @@ public final class Fuzzydate {
     /** Says of a word, while it is typed, whether it is one of a reading's words. */
     public static FoundWord findWord(Reading reading, String word) {
         return findWord(reading, bytes(word));
-    }
-
-    /**
-     * Lists a reading's words by their beginning, while a word is typed: all that begin with the prefix, in alphabetical order and in small
-     * letters; none where no word begins so. Letters of the prefix are in either case, and all words begin with the empty prefix.
-     */
-    public static List<String> complete(Reading reading, byte[] prefix) {
-        List<String> words = new ArrayList<>();
-        byte[] word = new byte[MOST_WORD];
-        int[] count = {1}; // which each call says
-        while (words.size() < count[0]) {
-            long answer = Calls.complete(reading.number(), prefix, words.size(), count, word);
-            if (Calls.number(answer) != 0) {
-                break; // no word begins so: a Reading is never refused, and the array is never too short
-            }
-            words.add(new String(word, 0, Calls.length(answer), StandardCharsets.US_ASCII));
-        }
-        return words;
-    }
-
-    /** Lists a reading's words by their beginning. */
-    public static List<String> complete(Reading reading, String prefix) {
-        return complete(reading, bytes(prefix));
     }
 
     /**
@@ -246,27 +206,6 @@ public final class Fuzzydate {
     /** Reads a phrase in a zone at an instant that is cut to milliseconds, such as {@code Instant.now()}. */
     public static Local readInZoneCutToMillis(Reading reading, String phrase, byte[] zone, Instant now) throws Refusal {
         return readInZone(reading, phrase, zone, now.truncatedTo(ChronoUnit.MILLIS));
-    }
-
-    /**
-     * Finds a zone's file in a bundle of them by its name, such as "America/New_York", with letters in either case: a copy of its bytes,
-     * for {@link #readInZone}. It is refused for {@link Reason#NO_BUNDLE}, or for {@link Reason#UNKNOWN_ZONE} where the bundle has not that
-     * name. bindings/zones/bundle of the repository writes bundles.
-     */
-    public static byte[] findZone(byte[] bundle, String name) throws Refusal {
-        long[] place = new long[Calls.PLACE_NUMBERS];
-        Refusal.check(Calls.findZone(bundle, bytes(name), place), NO_PHRASE);
-        return Arrays.copyOfRange(bundle, (int) place[0], (int) (place[0] + place[1]));
-    }
-
-    /**
-     * Finds until when a zone's file is good: the instant of its last transition, from which on every now is refused for
-     * {@link Reason#PAST_LAST}; so is a file without a transition. A second before those that Instant has is a DateTimeException.
-     */
-    public static Instant zoneUntil(byte[] zone) throws Refusal {
-        long[] until = new long[1];
-        Refusal.check(Calls.zoneUntil(zone, until), NO_PHRASE);
-        return Instant.ofEpochSecond(until[0]);
     }
 
     static byte[] bytes(String text) {

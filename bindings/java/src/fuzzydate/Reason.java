@@ -58,12 +58,6 @@ public enum Reason {
     EMPTY_SLOT,
     /** No reminder of the board has a moment. */
     NOTHING_DUE,
-    /** No word of the reading begins so, which {@link Fuzzydate#complete} says by an empty list. */
-    NO_WORD,
-    /** Not a bundle of zones. */
-    NO_BUNDLE,
-    /** The bundle has no zone of that name. */
-    UNKNOWN_ZONE,
     /** A reason of a newer library, which is known by its number alone: {@link Refusal#number}. */
     OTHER;
 

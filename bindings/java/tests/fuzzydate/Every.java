@@ -1,11 +1,9 @@
 package fuzzydate;
 
 import java.nio.ByteBuffer;
-import java.nio.ByteOrder;
 import java.nio.charset.StandardCharsets;
 import java.nio.file.Files;
 import java.nio.file.Paths;
-import java.time.DateTimeException;
 import java.time.Instant;
 import java.time.LocalDate;
 import java.time.LocalDateTime;
@@ -27,10 +25,7 @@ import java.util.concurrent.ExecutorService;
 import java.util.concurrent.Executors;
 import java.util.concurrent.Future;
 
-/**
- * Every call with good, damaged, empty and missing input, each refusal at least once, all of it in eight threads: Every ZONE BUNDLE
- * VERSION.
- */
+/** Every call with good, damaged, empty and missing input, each refusal at least once, all of it in eight threads: Every ZONE VERSION. */
 final class Every {
     private static final LocalDateTime NOW = LocalDateTime.of(2026, 2, 11, 9, 30, 15, 250_000_000);
     private static final LocalDateTime LEAP_DAY = LocalDateTime.of(2024, 2, 29, 12, 0);
@@ -39,9 +34,6 @@ final class Every {
     private static final String TUESDAYS = "FREQ=WEEKLY;INTERVAL=2;BYDAY=TU";
     private static final Instant BEFORE_GAP = Instant.parse("2026-03-08T06:30:00.250Z");
     private static final Instant LAST = Instant.parse("2027-03-14T07:00:00Z");
-    /** Until when all zones of the bundle are good, and where its files begin. */
-    private static final Instant BUNDLE_UNTIL = Instant.parse("2100-01-01T00:00:00Z");
-    private static final int BUNDLE_FILES = 788;
     /** Where the first offset stands in the zone's file. */
     private static final int FIRST_OFFSET = 131;
     private static final int THREADS = 8;
@@ -49,14 +41,12 @@ final class Every {
 
     private final Set<Reason> seen = EnumSet.noneOf(Reason.class);
     private final byte[] zone;
-    private final byte[] bundle;
     private final String version;
     private int checks = 0;
 
-    /** By the bytes of bindings/zones/New_York and of sample.bundle there, and what the file VERSION says. */
-    private Every(byte[] zone, byte[] bundle, String version) {
+    /** By the bytes of bindings/zones/New_York and what the file VERSION says. */
+    private Every(byte[] zone, String version) {
         this.zone = zone;
-        this.bundle = bundle;
         this.version = version;
     }
 
@@ -255,61 +245,6 @@ final class Every {
             same(said, Reason.of(number) != Reason.OTHER, "whether the header has words for refusal " + number);
         }
         same(Calls.words(0), "done", "the words for no refusal");
-    }
-
-    private void completed(Reading reading, String prefix, String... words) {
-        same(Fuzzydate.complete(reading, prefix), Arrays.asList(words), prefix);
-        byte[] bytes = prefix.getBytes(StandardCharsets.UTF_8);
-        same(Fuzzydate.complete(reading, bytes), Arrays.asList(words), prefix + ", as bytes");
-        for (int which : new int[] {words.length, Integer.MAX_VALUE, -1}) {
-            uncompleted(Reason.NO_WORD, reading.number(), bytes, which, 0);
-        }
-        for (int which = 0; which < words.length; which++) {
-            uncompleted(Reason.NO_ROOM, reading.number(), bytes, which, words[which].length() - 1);
-            byte[] exact = new byte[words[which].length()];
-            int[] count = {0xa5};
-            long answer = Calls.complete(reading.number(), bytes, which, count, exact);
-            same(answer, (long) exact.length << 32, prefix + ": room for exactly a word");
-            same(new String(exact, StandardCharsets.US_ASCII) + count[0], words[which] + words.length, prefix + ": a word and a count");
-        }
-    }
-
-    /** A completion that is refused, and nothing written. */
-    private void uncompleted(Reason reason, int reading, byte[] prefix, int which, int room) {
-        int[] count = {0xa5};
-        byte[] word = new byte[room];
-        refusal(reason, () -> Refusal.check(Calls.complete(reading, prefix, which, count, word), prefix), "no completion");
-        expect(count[0] == 0xa5 && Arrays.equals(word, new byte[room]), "nothing written for no completion");
-    }
-
-    private void completions() {
-        completed(Reading.FIRST, "frid", "friday");
-        completed(Reading.SECOND, "FRI", "friday");
-        completed(Reading.FIRST, "fridays");
-        completed(Reading.FIRST, "day", "day", "days");
-        completed(Reading.FIRST, "ay");
-        completed(Reading.FIRST, "fort");
-        completed(Reading.SECOND, "fort", "fortieth", "forty");
-        completed(Reading.FIRST, "seventeenth", "seventeenth");
-        completed(Reading.FIRST, "seventeenths");
-        completed(Reading.FIRST, "zero\0");
-        completed(Reading.FIRST, "fri\u00e9");
-        for (Reading reading : Reading.values()) {
-            List<String> all = Fuzzydate.complete(reading, ""), sorted = new ArrayList<>(all);
-            Collections.sort(sorted);
-            same(all.size(), reading == Reading.FIRST ? 133 : 136, "all words");
-            same(all, sorted, "all words in order");
-            for (String word : all) {
-                expect(Fuzzydate.findWord(reading, word).code().isPresent(), word);
-                expect(Fuzzydate.complete(reading, word).contains(word), word);
-            }
-            same(Fuzzydate.complete(reading, new byte[4096]), Collections.emptyList(), "a long prefix");
-        }
-        for (int reading : new int[] {0, 3, -1}) {
-            uncompleted(Reason.NO_READING, reading, new byte[0], -1, 0);
-        }
-        Refusal none = refusal(Reason.NO_WORD, () -> Refusal.check(27, new byte[0]), "no word");
-        same(none.getMessage(), "no word begins so", "a message");
     }
 
     /** The binding's version is that of the file VERSION and of the library. */
@@ -542,79 +477,6 @@ final class Every {
         }
     }
 
-    private void found(String name, int place, int length) throws Refusal {
-        byte[] file = Fuzzydate.findZone(bundle, name);
-        expect(Arrays.equals(file, Arrays.copyOfRange(bundle, place, place + length)), name + ": the zone's bytes");
-        same(Fuzzydate.zoneUntil(file), BUNDLE_UNTIL, name + ": until when it is good");
-        expect(due(Reading.FIRST, "now", file, BUNDLE_UNTIL.minusMillis(1)) != null, name + ": before that");
-        undue(Reason.PAST_LAST, "now", file, BUNDLE_UNTIL);
-    }
-
-    /** A name that is not found, and nothing written. */
-    private void unfound(Reason reason, byte[] zones, String name) {
-        long[] place = {0xa5, 0xa5};
-        same(Calls.findZone(zones, name.getBytes(StandardCharsets.UTF_8), place), (long) reason.number(), name);
-        expect(place[0] == 0xa5 && place[1] == 0xa5, "nothing written for no zone");
-        same(refusal(reason, () -> Fuzzydate.findZone(zones, name), name).getMessage(), reason.words(), "a message");
-    }
-
-    private void bundles() throws Refusal {
-        found("America/New_York", 788, 1800);
-        found("aMERICA/nEW_yORK", 788, 1800);
-        found("us/eastern", 788, 1800);
-        found("Asia/Kolkata", 2588, 116);
-        found("GB", 4720, 1998);
-        found("GB-Eire", 4720, 1998);
-        found("UTC", 4604, 116);
-        String longest = String.join("", Collections.nCopies(41, "a"));
-        String[] none = {"", "G", "GB-", "GB-Eire\0", "America/New_Yor", "America/New_York ", "Asia/Bombay", "\u00e9", longest};
-        for (String name : none) {
-            unfound(Reason.UNKNOWN_ZONE, bundle, name);
-        }
-        same(Reason.UNKNOWN_ZONE.words() + ", " + Reason.NO_BUNDLE.words(), "the bundle has no such zone, not a bundle of zones", "words");
-        for (int length = 0; length < BUNDLE_FILES; length++) {
-            unfound(Reason.NO_BUNDLE, Arrays.copyOf(bundle, length), "UTC");
-        }
-        unfound(Reason.UNKNOWN_ZONE, Arrays.copyOf(bundle, BUNDLE_FILES), "Asia/Bombay");
-        unfound(Reason.NO_BUNDLE, Arrays.copyOf(bundle, 2703), "Asia/Kolkata");
-        same(Fuzzydate.findZone(Arrays.copyOf(bundle, 2704), "Asia/Kolkata").length, 116, "a bundle cut at a file's end");
-        for (int bit = 0; bit < 8 * BUNDLE_FILES; bit++) {
-            byte[] damaged = flipped(bundle, bit);
-            refusedWithin(Reason.NO_BUNDLE, bit < 64 ? Reason.NO_BUNDLE : Reason.UNKNOWN_ZONE, () -> Fuzzydate.findZone(damaged, "UTC"));
-        }
-    }
-
-    /** UTC as zic writes it, with these transitions to itself. */
-    private static byte[] utc(long... transitions) {
-        byte[] header = "TZif2".getBytes(StandardCharsets.US_ASCII);
-        ByteBuffer file = ByteBuffer.allocate(111 + 9 * transitions.length);
-        file.put(header).putInt(36, 1).putInt(40, 1).position(51);
-        file.put(header).putInt(83, transitions.length).putInt(87, 1).putInt(91, 4).position(95);
-        for (long transition : transitions) {
-            file.putLong(transition);
-        }
-        file.position(101 + 9 * transitions.length);
-        return file.put("UTC\0\nUTC0\n".getBytes(StandardCharsets.US_ASCII)).array();
-    }
-
-    private void untils() throws Refusal {
-        same(Fuzzydate.zoneUntil(zone), LAST, "until when the zone is good");
-        long[] until = {0xa5};
-        same(Calls.zoneUntil(utc(), until), (long) Reason.PAST_LAST.number(), "a zone without a transition");
-        for (int length = 0; length < zone.length; length++) {
-            same(Calls.zoneUntil(Arrays.copyOf(zone, length), until), (long) Reason.NO_ZONE.number(), "until when no zone is good");
-        }
-        expect(until[0] == 0xa5, "nothing written where a zone is not good until a second");
-        refusal(Reason.PAST_LAST, () -> Fuzzydate.zoneUntil(utc()), "a zone without a transition");
-        refusal(Reason.NO_ZONE, () -> Fuzzydate.zoneUntil(bundle), "until when a bundle is good");
-        undue(Reason.PAST_LAST, "now", utc(), BEFORE_GAP);
-        Instant first = Instant.ofEpochSecond(Instant.MIN.getEpochSecond());
-        same(Fuzzydate.zoneUntil(utc(first.getEpochSecond() - 1, first.getEpochSecond())), first, "the first second of java.time");
-        for (long second : new long[] {first.getEpochSecond() - 1, Long.MIN_VALUE}) {
-            throwsA(DateTimeException.class, () -> Fuzzydate.zoneUntil(utc(second)), "a second that java.time does not have");
-        }
-    }
-
     /** The file cut short, with each bit changed, and with as many bytes behind it as a zone may have, and one more. */
     private void zoneFiles() throws Refusal {
         for (int length = 0; length < zone.length; length++) {
@@ -630,44 +492,6 @@ final class Every {
         Local now = due(Reading.FIRST, "now", zone, BEFORE_GAP);
         same(due(Reading.FIRST, "now", Arrays.copyOf(zone, 65_536), BEFORE_GAP), now, "the longest file");
         undue(Reason.NO_ZONE, "now", Arrays.copyOf(zone, 65_537), BEFORE_GAP);
-    }
-
-    /** A record of a ready phrase: its kind and form, and three numbers. */
-    private static byte[] ready(int... numbers) {
-        ByteBuffer bytes = ByteBuffer.allocate(Calls.READY_SIZE).order(ByteOrder.LITTLE_ENDIAN);
-        for (int number : numbers) {
-            bytes.putInt(number);
-        }
-        return Arrays.copyOf(bytes.array(), 4 * numbers.length);
-    }
-
-    private void pinned(String text, int day, int millisecond) throws Refusal {
-        LocalDateTime moment = LocalDateTime.parse(text), first = LocalDateTime.of(1, 1, 1, 0, 0);
-        byte[] ready = Fuzzydate.pin(moment);
-        expect(Arrays.equals(ready, ready(12, day, millisecond, 0)), text + ": its record");
-        for (LocalDateTime now : new LocalDateTime[] {first, NOW, LEAP_DAY, LocalDateTime.of(9999, 12, 31, 23, 59, 59)}) {
-            same(Fuzzydate.run(ready, now), moment, text + " at " + now);
-        }
-        refusal(Reason.NO_SENSE, () -> Fuzzydate.run(Arrays.copyOf(ready, 15), NOW), text + ", cut short");
-        refusal(Reason.INVALID_MOMENT, () -> Fuzzydate.run(ready, NOW.withYear(0)), text + " at an invalid now");
-    }
-
-    private void pins() throws Refusal {
-        pinned("0001-01-01T00:00", 0, 0);
-        pinned("2026-02-11T09:30:15.250", 739_657, 34_215_250);
-        pinned("9999-12-31T23:59:59.999", 3_652_058, 86_399_999);
-        refusal(Reason.OUTSIDE, () -> Fuzzydate.run(ready(12, 3_652_059, 0, 0), NOW), "a day after the last");
-        refusal(Reason.NO_SENSE, () -> Fuzzydate.run(ready(12, 0, 0, 1), NOW), "a pinned moment with a third number");
-        for (int year : new int[] {LocalDateTime.MIN.getYear(), -1, 0, 10000, LocalDateTime.MAX.getYear()}) {
-            byte[] ready = new byte[Calls.READY_SIZE];
-            refusal(Reason.INVALID_MOMENT, () -> Fuzzydate.pin(WHOLE.withYear(year)), "pinning in the year " + year);
-            same(Calls.pin(Moments.numbers(WHOLE.withYear(year), 7), ready), (long) Reason.INVALID_MOMENT.number(), "pinning in a year");
-            expect(Arrays.equals(ready, new byte[Calls.READY_SIZE]), "nothing written where nothing is pinned");
-        }
-        Local local = Fuzzydate.runInZone(Fuzzydate.pin(LocalDateTime.parse("2026-03-08T03:30")), zone, Instant.EPOCH);
-        same(local.instant(), Instant.parse("2026-03-08T07:30:00Z"), "a pinned moment in a zone");
-        byte[] skipped = Fuzzydate.pin(LocalDateTime.parse("2026-03-08T02:30"));
-        refusal(Reason.NO_INSTANT, () -> Fuzzydate.runInZone(skipped, zone, Instant.EPOCH), "a pinned moment that the clocks skip");
     }
 
     private void heads(Board board, int slot, LocalDateTime moment, String what) {
@@ -698,45 +522,6 @@ final class Every {
         ordered(board, 3, 4, 2, 0, 1, 5);
         board.again(LEAP_DAY);
         heads(board, 3, LEAP_DAY.withHour(11), "the head at an older now");
-    }
-
-    /** A phrase, the same made ready, and pinned at its author's now: on the board only the last keeps its moment. */
-    private void readyBoards() throws Refusal {
-        Board board = new Board(NOW);
-        String phrase = "an hour from now";
-        LocalDateTime due = NOW.withHour(10);
-        same(board.add(Reading.FIRST, phrase), 0, "a phrase");
-        same(board.addReady(Fuzzydate.makeReady(Reading.FIRST, phrase)), 1, "a phrase made ready");
-        same(board.addReady(Fuzzydate.pin(due)), 2, "a pinned moment");
-        same(board.add(Reading.FIRST, "this month"), 3, "a phrase that refuses at every now");
-        for (int slot = 0; slot < 3; slot++) {
-            same(board.moment(slot), due, "the moment of slot " + slot);
-        }
-        board.again(LEAP_DAY);
-        same(board.moment(0), LEAP_DAY.withHour(13), "a phrase at another now");
-        same(board.moment(1), LEAP_DAY.withHour(13), "a phrase made ready, at another now");
-        same(board.moment(2), due, "a pinned moment at another now");
-        left(board, Reason.NO_SENSE, () -> board.moment(3), "a slot whose phrase refuses");
-        board.remove(2);
-        for (int slot : new int[] {2, 4, 255, 256, Integer.MAX_VALUE, -1}) {
-            left(board, Reason.EMPTY_SLOT, () -> board.moment(slot), "the moment of slot " + slot);
-        }
-        unready(board);
-    }
-
-    /** Bytes that are not a ready phrase are refused, also by a full board, which then says that it is full. */
-    private void unready(Board board) throws Refusal {
-        byte[] pinned = Fuzzydate.pin(WHOLE);
-        for (int length : new int[] {0, 15, 17, 384, 385, 400}) {
-            left(board, Reason.NO_SENSE, () -> board.addReady(Arrays.copyOf(pinned, length)), "adding " + length + " bytes");
-        }
-        int filled = board.order().length;
-        for (; filled < Calls.BOARD_SLOTS; filled++) {
-            board.addReady(pinned);
-        }
-        same(board.moment(255), WHOLE, "the last slot");
-        left(board, Reason.NO_SENSE, () -> board.addReady(new byte[16]), "no ready phrase on a full board");
-        left(board, Reason.FULL_BOARD, () -> board.addReady(pinned), "a ready phrase on a full board");
     }
 
     /** A call that is refused leaves every byte of its board. */
@@ -805,8 +590,6 @@ final class Every {
         expect(board.head() != null, "the head of any memory");
         refusedWithin(Reason.EMPTY_SLOT, Reason.EMPTY_SLOT, () -> removed(board, slot));
         refusedWithin(Reason.FULL_BOARD, Reason.FULL_BOARD, () -> board.add(Reading.FIRST, "noon"));
-        refusedWithin(Reason.FULL_BOARD, Reason.FULL_BOARD, () -> board.addReady(Fuzzydate.pin(WHOLE)));
-        refusedWithin(Reason.INVALID_MOMENT, Reason.EMPTY_SLOT, () -> board.moment(slot));
         for (int ordered : board.order()) {
             expect(ordered >= 0 && ordered < Calls.BOARD_SLOTS, "an order of any memory");
         }
@@ -841,7 +624,6 @@ final class Every {
             throwsA(IllegalArgumentException.class, () -> Fuzzydate.read(Reading.FIRST, "today", now), "reading at nanoseconds");
             throwsA(IllegalArgumentException.class, () -> Fuzzydate.run(ready, now), "running at nanoseconds");
             throwsA(IllegalArgumentException.class, () -> Fuzzydate.writePhrase(now), "showing nanoseconds");
-            throwsA(IllegalArgumentException.class, () -> Fuzzydate.pin(now), "pinning nanoseconds");
             throwsA(IllegalArgumentException.class, () -> new Stamp(now, Offset.UNKNOWN), "a stamp with nanoseconds");
             throwsA(IllegalArgumentException.class, () -> Fuzzydate.occurrences("FREQ=DAILY", now, 1), "a start with nanoseconds");
             throwsA(IllegalArgumentException.class, () -> Fuzzydate.next("FREQ=DAILY", now, WHOLE), "asked from nanoseconds on");
@@ -920,17 +702,12 @@ final class Every {
         throwsA(none, () -> Calls.run(null, now, numbers), "no ready phrase");
         throwsA(none, () -> Calls.run(bytes, null, numbers), "no now to run at");
         throwsA(none, () -> Calls.run(bytes, now, null), "no moment to run to");
-        throwsA(none, () -> Calls.pin(null, bytes), "no moment to pin");
-        throwsA(none, () -> Calls.pin(now, null), "no room for a pinned moment");
         throwsA(none, () -> Calls.readStamp(null, numbers), "no text");
         throwsA(none, () -> Calls.readStamp(today, null), "no stamp to read to");
         throwsA(none, () -> Calls.writeStamp(null, bytes), "no stamp");
         throwsA(none, () -> Calls.writeStamp(now, null), "no room for a stamp");
         throwsA(none, () -> Calls.findWord(1, null, numbers), "no word");
         throwsA(none, () -> Calls.findWord(1, today, null), "nothing to find to");
-        throwsA(none, () -> Calls.complete(1, null, 0, numbers, bytes), "no prefix");
-        throwsA(none, () -> Calls.complete(1, today, 0, null, bytes), "no count");
-        throwsA(none, () -> Calls.complete(1, today, 0, numbers, null), "no room for a word");
         throwsA(none, () -> Calls.writePhrase(null, bytes), "no moment to show");
         throwsA(none, () -> Calls.writePhrase(now, null), "no room for a phrase");
         throwsA(none, () -> Calls.listIn(null, now, numbers), "no rule");
@@ -948,21 +725,12 @@ final class Every {
         throwsA(none, () -> Calls.readInZone(1, today, null, 0, 0, due, numbers), "no zone");
         throwsA(none, () -> Calls.readInZone(1, today, zone, 0, 0, null, numbers), "no instant to read to");
         throwsA(none, () -> Calls.readInZone(1, today, zone, 0, 0, due, null), "no moment to read to in a zone");
-        throwsA(none, () -> Calls.zoneUntil(null, due), "no zone that is good until a second");
-        throwsA(none, () -> Calls.zoneUntil(zone, null), "no second");
-        throwsA(none, () -> Calls.findZone(null, today, new long[2]), "no bundle");
-        throwsA(none, () -> Calls.findZone(bundle, null, new long[2]), "no name");
-        throwsA(none, () -> Calls.findZone(bundle, today, null), "no place");
 
         ByteBuffer board = ByteBuffer.allocateDirect(Calls.BOARD_SIZE);
         throwsA(none, () -> Calls.boardMake(null, now), "no board");
         throwsA(none, () -> Calls.boardMake(board, null), "no now of a board");
         throwsA(none, () -> Calls.boardAdd(null, 1, today), "no board to add to");
         throwsA(none, () -> Calls.boardAdd(board, 1, null), "no phrase to be added");
-        throwsA(none, () -> Calls.boardAddReady(null, bytes), "no board to add bytes to");
-        throwsA(none, () -> Calls.boardAddReady(board, null), "no bytes to be added");
-        throwsA(none, () -> Calls.boardMoment(null, 0, numbers), "no board that has a moment");
-        throwsA(none, () -> Calls.boardMoment(board, 0, null), "no moment of a slot");
         throwsA(none, () -> Calls.boardRemove(null, 0), "no board to remove from");
         throwsA(none, () -> Calls.boardAgain(null, now), "no board to run again");
         throwsA(none, () -> Calls.boardAgain(board, null), "no now to run again at");
@@ -979,11 +747,6 @@ final class Every {
         throwsA(few, () -> Calls.read(1, today, new int[6], numbers), "a now of six numbers");
         throwsA(few, () -> Calls.read(1, today, now, new int[6]), "a moment of six numbers");
         throwsA(few, () -> Calls.makeReady(1, today, new byte[Calls.READY_SIZE - 1]), "a short ready phrase");
-        throwsA(few, () -> Calls.pin(new int[6], bytes), "six numbers of a moment to pin");
-        throwsA(few, () -> Calls.pin(now, new byte[Calls.READY_SIZE - 1]), "a short pinned moment");
-        throwsA(few, () -> Calls.complete(1, today, 0, new int[0], bytes), "no number for a count");
-        throwsA(few, () -> Calls.zoneUntil(zone, new long[0]), "no number for a second");
-        throwsA(few, () -> Calls.findZone(bundle, "UTC".getBytes(StandardCharsets.UTF_8), due), "one number for a place");
         throwsA(few, () -> Calls.run(bytes, new int[0], numbers), "a now of no numbers");
         throwsA(few, () -> Calls.run(bytes, now, new int[0]), "a moment of no numbers");
         throwsA(few, () -> Calls.readStamp(today, new int[8]), "a stamp of eight numbers");
@@ -1001,7 +764,6 @@ final class Every {
         throwsA(few, () -> Calls.boardMake(board, new int[6]), "six numbers of a board's now");
         throwsA(few, () -> Calls.boardAgain(board, new int[6]), "six numbers to run again at");
         throwsA(few, () -> Calls.boardHead(board, new int[6]), "six numbers of a head");
-        throwsA(few, () -> Calls.boardMoment(board, 0, new int[6]), "six numbers of a slot's moment");
         throwsA(few, () -> Calls.boardOrder(board, new int[255]), "255 slots");
         expect(due[0] == 0xa5, "an instant written by a refused call");
         same(board, ByteBuffer.allocate(Calls.BOARD_SIZE), "a board that was not called");
@@ -1031,13 +793,6 @@ final class Every {
         throwsA(none, () -> Stamp.of(null), "no OffsetDateTime");
         throwsA(none, () -> Fuzzydate.findWord(null, phrase), "no reading of a word");
         throwsA(none, () -> Fuzzydate.findWord(Reading.FIRST, (byte[]) null), "no word");
-        throwsA(none, () -> Fuzzydate.complete(null, phrase), "no reading of a prefix");
-        throwsA(none, () -> Fuzzydate.complete(Reading.FIRST, (byte[]) null), "no prefix");
-        throwsA(none, () -> Fuzzydate.complete(Reading.FIRST, (String) null), "no String of a prefix");
-        throwsA(none, () -> Fuzzydate.pin(null), "no moment to pin");
-        throwsA(none, () -> Fuzzydate.findZone(null, "UTC"), "no bundle");
-        throwsA(none, () -> Fuzzydate.findZone(bundle, null), "no name");
-        throwsA(none, () -> Fuzzydate.zoneUntil(null), "no zone that is good until a second");
         throwsA(none, () -> Fuzzydate.writePhrase(null), "no moment to show");
         throwsA(none, () -> Fuzzydate.occurrences((byte[]) null, NOW, 1), "no rule");
         throwsA(none, () -> Fuzzydate.occurrences((String) null, NOW, 1), "no String of a rule");
@@ -1057,7 +812,6 @@ final class Every {
         throwsA(none, () -> new Board(NOW).add(null, phrase), "no reading on a board");
         throwsA(none, () -> new Board(NOW).add(Reading.FIRST, (byte[]) null), "no phrase on a board");
         throwsA(none, () -> new Board(NOW).add(Reading.FIRST, (String) null), "no String on a board");
-        throwsA(none, () -> new Board(NOW).addReady(null), "no ready phrase on a board");
         throwsA(none, () -> ranAgain(new Board(NOW), null), "no other now of a board");
     }
 
@@ -1088,8 +842,6 @@ final class Every {
             refusal(Reason.NO_STAMP, () -> Fuzzydate.readStamp(bytes), "random bytes as a stamp");
             unlisted(bytes, TUESDAY, Reason.NO_RULE, "not a repeating rule that is accepted");
             undue(Reason.NO_ZONE, "now", bytes, BEFORE_GAP);
-            refusal(Reason.NO_ZONE, () -> Fuzzydate.zoneUntil(bytes), "random bytes as a zone that is good until a second");
-            unfound(Reason.NO_BUNDLE, bytes, "UTC");
             refusal(Reason.NO_SENSE, () -> Fuzzydate.runInZone(bytes, zone, BEFORE_GAP), "random bytes as a ready phrase in a zone");
             for (Reading reading : Reading.values()) {
                 refusedWithin(Reason.TOO_LONG, Reason.NO_LEAP_DAY, () -> Fuzzydate.read(reading, bytes, NOW));
@@ -1137,7 +889,6 @@ final class Every {
         stamps();
         offsets();
         words();
-        completions();
         phrases();
         rules();
         refusedRules();
@@ -1146,11 +897,7 @@ final class Every {
         refusedInZones();
         zoneOffsets();
         zoneFiles();
-        bundles();
-        untils();
-        pins();
         boards();
-        readyBoards();
         refusedBoards();
         nanoseconds();
         clocks();
@@ -1163,16 +910,15 @@ final class Every {
 
     public static void main(String[] arguments) throws Exception {
         byte[] zone = Files.readAllBytes(Paths.get(arguments[0]));
-        byte[] bundle = Files.readAllBytes(Paths.get(arguments[1]));
-        String version = new String(Files.readAllBytes(Paths.get(arguments[2])), StandardCharsets.US_ASCII).trim();
-        Every first = new Every(zone, bundle, version).all(0);
+        String version = new String(Files.readAllBytes(Paths.get(arguments[1])), StandardCharsets.US_ASCII).trim();
+        Every first = new Every(zone, version).all(0);
         first.longest();
         List<Callable<Void>> threads = new ArrayList<>();
         for (int i = 0; i < THREADS; i++) {
             int begin = 1 + i * ROUNDS;
             threads.add(() -> {
                 for (int seed = begin; seed < begin + ROUNDS; seed++) {
-                    new Every(zone, bundle, version).all(seed);
+                    new Every(zone, version).all(seed);
                 }
                 return null;
             });

@@ -8,9 +8,8 @@ extension Fuzzydate {
         public let moment: Moment
     }
 
-    /// Up to 256 reminders, each in a slot of 0 to 255, and the order of their moments at the board's now. Every reminder runs at the
-    /// board's now: "an hour from now", added at 9:30, is 01:00 after midnight's `again`. One that must keep the moment of its author's
-    /// now is read at that now, pinned by `pin`, and added by `addReady`. A refused call leaves all of it unchanged.
+    /// Up to 256 reminders, each in a slot of 0 to 255, and the order of their moments at the board's now. A refused call leaves all
+    /// of it unchanged.
     public struct Board: Sendable {
         var ready = [UInt8](repeating: 0, count: Int(FUZZY_BOARD_READY_SIZE))
         var lengths = Fuzzydate.numbers(FUZZY_BOARD_SLOTS)
@@ -39,16 +38,6 @@ extension Fuzzydate {
             try add(reading, Array(phrase.utf8))
         }
 
-        /// Adds a reminder that is ready, as it was stored or sent, and gives its slot, the lowest that was free. Refused for bytes
-        /// that are not a ready phrase, then where the board is full.
-        @discardableResult
-        public mutating func addReady(_ given: [UInt8]) throws -> UInt32 {
-            let slot = try Fuzzydate.answered {
-                fuzzy_board_add_ready_in(&ready, &lengths, &keys, &state, given, UInt64(given.count))
-            }
-            return UInt32(slot)
-        }
-
         /// Removes a reminder: its slot is free again.
         public mutating func remove(_ slot: UInt32) throws {
             try Fuzzydate.answered { fuzzy_board_remove_in(&lengths, &keys, &state, slot) }
@@ -66,13 +55,6 @@ extension Fuzzydate {
             var moment = fuzzy_moment()
             let slot = try Fuzzydate.answered { fuzzy_board_head_in(keys, state, &moment) }
             return Due(slot: UInt32(slot), moment: Moment(moment))
-        }
-
-        /// Finds when a slot's reminder is due at the board's now. Refused for an empty slot, else as `run` refuses its phrase.
-        public func moment(_ slot: UInt32) throws -> Moment {
-            var moment = fuzzy_moment()
-            try Fuzzydate.answered { fuzzy_board_moment_in(ready, lengths, state, slot, &moment) }
-            return Moment(moment)
         }
 
         /// Lists the filled slots, each once: by moment and, for equal ones, by slot; after them those without a moment at the

@@ -45,14 +45,6 @@ public enum Fuzzydate {
         return Moment(moment)
     }
 
-    /// Makes the ready phrase that gives this moment at every now, its second and millisecond included: for a reminder that is read
-    /// once at its author's now and must not move any more, on a board for instance. A library of version 1.0 refuses to run it.
-    public static func pin(_ moment: Moment) throws -> [UInt8] {
-        var moment = moment.forC, ready = [UInt8](repeating: 0, count: Int(FUZZY_READY_SIZE))
-        let length = try answered { fuzzy_pin(&moment, &ready) }
-        return Array(ready.prefix(length))
-    }
-
     /// Reads a whole text as an RFC 3339 stamp: letters in either case, and after the second one to three digits of a fraction or none.
     public static func readStamp(_ text: [UInt8]) throws -> Stamp {
         var stamp = fuzzy_stamp()
@@ -86,32 +78,6 @@ public enum Fuzzydate {
 
     public static func findWord(_ reading: Reading, _ word: String) throws -> FoundWord {
         try findWord(reading, Array(word.utf8))
-    }
-
-    /// Lists a reading's words that begin with a prefix, while a word is typed: in alphabetical order, in small letters. Letters in
-    /// either case. The list is empty where no word begins so, and has all words for the empty prefix.
-    public static func complete(_ reading: Reading, _ prefix: [UInt8]) throws -> [String] {
-        var words: [String] = [], count: UInt32 = 1
-        while words.count < count {
-            do {
-                words.append(try word(reading, prefix, UInt32(words.count), &count))
-            } catch let refusal as Refusal where refusal.reason == .noWord {
-                break
-            }
-        }
-        return words
-    }
-
-    public static func complete(_ reading: Reading, _ prefix: String) throws -> [String] {
-        try complete(reading, Array(prefix.utf8))
-    }
-
-    /// One of the words that begin with a prefix, counted from 0, and how many there are.
-    private static func word(_ reading: Reading, _ prefix: [UInt8], _ which: UInt32, _ count: inout UInt32) throws -> String {
-        try prefix.withUnsafeBytes { bytes in
-            let text = bytes.bindMemory(to: CChar.self).baseAddress, length = UInt64(bytes.count)
-            return try written(FUZZY_WORD_SIZE) { fuzzy_complete(reading.rawValue, text, length, which, &count, $0, $1) }
-        }
     }
 
     /// Lists the first occurrences of a repeating rule of RFC 5545, in order, from its start on: at most so many. The start is the
@@ -165,26 +131,6 @@ public enum Fuzzydate {
             fuzzy_run_in_zone(ready, UInt64(ready.count), zone, UInt64(zone.count), now.second, now.millisecond, &due, &local)
         }
         return Local(due, local)
-    }
-
-    /// Finds until when a zone's file is good: its last transition, from which on every now is refused. Refused for a file without a
-    /// transition.
-    public static func zoneUntil(_ zone: [UInt8]) throws -> Instant {
-        var until: Int64 = 0
-        try answered { fuzzy_zone_until(zone, UInt64(zone.count), &until) }
-        return Instant(second: until, millisecond: 0)
-    }
-
-    /// Finds a zone's file in a bundle of them by its name, such as "America/New_York", with letters in either case.
-    /// bindings/zones/bundle writes a bundle, and docs/FORMAT.md has its bytes.
-    public static func findZone(_ name: [UInt8], in bundle: [UInt8]) throws -> [UInt8] {
-        var place = [UInt64](repeating: 0, count: Int(FUZZY_PLACE_NUMBERS))
-        try answered(name) { fuzzy_find_zone(bundle, UInt64(bundle.count), $0, $1, &place) }
-        return Array(bundle.dropFirst(Int(place[0])).prefix(Int(place[1])))
-    }
-
-    public static func findZone(_ name: String, in bundle: [UInt8]) throws -> [UInt8] {
-        try findZone(Array(name.utf8), in: bundle)
     }
 
     static func numbers(_ count: Int32) -> [UInt32] {

@@ -7,7 +7,7 @@ extension Fuzzydate {
     public enum Reason: String, Sendable, CaseIterable {
         case tooLong, unknown, largeDigits, tooMany, nothing, largeSum, leftOver, invalidMoment, noSense, noDate, noTime, outside
         case noLeapDay, noStamp, noReading, notWhole, noRoom, noRule, noStart, noNext, noZone, pastLast, noInstant, fullBoard
-        case emptySlot, nothingDue, noWord, noBundle, unknownZone
+        case emptySlot, nothingDue
 
         /// The reason of a number of fuzzy.h; nil for a number that only a newer library has.
         public init?(number: UInt32) {
@@ -23,8 +23,7 @@ extension Fuzzydate {
     }
 
     /// A refusal: its number, where the refused part of the text begins, in bytes, that part, and the text itself. The text is the
-    /// phrase, the stamp, the rule or the name of a zone that was looked for, and is empty where there is none; so is the part where
-    /// nothing stands out.
+    /// phrase, the stamp or the rule, and is empty where there is none; so is the part where nothing stands out.
     public struct Refusal: Error, Hashable, Sendable {
         public let number: UInt32
         public let place: Int
@@ -53,9 +52,9 @@ extension Fuzzydate {
     }
 
     /// The version of this binding; `libraryVersion` is that of the library.
-    public static let version = "1.1.0"
+    public static let version = "1.0.0"
 
-    /// The version of the library, such as "1.1.0".
+    /// The version of the library, such as "1.0.0".
     public static var libraryVersion: String { inDigits(fuzzy_version()) }
 
     /// Throws a VersionError unless the library has all that this binding calls, in the same form. Every call that throws does this

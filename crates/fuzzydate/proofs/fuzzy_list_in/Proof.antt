@@ -14,7 +14,7 @@ use Rattle.repeats.specs.Listing.{list_of}
 use Rattle.repeats.proofs.Laws.{list_bounded}
 use Rattle.calendar.specs.Moments.{moment_in}
 use Rattle.fuzzydate.specs.Called.{written_code, list_in}
-use Rattle.fuzzydate.proofs.WrittenNumbers.{Coded, coded, bounded_plain}
+use Rattle.fuzzydate.proofs.WrittenNumbers.{Coded, coded}
 use Rattle.fuzzydate.proofs.fuzzy_list_in.Statement.{statement}
 use Rattle.fuzzydate.proofs.fuzzy_list_in.Tie as tie
 
@@ -53,7 +53,7 @@ coded_of c =
     let start = c.before.before.before.before.before.before.before.before.before.before.before in
     let rule = c.before.before.before.read.given.0.0 in
     let at = c.before.before.before.before.before.before.before.before.moment_in.ensures in
-    rw (← at) (coded (λ l p. p) bounded_plain (list_bounded rule _ (is-rule c.before) (length start.args.moments.now)) c.list.ensures.0)
+    rw (← at) (coded (λ l p. p) (list_bounded rule _ (is-rule c.before) (length start.args.moments.now)) c.list.ensures.0)
 
 moment-in-requires : tie.Need-moment-in-requires
 moment-in-requires c κs = search rules

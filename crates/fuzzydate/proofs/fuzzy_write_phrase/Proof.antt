@@ -5,7 +5,7 @@ use borrow.Author.Rules.{rules}
 use Rattle.shown.specs.Phrases.{shown_of}
 use Rattle.shown.proofs.Writings.{writing}
 use Rattle.calendar.specs.Moments.{moment_in}
-use Rattle.fuzzydate.proofs.WrittenNumbers.{Coded, coded, three_plain}
+use Rattle.fuzzydate.proofs.WrittenNumbers.{Coded, coded}
 use Rattle.fuzzydate.proofs.fuzzy_write_phrase.Statement.{statement}
 use Rattle.fuzzydate.proofs.fuzzy_write_phrase.Tie as tie
 
@@ -18,7 +18,7 @@ coded_of :
 coded_of c =
     let a = c.before.before.before.before.args in
     let t = c.before.before.moment_in in
-    rw (← t.ensures) (coded (λ text p. omega (arith, p.short)) three_plain (writing t.result (length a.text.now)) c.write_phrase.ensures.0)
+    rw (← t.ensures) (coded (λ text p. omega (arith, p.short)) (writing t.result (length a.text.now)) c.write_phrase.ensures.0)
 
 moment-in-requires : tie.Need-moment-in-requires
 moment-in-requires c κs = search rules

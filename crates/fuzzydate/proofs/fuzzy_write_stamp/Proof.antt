@@ -5,7 +5,7 @@ use borrow.Author.Rules.{rules}
 use Rattle.stamp.specs.Stamps.{written_of}
 use Rattle.stamp.proofs.Writings.{text_short, writing}
 use Rattle.fuzzydate.specs.Called.{stamp_in}
-use Rattle.fuzzydate.proofs.WrittenNumbers.{Coded, coded, three_plain}
+use Rattle.fuzzydate.proofs.WrittenNumbers.{Coded, coded}
 use Rattle.fuzzydate.proofs.fuzzy_write_stamp.Statement.{statement}
 use Rattle.fuzzydate.proofs.fuzzy_write_stamp.Tie as tie
 
@@ -19,7 +19,7 @@ coded_of c =
     let a = c.before.before.before.before.args in
     let st = c.before.before.stamp-in in
     rw (← st.ensures)
-    (coded (λ text p. rw (← p.is) (omega (arith, text_short st.result))) three_plain (writing st.result (length a.text.now)) c.write_stamp.ensures.0)
+    (coded (λ text p. rw (← p.is) (omega (arith, text_short st.result))) (writing st.result (length a.text.now)) c.write_stamp.ensures.0)
 
 stamp-in-requires : tie.Need-stamp-in-requires
 stamp-in-requires c κs = search rules

@@ -46,34 +46,18 @@ returns c =
     let room = lt-ltb _ _ c.before.before.before.before.before.before.if2.true in
     (rw (made.is, ← free, room), rw (made.is, ← free, room, size, ← made.plan) c.hold.ensures)
 
-not-added-requires : tie.Need-not-added-requires
-not-added-requires c κs = search rules
-
 returns_2 : tie.Need-returns-2
 unfolding slot_for add_of
 returns_2 c =
-    let made = list_of c.before.before.before.before.before in
-    let entry = c.before.before.before.before.before.before.before.before.before.before in
-    let free = c.before.before.free_slot.ensures.0 entry.args.ready.now entry.args.keys.now in
-    let full = le-ltb _ _ c.before.if2.false in
-    (rw (made.is, ← free, full) c.not-added.ensures, rw (made.is, ← free, full))
-
-not-added-requires-2 : tie.Need-not-added-requires-2
-not-added-requires-2 c κs = search rules
+    let made = list_of c.before.before.before.before in
+    let entry = c.before.before.before.before.before.before.before.before.before in
+    let free = c.before.free_slot.ensures.0 entry.args.ready.now entry.args.keys.now in
+    let full = le-ltb _ _ c.if2.false in
+    (rw (made.is, ← free, full), rw (made.is, ← free, full))
 
 returns-3 : tie.Need-returns-3
 unfolding add_of
-returns-3 c = let refused = (refusal_of_lem c.before).is in (rw refused c.not-added2.ensures, rw refused)
+returns-3 c = let refused = (refusal_of_lem c).is in (rw refused, rw refused)
 
 pub add_spec : {M : Type 1} → statement M
-add_spec =
-    tie.close
-    (tie.spec
-    make-ready-requires
-    free-slot-requires
-    hold-requires
-    returns
-    not-added-requires
-    returns_2
-    not-added-requires-2
-    returns-3)
+add_spec = tie.close (tie.spec make-ready-requires free-slot-requires hold-requires returns returns_2 returns-3)

@@ -1,8 +1,6 @@
 use native.Mathlib.Omega.{arith}
-use mathlib.Core.Path.{sym, ◌∙◌}
-use Rattle.calendar.proofs.Valid.{test_moment}
 use Rattle.board.specs.Boards.{again_of}
-use Rattle.board.proofs.Gathered.{order_anywhere}
+use Rattle.board.proofs.Anew.{order_anywhere}
 use borrow.Author.Rules.{rules}
 use Rattle.board.proofs.calls.again.Statement.{statement}
 use Rattle.board.proofs.calls.again.Tie as tie
@@ -11,9 +9,7 @@ valid-requires : tie.Need-valid-requires
 valid-requires c κs = search rules
 
 order-anew-requires : tie.Need-order-anew-requires
-order-anew-requires c κs =
-    let valid = test_moment _ (sym c.before.before.valid.ensures ∙ c.before.if1.true) in
-    search rules
+order-anew-requires c κs = search rules
 
 cast-put-state : tie.Need-overflow-cast-put-state
 cast-put-state c = omega (arith, c.before.order-anew.ensures.0.1)

@@ -1,20 +1,69 @@
 -- `lexer::find::look_in` meets its contract. Assumes nothing.
-use mathlib.Core.Path.{ap}
+use mathlib.Core.Path.{◌≡◌, ap, ◌∙◌}
+use mathlib.Core.List.{List, map}
+use Prim.Native.Nat.{ℕ}
+use native.Mathlib.Omega.{arith}
+use lib.ListN.{take, drop}
+use lib.Seq.{take_all, take_at, drop_at}
 use borrow.Author.Rules.{rules}
-use Rattle.lexer.specs.declared.find.Looked.{Looked}
-use Rattle.lexer.specs.declared.find.Place.{Place}
+use Rattle.lexer.specs.Words.{folded}
+use Rattle.lexer.specs.Table.{fixed, bytes_from, head_of, tail_of, compared_of, Stands}
+use Rattle.lexer.proofs.Cells.{length-fixed}
+use Rattle.lexer.proofs.Fixed.{fixed_apart}
+use Rattle.lexer.proofs.Keys.{bytes_stand}
 use Rattle.lexer.proofs.find.look_in.Statement.{statement}
 use Rattle.lexer.proofs.find.look_in.Tie as tie
 
--- what a search says of a word's meaning, and the count
-abbrev looked : Place → Looked
-looked p = record { found = p.found; count = p.count }
+-- a row of twelve bytes as two numbers
+module _ (v : List ℕ) {row : List ℕ} (is : row ≡ fixed 12 v) where
+  first_eight : bytes_from 0 (take 8 (drop 0 row)) ≡ head_of v
+  unfolding head_of
+  first_eight = rw (is, fixed_apart 8 v) (ap (bytes_from 0) (take_at (fixed 8 v) (fixed 4 (drop 8 v)) 8 (length-fixed 8 v)))
 
-seek-requires : tie.Need-seek-requires
-seek-requires c κs = search rules
+  last_four : bytes_from 0 (take 4 (drop 8 row)) ≡ tail_of v
+  unfolding tail_of
+  last_four =
+      let tail = fixed 4 (drop 8 v) in
+      rw (is, fixed_apart 8 v, drop_at (fixed 8 v) tail 8 (length-fixed 8 v))
+      (ap (bytes_from 0) (take_all 4 tail (omega (arith, length-fixed 4 (drop 8 v)))))
+
+row-of-requires : tie.Need-row-of-requires
+row-of-requires c κs = search rules
+
+slice-aggregate-bytes-at : tie.Need-slice-aggregate-bytes-at
+slice-aggregate-bytes-at c = search rules
+
+bytes-at-requires : tie.Need-bytes-at-requires
+bytes-at-requires c κs = search rules
+
+slice-aggregate-bytes-at-2 : tie.Need-slice-aggregate-bytes-at-2
+slice-aggregate-bytes-at-2 c = search rules
+
+bytes-at-requires-2 : tie.Need-bytes-at-requires-2
+bytes-at-requires-2 c κs = search rules
+
+find-requires : tie.Need-find-requires
+find-requires c κs = search rules
 
 returns : tie.Need-returns
-returns c = ap looked c.seek.ensures.0
+returns c =
+    let word = folded c.before.before.before.before.before.before.before.before.args.word.now in
+    let v = map compared_of word in
+    let head = c.before.before.before.bytes-at in
+    let tail = c.before.bytes-at2 in
+    let row = c.before.before.before.before.before.row_of.ensures in
+    let stands : Stands head.result tail.result word =
+    rw (head.ensures ∙ first_eight v row, tail.ensures ∙ last_four v row) (bytes_stand word) in
+    c.find.ensures word stands
 
 pub look_in_spec : {M : Type 1} → statement M
-look_in_spec = tie.close (tie.spec seek-requires returns)
+look_in_spec =
+    tie.close
+    (tie.spec
+    row-of-requires
+    slice-aggregate-bytes-at
+    bytes-at-requires
+    slice-aggregate-bytes-at-2
+    bytes-at-requires-2
+    find-requires
+    returns)

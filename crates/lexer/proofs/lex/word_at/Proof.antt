@@ -9,7 +9,7 @@ use Rattle.lexer.specs.Classes.{Letter}
 use Rattle.refusals.specs.Table as refusal
 use Rattle.refusals.specs.Answers.{refusal_at}
 use Rattle.lexer.specs.Lex.{run_end, word_from, word_at}
-use Rattle.lexer.specs.declared.find.Place.{Place}
+use Rattle.lexer.specs.declared.find.Looked.{Looked}
 use Rattle.lexer.specs.declared.lex.Token.{Token}
 use Rattle.lexer.specs.declared.lex.Token.TheVariants.{Taken, Refused}
 use Rattle.lexer.specs.declared.word.Key.{Key}
@@ -31,7 +31,7 @@ module _ (d : tie.After-find) where
       let w = word_from s a in
       let k = d.before.key-at.ensures in
       let stands = rw (← (ap (λ (x : Key). x.head) k), ← (ap (λ (x : Key). x.tail) k)) at (letters_stand w (word_small s a)) in
-      ap (λ (x : Place). x.found) (d.find.ensures w stands)
+      ap (λ (x : Looked). x.found) (d.find.ensures w stands)
 
   -- up to its end
   ends : (f : ℕ → Token) → f d.before.key-at.result.end ≡ f (run_end Letter s a)

@@ -36,13 +36,9 @@ returns-11 : tie.Need-returns-11
 returns-11 c = rw c.match.keys11
 
 returns-12 : tie.Need-returns-12
-returns-12 c = rw c.match.keys12
-
-returns-13 : tie.Need-returns-13
-returns-13 c =
+returns-12 c =
     let r = c.match.rest in
     simp (
-      ne_eqb _ _ r.0.0.0.0.0.0.0.0.0.0.0.1,
       ne_eqb _ _ r.0.0.0.0.0.0.0.0.0.0.1,
       ne_eqb _ _ r.0.0.0.0.0.0.0.0.0.1,
       ne_eqb _ _ r.0.0.0.0.0.0.0.0.1,
@@ -71,5 +67,4 @@ forms_spec =
     returns-9
     returns-10
     returns-11
-    returns-12
-    returns-13)
+    returns-12)

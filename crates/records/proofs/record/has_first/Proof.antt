@@ -1,20 +1,35 @@
-use borrow.Author.Tests.{ne_eqb, lt-ltb, le-ltb}
+use borrow.Author.Tests.{ne_eqb}
 use Rattle.records.proofs.record.has_first.Statement.{statement}
 use Rattle.records.proofs.record.has_first.Tie as tie
 
 returns : tie.Need-returns
-returns c = rw (lt-ltb _ _ c.if1.true)
+returns c = rw c.match.keys1
 
 returns_2 : tie.Need-returns-2
-returns_2 c = rw c.match.keys1
+returns_2 c = rw c.match.keys2
 
 returns-3 : tie.Need-returns-3
-returns-3 c = rw c.match.keys2
+returns-3 c = rw c.match.keys3
 
 returns-4 : tie.Need-returns-4
-returns-4 c =
+returns-4 c = rw c.match.keys4
+
+returns-5 : tie.Need-returns-5
+returns-5 c =
     let r = c.match.rest in
-    simp (le-ltb _ _ c.before.if1.false, ne_eqb _ _ r.0.1, ne_eqb _ _ r.1)
+    simp (
+      ne_eqb _ _ r.0.0.0.1,
+      ne_eqb _ _ r.0.0.1,
+      ne_eqb _ _ r.0.1,
+      ne_eqb _ _ r.1,
+    )
 
 pub has_first_spec : {M : Type 1} → statement M
-has_first_spec = tie.close (tie.spec returns returns_2 returns-3 returns-4)
+has_first_spec =
+    tie.close
+    (tie.spec
+    returns
+    returns_2
+    returns-3
+    returns-4
+    returns-5)

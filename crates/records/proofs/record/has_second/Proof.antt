@@ -12,13 +12,9 @@ returns-3 : tie.Need-returns-3
 returns-3 c = rw c.match.keys3
 
 returns-4 : tie.Need-returns-4
-returns-4 c = rw c.match.keys4
-
-returns-5 : tie.Need-returns-5
-returns-5 c =
+returns-4 c =
     let r = c.match.rest in
     simp (
-      ne_eqb _ _ r.0.0.0.1,
       ne_eqb _ _ r.0.0.1,
       ne_eqb _ _ r.0.1,
       ne_eqb _ _ r.1,
@@ -31,5 +27,4 @@ has_second_spec =
     returns
     returns_2
     returns-3
-    returns-4
-    returns-5)
+    returns-4)

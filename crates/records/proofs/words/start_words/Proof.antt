@@ -32,12 +32,6 @@ enum-known-start-3 c = search rules
 numbers-requires-3 : tie.Need-numbers-requires-3
 numbers-requires-3 c κs = search rules
 
-enum-known-start-4 : tie.Need-enum-known-start-4
-enum-known-start-4 c = search rules
-
-numbers-requires-4 : tie.Need-numbers-requires-4
-numbers-requires-4 c κs = search rules
-
 returns : tie.Need-returns
 returns c = rw c.before.enum_told.given.1 c.numbers.ensures
 
@@ -53,9 +47,6 @@ returns-4 c = rw c.before.before.start2.given.1 c.week-words.ensures
 returns-5 : tie.Need-returns-5
 returns-5 c = rw c.before.before.start3.given.1 c.numbers3.ensures
 
-returns-6 : tie.Need-returns-6
-returns-6 c = rw c.before.before.start4.given.1 c.numbers4.ensures
-
 pub start_words_spec : {M : Type 1} → statement M
 start_words_spec =
     tie.close
@@ -70,11 +61,8 @@ start_words_spec =
     week-words-requires
     enum-known-start-3
     numbers-requires-3
-    enum-known-start-4
-    numbers-requires-4
     returns
     returns_2
     returns-3
     returns-4
-    returns-5
-    returns-6)
+    returns-5)

@@ -67,16 +67,11 @@ returns-10 c = rw c.match.keys10
 
 returns-11 : tie.Need-returns-11
 unfolding step_from
-returns-11 c = rw c.match.keys11
-
-returns-12 : tie.Need-returns-12
-unfolding step_from
-returns-12 c =
+returns-11 c =
     let late = c.match.rest in
     let mid = late.0.0.0 in
     let early = mid.0.0.0 in
     simp (
-      ne_eqb _ _ early.0.0.0.0.1,
       ne_eqb _ _ early.0.0.0.1,
       ne_eqb _ _ early.0.0.1,
       ne_eqb _ _ early.0.1,
@@ -110,5 +105,4 @@ step_from_spec =
     returns-8
     returns-9
     returns-10
-    returns-11
-    returns-12)
+    returns-11)

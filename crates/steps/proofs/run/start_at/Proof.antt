@@ -28,12 +28,6 @@ enum-known-start-3 c = search rules
 forward-to-requires : tie.Need-forward-to-requires
 forward-to-requires c κs = search rules
 
-enum-known-start-4 : tie.Need-enum-known-start-4
-enum-known-start-4 c = search rules
-
-pinned-at-requires : tie.Need-pinned-at-requires
-pinned-at-requires c κs = search rules
-
 returns : tie.Need-returns
 returns c = rw c.enum_told.given.1 (refl, moment_valid c.before.before.requires)
 
@@ -49,9 +43,6 @@ returns-4 c = rw c.before.before.start2.given.1 c.in_week.ensures
 returns-5 : tie.Need-returns-5
 returns-5 c = rw c.before.before.start3.given.1 c.forward_to.ensures
 
-returns-6 : tie.Need-returns-6
-returns-6 c = rw c.before.before.start4.given.1 c.pinned_at.ensures
-
 pub start_at_spec : {M : Type 1} → statement M
 start_at_spec =
     tie.close
@@ -64,11 +55,8 @@ start_at_spec =
     in-week-requires
     enum-known-start-3
     forward-to-requires
-    enum-known-start-4
-    pinned-at-requires
     returns
     returns_2
     returns-3
     returns-4
-    returns-5
-    returns-6)
+    returns-5)

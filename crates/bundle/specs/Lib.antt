@@ -1,2 +1,0 @@
-pub mod Bundles
-pub mod Cases
