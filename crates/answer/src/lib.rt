@@ -1,4 +1,6 @@
 // A phrase at a now.
+#![tactic(auto)]
+
 ghost use Rattle.std.specs.Prelude.{◌≡◌};
 ghost use Rattle.lexer.specs.Keywords.{words_in};
 ghost use Rattle.calendar.specs.Moments.{reached_of};
@@ -11,7 +13,7 @@ use phrase::read::read;
 use refusals::{INVALID_MOMENT, Refusal};
 
 // A moment, or a refusal.
-#[derive(Drop)]
+#[derive(Clone, Copy)]
 pub enum Answered {
     At(Moment),
     Refused(Refusal),

@@ -17,7 +17,7 @@ use refusals::{NO_LEAP_DAY, OUTSIDE};
 pub const MOMENT_NUMBERS: usize = 7;
 
 // A date and a time of day.
-#[derive(Drop)]
+#[derive(Clone, Copy)]
 pub struct Moment {
     pub year: u32,
     pub month: u32,
@@ -29,7 +29,7 @@ pub struct Moment {
 }
 
 // Where a step or a whole reading leads: to a moment, or to a refusal's number.
-#[derive(Drop)]
+#[derive(Clone, Copy)]
 pub enum Reached {
     At(Moment),
     Refused(u32),

@@ -1,4 +1,6 @@
 // Which occurrence of a rule comes next: the first at or after a moment, without those before it.
+#![tactic(auto)]
+
 ghost use Rattle.std.specs.Prelude.{◌≡◌, ◌≤◌};
 ghost use Rattle.calendar.specs.Gregorian.{days};
 ghost use Rattle.calendar.specs.Moments.{IsMoment};

@@ -1,4 +1,6 @@
 // Standard input answered on standard output, a piece at a time: memory use is constant.
+#![tactic(auto)]
+
 ghost use Rattle.std.specs.Prelude.{◌*◌, ◌≤◌, ◌<◌, ◌≡◌, length, take};
 ghost use Rattle.std.proofs.lemmas.List.Edits.{sets};
 ghost use Rattle.text.specs.Output.{last_text};
@@ -8,7 +10,7 @@ use libc::{STDIN_FILENO, STDOUT_FILENO};
 use text::stream::{Known, answer_piece, write_last};
 
 // A piece of the input, behind which this is known and that many bytes are kept: more may come, or writing failed; or the input has ended.
-#[derive(Drop)]
+#[derive(Clone, Copy)]
 pub enum Turn {
     More { known: Known, held: usize },
     Failed { known: Known, held: usize },
@@ -16,7 +18,7 @@ pub enum Turn {
 }
 
 // Where the loop stands: what is known, how many bytes of a line that goes on are kept, and whether the input has ended.
-#[derive(Drop)]
+#[derive(Clone, Copy)]
 pub struct Stand {
     pub known: Known,
     pub held: usize,

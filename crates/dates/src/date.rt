@@ -12,7 +12,7 @@ use numbers::slices::{get, is_at, rest, take_if};
 use numbers::{Number, NumberFound, num};
 
 // `enum Date`; a month is a number from 1 on.
-#[derive(Drop)]
+#[derive(Clone, Copy)]
 pub enum Date {
     YearMonthNumDay(u32, u32, u32),
     MonthNumDayYear(u32, u32, u32),
@@ -27,7 +27,7 @@ pub enum Date {
 }
 
 // A date and the lexemes taken; `Overflow` is refusal 6.
-#[derive(Drop)]
+#[derive(Clone, Copy)]
 pub enum DateFound {
     Is(Date, usize),
     Nothing,

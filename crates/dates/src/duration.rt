@@ -11,14 +11,14 @@ use numbers::slices::{is_at, rest};
 use numbers::{NumberFound, num};
 
 // One part of a duration: `Duration::Article`, `Duration::Specific`.
-#[derive(Drop)]
+#[derive(Clone, Copy)]
 pub enum Part {
     Article(Unit),
     Specific(Unit, u32),
 }
 
 // A part and the lexemes taken; `Overflow` is refusal 6.
-#[derive(Drop)]
+#[derive(Clone, Copy)]
 pub enum PartFound {
     Is(Part, usize),
     Nothing,
@@ -26,20 +26,20 @@ pub enum PartFound {
 }
 
 // An array in a struct holds structs, so each part stands in one.
-#[derive(Drop)]
+#[derive(Clone, Copy)]
 pub struct Slot {
     pub part: Part,
 }
 
 // A row of parts: 64 lexemes have at most 21.
-#[derive(Drop)]
+#[derive(Clone, Copy)]
 pub struct Parts {
     pub n: u8,
     pub items: [Slot; 21],
 }
 
 // The lexemes that a duration takes, and whether it has hours or minutes; `Overflow` is refusal 6.
-#[derive(Drop)]
+#[derive(Clone, Copy)]
 pub enum Taken {
     Is { taken: usize, sub_daily: bool },
     Nothing,
@@ -47,7 +47,7 @@ pub enum Taken {
 }
 
 // A row with the parts of a duration, and where that ends.
-#[derive(Drop)]
+#[derive(Clone, Copy)]
 pub struct Rowed {
     pub parts: Parts,
     pub end: usize,

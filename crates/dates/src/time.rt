@@ -9,7 +9,7 @@ use numbers::slices::{is_at, rest};
 use numbers::{NumberFound, num};
 
 // `enum Time`
-#[derive(Drop)]
+#[derive(Clone, Copy)]
 pub enum Time {
     HourMin(u32, u32),
     HourMinAM(u32, u32),
@@ -18,7 +18,7 @@ pub enum Time {
 }
 
 // A time of day and the lexemes taken; `Overflow` is refusal 6.
-#[derive(Drop)]
+#[derive(Clone, Copy)]
 pub enum TimeFound {
     Is(Time, usize),
     Nothing,
@@ -26,7 +26,7 @@ pub enum TimeFound {
 }
 
 // A minute and the lexemes taken; `Overflow` is refusal 6.
-#[derive(Drop)]
+#[derive(Clone, Copy)]
 enum MinuteFound {
     Is(u32, usize),
     Overflow,

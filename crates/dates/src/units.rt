@@ -12,7 +12,7 @@ use lexer::lexeme::{
 use numbers::slices::{get, is_within};
 
 // `enum Unit`
-#[derive(Drop)]
+#[derive(Clone, Copy)]
 pub enum Unit {
     Day,
     Week,
@@ -23,28 +23,28 @@ pub enum Unit {
 }
 
 // A unit is one lexeme.
-#[derive(Drop)]
+#[derive(Clone, Copy)]
 pub enum UnitFound {
     Is(Unit),
     Nothing,
 }
 
 // A month, a number from 1 on, is one lexeme.
-#[derive(Drop)]
+#[derive(Clone, Copy)]
 pub enum MonthFound {
     Is(u32),
     Nothing,
 }
 
 // A weekday, a number with Monday 0, is one lexeme.
-#[derive(Drop)]
+#[derive(Clone, Copy)]
 pub enum WeekdayFound {
     Is(u32),
     Nothing,
 }
 
 // `enum RelativeSpecifier`
-#[derive(Drop)]
+#[derive(Clone, Copy)]
 pub enum RelativeSpecifier {
     This,
     Next,
@@ -52,7 +52,7 @@ pub enum RelativeSpecifier {
 }
 
 // A relative specifier is one lexeme.
-#[derive(Drop)]
+#[derive(Clone, Copy)]
 pub enum SpecifierFound {
     Is(RelativeSpecifier),
     Nothing,

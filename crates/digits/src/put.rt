@@ -4,14 +4,13 @@ ghost use Rattle.std.proofs.lemmas.List.Edits.{sets};
 ghost use Rattle.digits.specs.Digits.{digit_of, digits_of, marked, width_of, decimal_of};
 
 use super::digit::width;
-use bytes::copy;
 
 // Bytes, written from a place on.
 pub fn put_bytes(out: &mut [u8], at: usize, s: &[u8])
     requires { at + length s.now ≤ length out.old }
     ensures { out.new ≡ sets out.old at s.now }
 {
-    copy(s, &mut out[at..]);
+    out[at..at + s.len()].copy_from_slice(s);
 }
 
 // The last digit of a number.

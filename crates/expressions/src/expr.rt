@@ -20,7 +20,7 @@ use lexer::reading::Reading;
 use numbers::slices::{is_at, rest};
 
 // `enum DateExpr` without its durations, whose parts stand in the reading; a weekday is a number, Monday 0.
-#[derive(Drop)]
+#[derive(Clone, Copy)]
 pub enum Expr {
     Date(Date),
     DateRelative(Date, RelativeSpecifier, Unit),
@@ -38,14 +38,14 @@ pub enum Expr {
 }
 
 // What a tail stands behind.
-#[derive(Drop)]
+#[derive(Clone, Copy)]
 enum Head {
     Date(Date),
     Weekday(u32),
 }
 
 // A date expression, the lexemes taken, and the place of the first lexeme of its duration, 0 where it has none; `Overflow` is refusal 6.
-#[derive(Drop)]
+#[derive(Clone, Copy)]
 pub enum ExprTaken {
     Is(Expr, usize, usize),
     Nothing,

@@ -1,2 +1,4 @@
 // The readers of date expressions: `DateExpr` of ast.rs.
+#![tactic(auto)]
+
 pub mod expr;

@@ -1,4 +1,6 @@
 // What apps call: phrases, nows, ready phrases, stamps and moments as numbers and byte slices.
+#![tactic(auto)]
+
 ghost use Rattle.std.specs.Prelude.{◌≡◌, List, ℕ, ◌+◌, ◌*◌, ◌≤◌, length};
 ghost use Rattle.std.proofs.lemmas.List.Edits.{sets};
 ghost use Rattle.calendar.specs.Gregorian.{days};
@@ -55,7 +57,7 @@ const MINOR: u32 = 0;
 const PATCH: u32 = 0;
 
 // The reading that a caller asks for, or refusal 15.
-#[derive(Drop)]
+#[derive(Clone, Copy)]
 enum Chosen {
     As(Reading),
     Neither,

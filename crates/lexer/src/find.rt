@@ -10,7 +10,7 @@ use super::table::{bytes_at, count_in, first_rows, head_at, lexeme_at, second_ro
 use super::word::row_of;
 
 // How one word stands to another in byte order.
-#[derive(Drop)]
+#[derive(Clone, Copy)]
 enum Order {
     Less,
     Same,
@@ -18,14 +18,14 @@ enum Order {
 }
 
 // The lexeme of a word, if it is a keyword.
-#[derive(Drop)]
+#[derive(Clone, Copy)]
 pub enum Found {
     Lexeme(u64),
     Unknown,
 }
 
 // What a lookup says: the lexeme, and how many rows were compared.
-#[derive(Drop)]
+#[derive(Clone, Copy)]
 pub struct Looked {
     pub found: Found,
     pub count: u32,

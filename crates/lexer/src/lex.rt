@@ -18,7 +18,7 @@ use digits::digit::{TOO_LARGE, is_digit, with_digit};
 use refusals::{LARGE_DIGITS, NONE, Refusal, TOO_LONG, TOO_MANY, UNKNOWN};
 
 // One step of lexing: the end, a lexeme with the bytes from start up to end, or a refusal.
-#[derive(Drop)]
+#[derive(Clone, Copy)]
 pub enum Token {
     Finish,
     Taken { code: u64, start: usize, end: usize },
@@ -26,7 +26,7 @@ pub enum Token {
 }
 
 // How lexing ended: at the end of the phrase, with so many lexemes; or with a refusal, and count 0.
-#[derive(Drop)]
+#[derive(Clone, Copy)]
 pub struct Ended {
     pub refusal: Refusal,
     pub count: usize,

@@ -1,5 +1,7 @@
 // The lexer: a phrase, as bytes, cut into lexemes.
 
+#![tactic(auto)]
+
 mod class;
 pub mod find;
 pub mod lex;

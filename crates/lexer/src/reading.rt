@@ -1,7 +1,7 @@
 // The two readings of a phrase.
 
 // Which of the two senses of a phrase the caller asks for.
-#[derive(Drop)]
+#[derive(Clone, Copy)]
 pub enum Reading {
     First,
     Second,

@@ -9,14 +9,14 @@ use super::class::LETTER;
 use super::run::run_end;
 
 // Letters as one number, filled up, and where they end.
-#[derive(Drop)]
+#[derive(Clone, Copy)]
 struct Block {
     number: u64,
     end: usize,
 }
 
 // A word as two numbers, and where it ends.
-#[derive(Drop)]
+#[derive(Clone, Copy)]
 pub struct Key {
     pub head: u64,
     pub tail: u64,

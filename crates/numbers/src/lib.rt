@@ -1,4 +1,6 @@
 // The number readers of ast.rs, `Ones` to `Num`: a reader takes the lexemes from where it stands, as in the Rust.
+#![tactic(auto)]
+
 ghost use Rattle.std.specs.Prelude.{◌≡◌, ◌+◌, ◌≤◌, ◌<◌, max, length};
 ghost use Rattle.numbers.specs.Slices.{get, one_if};
 ghost use Rattle.numbers.specs.Answers.{MAX, USIZE, Taken, Read, number, written, or_else, taken_of, fits_of};
@@ -15,7 +17,7 @@ pub mod slices;
 const MAX: u32 = 4294967295;
 
 // A number that was read, the digits of the one run that it was written with, 0 for any other number, and the lexemes taken.
-#[derive(Drop)]
+#[derive(Clone, Copy)]
 pub struct Number {
     pub value: u32,
     pub digits: u32,
@@ -23,7 +25,7 @@ pub struct Number {
 }
 
 // What a number reader answers. `Overflow` is refusal 6: a sum or product in the number passes 4,294,967,295.
-#[derive(Drop)]
+#[derive(Clone, Copy)]
 pub enum NumberFound {
     Is(Number),
     Nothing,

@@ -4,7 +4,7 @@ use dates::time::Time;
 use expressions::expr::Expr;
 
 // What the durations stand around: `DateTime::Now`, `DateTime::DateTime`, `DateTime::TimeDate`.
-#[derive(Drop)]
+#[derive(Clone, Copy)]
 pub enum Base {
     Now,
     DateTime(Expr),
@@ -12,7 +12,7 @@ pub enum Base {
 }
 
 // `DateTime::After`, `DateTime::Before`: a direction, and the parts from one place up to another.
-#[derive(Drop)]
+#[derive(Clone, Copy)]
 pub struct Link {
     pub back: bool,
     pub from: u8,
@@ -20,7 +20,7 @@ pub struct Link {
 }
 
 // The base has its own parts from `own` on; the m links are in front of it, outermost first.
-#[derive(Drop)]
+#[derive(Clone, Copy)]
 pub struct Chain {
     pub base: Base,
     pub time: Time,

@@ -20,7 +20,7 @@ use numbers::slices::{is_at, rest, take_if};
 // One turn, with the lexemes taken: a whole reading, with its base, its time and the place of the base's own duration;
 // a duration before now; or a link, behind which a datetime is read again. The duration of `Ago` and `Link` stands in front.
 // `Overflow` is refusal 6.
-#[derive(Drop)]
+#[derive(Clone, Copy)]
 pub enum TurnTaken {
     Whole(Base, Time, usize, usize),
     Ago(usize),
@@ -30,7 +30,7 @@ pub enum TurnTaken {
 }
 
 // The lexemes that a reading takes; `Overflow` is refusal 6.
-#[derive(Drop)]
+#[derive(Clone, Copy)]
 pub enum Count {
     Is(usize),
     Nothing,
@@ -38,7 +38,7 @@ pub enum Count {
 }
 
 // What is read of a whole phrase: m links in front of a base, and the place of the base's own duration, from the base's first lexeme on.
-#[derive(Drop)]
+#[derive(Clone, Copy)]
 pub struct Outline {
     pub taken: Count,
     pub base: Base,

@@ -13,7 +13,7 @@ use lexer::reading::Reading;
 use numbers::slices::{is_at, rest};
 
 // A chain, and how its reading ended; that of now where nothing is kept.
-#[derive(Drop)]
+#[derive(Clone, Copy)]
 pub struct Gathered {
     pub chain: Chain,
     pub taken: Count,

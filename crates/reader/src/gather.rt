@@ -7,7 +7,7 @@ use refusals::{NONE, TOO_MANY};
 
 // Whether there is more to read, and how the reading ended if there is not; and count lexemes, their codes and the places of their first
 // bytes, the rest of both arrays zeros.
-#[derive(Drop)]
+#[derive(Clone, Copy)]
 pub struct Gathered {
     pub going: bool,
     pub ended: Ended,

@@ -1,4 +1,6 @@
 // A reader that holds the phrase and its place: a thin layer over the lexer's functions on a slice and a number, and lexing by it.
+#![tactic(auto)]
+
 ghost use Rattle.std.specs.Prelude.{◌≡◌, ◌+◌, length, drop};
 ghost use Rattle.std.proofs.lemmas.List.Edits.{sets};
 ghost use Rattle.lexer.specs.Keywords.{words_in};
@@ -64,7 +66,7 @@ impl<'a> Lexer<'a> {
     // What is not read yet, as a part of the caller's phrase.
     pub fn unread(self) -> &'a [u8]
         ensures result_value { result.now ≡ drop self.entry.at self.entry.phrase.now }
-        ensures own { result.ref_ptr ≡ (self.entry.phrase.ptr.0, rest_start self.entry + self.entry.phrase.ptr.1) }
+        ensures own { result.ref_ptr ≡ (self.entry.phrase.ref_ptr.0, rest_start self.entry + self.entry.phrase.ref_ptr.1) }
     {
         rest_from(self.phrase, self.at)
     }

@@ -1,4 +1,6 @@
 // Phrases made ready without a now.
+#![tactic(auto)]
+
 ghost use Rattle.std.specs.Prelude.{◌≡◌};
 ghost use Rattle.lexer.specs.Keywords.{words_in};
 ghost use Rattle.ready.specs.Ready.{ready_of, ready_answer};
@@ -14,7 +16,7 @@ use make::plan_of;
 use steps::plan::none;
 
 // Number 0: the steps. Else a refusal of 1 to 7, and no step.
-#[derive(Drop)]
+#[derive(Clone, Copy)]
 pub struct Ready {
     pub plan: Plan,
     pub refusal: Refusal,

@@ -9,7 +9,7 @@ use dates::units::RelativeSpecifier;
 use steps::plan::{Move, Start, Step};
 
 // A record's kind, its form within the kind, and three numbers.
-#[derive(Drop)]
+#[derive(Clone, Copy)]
 pub struct Words {
     pub kind: u32,
     pub form: u32,

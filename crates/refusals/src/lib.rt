@@ -1,7 +1,9 @@
 // Refusal numbers under the names of include/fuzzy.h: the paper's 1 to 13 in the order in which they are tested, then the requests'; and a refusal's place.
 
 // A refusal: its number, its place in the phrase and the end of its part. Number 0: nothing is refused.
-#[derive(Drop)]
+#![tactic(auto)]
+
+#[derive(Clone, Copy)]
 pub struct Refusal {
     pub number: u32,
     pub place: usize,
@@ -9,7 +11,7 @@ pub struct Refusal {
 }
 
 // How a writing ended: number 0 and the count of bytes, or a refusal's number and count 0.
-#[derive(Drop)]
+#[derive(Clone, Copy)]
 pub struct Wrote {
     pub number: u32,
     pub count: usize,

@@ -12,7 +12,7 @@ use rules::{Bound, Freq, Rule};
 
 // The numbers that listing and asking begin from. `start` and `month` are the start's day and month number; `days` is BYDAY's bits, 0 where
 // there is none; `day` is the day of the month; `limit` is the first day too late, and `count` the most days.
-#[derive(Drop)]
+#[derive(Clone, Copy)]
 pub struct Course {
     pub freq: Freq,
     pub interval: u32,
@@ -25,7 +25,7 @@ pub struct Course {
 }
 
 // The course of a rule, or a start that doesn't match or lies past UNTIL.
-#[derive(Drop)]
+#[derive(Clone, Copy)]
 pub enum Begun {
     Refused,
     From(Course),

@@ -8,7 +8,7 @@ use super::{Bound, Freq, Rule};
 use digits::form::of_form;
 
 // A rule's parts, 0 and endless where they are free; `monday` is 1 behind WKST.
-#[derive(Drop)]
+#[derive(Clone, Copy)]
 pub struct Draft {
     pub freq: Freq,
     pub interval: u32,
@@ -19,7 +19,7 @@ pub struct Draft {
 }
 
 // A draft with a part more, unless that is refused.
-#[derive(Drop)]
+#[derive(Clone, Copy)]
 pub enum Drafted {
     Refused,
     Is(Draft),

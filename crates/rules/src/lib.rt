@@ -1,4 +1,6 @@
 // A repeating rule of RFC 5545, section 3.3.10, as far as it is taken: every so many days, weeks or months.
+#![tactic(auto)]
+
 use calendar::moments::Moment;
 
 mod cut;
@@ -7,7 +9,7 @@ mod part;
 pub mod read;
 
 // FREQ.
-#[derive(Drop)]
+#[derive(Clone, Copy)]
 pub enum Freq {
     Daily,
     Weekly,
@@ -15,7 +17,7 @@ pub enum Freq {
 }
 
 // COUNT, or UNTIL as a civil date, that day included, or as a civil date_time_lem, or neither.
-#[derive(Drop)]
+#[derive(Clone, Copy)]
 pub enum Bound {
     Endless,
     Count(u32),
@@ -24,7 +26,7 @@ pub enum Bound {
 }
 
 // A rule. `days` has a bit for each weekday of BYDAY, Monday the lowest, and is 0 where there is none; `day` is BYMONTHDAY, 0 where there is none.
-#[derive(Drop)]
+#[derive(Clone, Copy)]
 pub struct Rule {
     pub freq: Freq,
     pub interval: u32,

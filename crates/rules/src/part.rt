@@ -12,7 +12,7 @@ use digits::digit::{is_digit, two, with_digit};
 use digits::form::of_form;
 
 // A part with its value: 0, or a bound that is endless, where the text is no value.
-#[derive(Drop)]
+#[derive(Clone, Copy)]
 pub enum Part {
     Unknown,
     Interval(u32),

@@ -9,7 +9,7 @@ use super::draft::{Draft, Drafted, begun, put, rule_in};
 use super::part::part_of;
 
 // A rule, or refusal 18.
-#[derive(Drop)]
+#[derive(Clone, Copy)]
 pub enum RuleRead {
     Refused,
     Is(Rule),

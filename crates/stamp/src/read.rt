@@ -12,7 +12,7 @@ use digits::form::of_form;
 use refusals::{NO_STAMP, OUTSIDE};
 
 // A stamp, or a refusal's number.
-#[derive(Drop)]
+#[derive(Clone, Copy)]
 pub enum StampRead {
     Is(Stamp),
     Refused(u32),

@@ -8,7 +8,7 @@ use dates::time::Time;
 use dates::units::RelativeSpecifier;
 
 // Where a list starts; all but the first two are date rules.
-#[derive(Drop)]
+#[derive(Clone, Copy)]
 pub enum Start {
     Now,
     Senseless,
@@ -18,7 +18,7 @@ pub enum Start {
 }
 
 // A way on from a moment.
-#[derive(Drop)]
+#[derive(Clone, Copy)]
 pub enum Move {
     Minutes { back: bool, count: u64 },
     Months { back: bool, count: u32 },
@@ -28,7 +28,7 @@ pub enum Move {
 }
 
 // One step: from a start, by a move, or to a time of day.
-#[derive(Drop)]
+#[derive(Clone, Copy)]
 pub enum Step {
     From(Start),
     By(Move),
@@ -36,27 +36,27 @@ pub enum Step {
 }
 
 // An array of a struct's field holds no enum by itself, so each step stands in a struct.
-#[derive(Drop)]
+#[derive(Clone, Copy)]
 pub struct Held {
     pub step: Step,
 }
 
 // The first n slots are the list.
-#[derive(Drop)]
+#[derive(Clone, Copy)]
 pub struct Plan {
     pub n: usize,
     pub slots: [Held; 24],
 }
 
 // A step as a fixed length, if it is one.
-#[derive(Drop)]
+#[derive(Clone, Copy)]
 pub enum Fixed {
     Other,
     Length { back: bool, count: u64 },
 }
 
 // What becomes of the last step and one behind it: the last one stays alone, both stay, or they are one fixed length.
-#[derive(Drop)]
+#[derive(Clone, Copy)]
 pub enum Join {
     Alone,
     Apart,

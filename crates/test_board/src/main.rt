@@ -1,6 +1,8 @@
 // Keeps reminders on one board. Reads calls on standard input, a line each: `M` or `N` with `YYYY-MM-DD HH:MM:SS mmmm` makes the board at a now or runs
 // all again at one, `R nnnn` removes from a slot, a digit with a phrase adds in the reading of that number, `H` asks for the head and `O` for the
 // order. Writes for each the answer's number, place and length, and behind them what the lent array has.
+#![tactic(auto)]
+
 ghost use Rattle.std.specs.Prelude.{◌+◌, ◌<◌, ◌≤◌, length};
 
 use bytes::scan;

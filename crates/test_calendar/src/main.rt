@@ -1,4 +1,6 @@
 // Prints days, dates and steps of the calendar, one a line. What it must print is made by another calendar (data/expected.py).
+#![tactic(auto)]
+
 ghost use Rattle.calendar.specs.Moments.{IsMoment};
 
 use calendar::fixed::put_moment;

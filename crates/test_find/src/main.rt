@@ -1,5 +1,7 @@
 // Looks up every single byte as a word, then each line of standard input, in the first reading and then in the second, and writes a line for
 // each: the lexeme's code, 0 where there is none, and how many rows of the table the word was compared with. The last lines have no such reading.
+#![tactic(auto)]
+
 use bytes::scan;
 use fuzzydate::fuzzy_find_word;
 use libc::STDOUT_FILENO;

@@ -1,6 +1,8 @@
 // Lexes every single byte as a phrase, then each line of standard input, in the first reading and then in the second, and writes three lines
 // for each: what the lexer answers, what lexing by a reader answers, and where a reader stands behind the first token, with the unread rest.
 // An answer is the lexemes' codes with their places, or the refusal with its place, the end of its part and the part.
+#![tactic(auto)]
+
 ghost use Rattle.std.specs.Prelude.{◌≤◌};
 
 use bytes::scan;

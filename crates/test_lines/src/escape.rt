@@ -3,7 +3,7 @@ ghost use Rattle.std.specs.Prelude.{◌≡◌, ◌+◌, ◌≤◌, ◌<◌, leng
 ghost use Rattle.io.specs.Counts.{IsPrefixLen};
 
 // A byte of a phrase, and how many bytes of the line it takes.
-#[derive(Drop)]
+#[derive(Clone, Copy)]
 struct Spelled {
     byte: u8,
     size: usize,

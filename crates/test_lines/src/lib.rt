@@ -1,5 +1,7 @@
 // Lines `NOW|PHRASE` on standard input, in pieces, and for each the lexemes, what is read, the lexemes taken and the moment in one of the
 // readings, as oracle/README.md has them: a line ends at the stage that refuses.
+#![tactic(auto)]
+
 ghost use Rattle.std.specs.Prelude.{◌+◌, ◌≤◌, length};
 
 use bytes::scan;

@@ -1,5 +1,7 @@
 // Reads lines `YYYY-MM-DD HH:MM:SS|PHRASE` on standard input and writes for each the answer to the phrase at that now, the answer of the
 // records that it is made ready as, run at that now, and how many they are; and the offending part of a phrase that reading refuses.
+#![tactic(auto)]
+
 use answer::{Answered, answer};
 use bytes::scan;
 use calendar::fixed::moment_in;

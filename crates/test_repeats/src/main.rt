@@ -1,5 +1,7 @@
 // Lists the occurrences of rules. Reads lines `YYYY-MM-DD HH:MM:SS mmmm nnnn RULE` on standard input, a start with its milliseconds, so many
 // numbers of room and a rule, and writes for each the refusal's number, the count of rows and the rows; then the number that stands behind them.
+#![tactic(auto)]
+
 ghost use Rattle.std.specs.Prelude.{◌+◌, ◌<◌, ◌≤◌, length};
 
 use bytes::scan;

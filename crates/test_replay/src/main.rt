@@ -1,4 +1,6 @@
 // The first reading on the lines that were recorded of the built Rust.
+#![tactic(auto)]
+
 use lexer::reading::Reading;
 
 fn main() {

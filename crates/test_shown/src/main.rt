@@ -1,5 +1,7 @@
 // Shows moments as phrases and reads these back in both readings, one a line. What it must print is made by Python's datetime and the paper's
 // model (data/expected.py).
+#![tactic(auto)]
+
 ghost use Rattle.std.specs.Prelude.{◌+◌, ◌≤◌, length};
 
 use answer::{Answered, answer};

@@ -6,7 +6,7 @@ use stamp::read::{StampRead, read_stamp};
 use std::num::wrapping_add_u64;
 
 // How many texts were refused with 12, with 14, and with any other number.
-#[derive(Drop)]
+#[derive(Clone, Copy)]
 struct Counts {
     outside: u64,
     no_stamp: u64,

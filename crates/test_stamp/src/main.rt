@@ -1,4 +1,6 @@
 // Writes and reads stamps, and reads changed texts, one a line. What it must print is made by Python's datetime (data/expected.py).
+#![tactic(auto)]
+
 ghost use Rattle.std.specs.Prelude.{◌≤◌, length};
 
 use calendar::moments::{Moment, Reached};

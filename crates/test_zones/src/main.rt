@@ -3,6 +3,8 @@
 // digits behind it fills it up with a byte; `@` and `M` have an instant's second, as two's complement, and its millisecond. A digit and a phrase reads it
 // in the reading of that number, `a` or `b` makes it ready in reading 1 or 2 and runs it, `R` runs records, `W` and a second reads "now" there and at the
 // two seconds behind it. Writes for each of these 0, or the refusal's number, place and length, then the second and the nine numbers of the lent arrays.
+#![tactic(auto)]
+
 ghost use Rattle.std.specs.Prelude.{◌+◌, ◌<◌, ◌≤◌, length};
 
 use bytes::scan;

@@ -5,7 +5,7 @@ ghost use Rattle.text.specs.Lines.{line_at};
 use bytes::scan::find;
 
 // Where a line ends, and whether a line feed ends it.
-#[derive(Drop)]
+#[derive(Clone, Copy)]
 pub struct Line {
     pub end: usize,
     pub ended: bool,

@@ -11,14 +11,14 @@ use super::spelling::write_line;
 use calendar::moments::Moment;
 
 // What is known of now: nothing until the first line has ended.
-#[derive(Drop)]
+#[derive(Clone, Copy)]
 pub enum Known {
     Nothing,
     Now(Moment),
 }
 
 // What is known behind some lines, how many bytes they were, and how many bytes of output they gave.
-#[derive(Drop)]
+#[derive(Clone, Copy)]
 pub struct Passed {
     pub known: Known,
     pub at: usize,
@@ -27,7 +27,7 @@ pub struct Passed {
 
 // What is known behind the lines of a piece of the input, how many bytes are kept of the line that goes on, and how many bytes of output
 // there are.
-#[derive(Drop)]
+#[derive(Clone, Copy)]
 pub struct Piece {
     pub known: Known,
     pub held: usize,

@@ -7,7 +7,7 @@ use super::octets::{four, octet, offset_at, time_at};
 use super::tables::{are_tables, is_footer};
 
 // A header's counts.
-#[derive(Drop)]
+#[derive(Clone, Copy)]
 pub struct Header {
     pub isutcnt: usize,
     pub isstdcnt: usize,
@@ -18,7 +18,7 @@ pub struct Header {
 }
 
 // Where the second block's tables begin: transition times, their types' indexes and the types; how many transitions there are, and the last.
-#[derive(Drop)]
+#[derive(Clone, Copy)]
 pub struct Places {
     pub times: usize,
     pub indexes: usize,
@@ -28,7 +28,7 @@ pub struct Places {
 }
 
 // What a check says: the file is refused with 21, or its places.
-#[derive(Drop)]
+#[derive(Clone, Copy)]
 pub enum Checked {
     Refused,
     Is(Places),

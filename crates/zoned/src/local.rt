@@ -13,7 +13,7 @@ use zones::instants::{Arrived, Instant, clock_of};
 use zones::search::shift_at;
 
 // What the clocks of a zone show at an instant: its second, the civil moment, and the offset from UTC, west of it or not, in seconds.
-#[derive(Drop)]
+#[derive(Clone, Copy)]
 pub struct Local {
     pub civil: Moment,
     pub second: u64,
@@ -22,7 +22,7 @@ pub struct Local {
 }
 
 // Where a run ends: what the clocks show there, or a refusal's number.
-#[derive(Drop)]
+#[derive(Clone, Copy)]
 pub enum Located {
     At(Local),
     Refused(u32),

@@ -18,7 +18,7 @@ use zones::instants::{Arrived, Instant, clock_of, fixed_step, settle};
 use zones::search::civil_of;
 
 // What a step asks for in a zone: nothing, a fixed length on the instant, or an act on the civil time.
-#[derive(Drop)]
+#[derive(Clone, Copy)]
 enum Kind {
     Stays,
     Fixed { back: bool, count: u64 },

@@ -12,14 +12,14 @@ use refusals::{OUTSIDE, PAST_LAST};
 use tzif::file::Places;
 
 // An instant: its second since 1970, 2^63 added, and the millisecond.
-#[derive(Drop)]
+#[derive(Clone, Copy)]
 pub struct Instant {
     pub second: u64,
     pub millisecond: u32,
 }
 
 // Where a step leads in a zone: an instant, or a refusal's number.
-#[derive(Drop)]
+#[derive(Clone, Copy)]
 pub enum Arrived {
     At(Instant),
     Refused(u32),

@@ -8,7 +8,7 @@ use refusals::{NO_INSTANT, PAST_LAST};
 use tzif::file::{Places, offset_behind, transition_at};
 
 // The instant of a civil second, or a refusal's number.
-#[derive(Drop)]
+#[derive(Clone, Copy)]
 pub enum Resolved {
     At(u64),
     Refused(u32),
