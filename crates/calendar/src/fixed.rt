@@ -41,7 +41,7 @@ pub fn put_moment(out: &mut [u8], mark: u8, t: Moment)
 // The same time of day on the date at the front.
 fn dated(s: &[u8], t: Moment) -> Moment
     requires { 10 ≤ length s.now }
-    ensures { let s = s.entry.now in result ≡ with_date (100 * two_at s 0 + two_at s 2) (two_at s 5) (two_at s 8) t }
+    ensures { let s = s.now in result ≡ with_date (100 * two_at s 0 + two_at s 2) (two_at s 5) (two_at s 8) t }
 {
     t.with_date(100 * two(s, 0) + two(s, 2), two(s, 5), two(s, 8))
 }
@@ -49,7 +49,7 @@ fn dated(s: &[u8], t: Moment) -> Moment
 // The same date at the time of day behind a date and its mark, with so many milliseconds.
 fn timed(s: &[u8], ms: u32, t: Moment) -> Moment
     requires { 19 ≤ length s.now }
-    ensures { let s = s.entry.now in result ≡ with_time (two_at s 11) (two_at s 14) (two_at s 17) ms t }
+    ensures { let s = s.now in result ≡ with_time (two_at s 11) (two_at s 14) (two_at s 17) ms t }
 {
     t.with_time(two(s, 11), two(s, 14), two(s, 17), ms)
 }

@@ -49,8 +49,8 @@ pub struct Outline {
 
 // 1 for a comma or an x at t, which is taken then, and else 0.
 fn take_comma_or(l: &[u64], t: usize, x: u64) -> usize
-    ensures value { result ≡ one_if (is_at (now l.entry) t Comma || is_at (now l.entry) t x) }
-    ensures upper_bound { (result ≤ 1) × (t + result ≤ max t (length (now l.entry))) }
+    ensures value { result ≡ one_if (is_at l.now t Comma || is_at l.now t x) }
+    ensures upper_bound { (result ≤ 1) × (t + result ≤ max t (length l.now)) }
 {
     if is_at(l, t, COMMA) {
         return 1;
@@ -60,8 +60,8 @@ fn take_comma_or(l: &[u64], t: usize, x: u64) -> usize
 
 // [, | at] [<time>] behind t lexemes
 fn time_behind(reading: Reading, l: &[u64], t: usize) -> TimeFound
-    requires { t ≤ length (now l) }
-    ensures { parsed_time result ≡ time_behind_of reading t (now l.entry) }
+    requires { t ≤ length l.now }
+    ensures { parsed_time result ≡ time_behind_of reading t l.now }
 {
     let s = t + take_comma_or(l, t, AT);
     match read_time(reading, rest(l, s)) {
@@ -73,7 +73,7 @@ fn time_behind(reading: Reading, l: &[u64], t: usize) -> TimeFound
 
 // after | from | before | ago behind a duration of t lexemes, whichever that is, in either reading
 fn with_duration(l: &[u64], t: usize) -> TurnTaken
-    ensures { (reading : Reading) (dur : Duration) → result ≡ turn_answer reading (now l.entry) (with_duration_of dur t (now l.entry)) }
+    ensures { (reading : Reading) (dur : Duration) → result ≡ turn_answer reading l.now (with_duration_of dur t l.now) }
 {
     if is_at(l, t, AFTER) {
         return TurnTaken::Link(t + 1);
@@ -102,7 +102,7 @@ fn turn_stopped(a: TimeFound) -> TurnTaken
 
 // <time> [, | on] [<date_expr>]
 fn read_timed(reading: Reading, l: &[u64]) -> TurnTaken
-    ensures { result ≡ turn_answer reading (now l.entry) (timed_turn_of reading (now l.entry)) }
+    ensures { result ≡ turn_answer reading l.now (timed_turn_of reading l.now) }
 {
     let a = read_time(reading, l);
     let TimeFound::Is(time, t) = a else {
@@ -119,7 +119,7 @@ fn read_timed(reading: Reading, l: &[u64]) -> TurnTaken
 
 // A duration and its connection, or a bare time.
 fn read_undated(reading: Reading, l: &[u64]) -> TurnTaken
-    ensures { result ≡ turn_answer reading (now l.entry) (undated_turn_of reading (now l.entry)) }
+    ensures { result ≡ turn_answer reading l.now (undated_turn_of reading l.now) }
 {
     let taken = read_duration(reading, l);
     match taken {
@@ -134,7 +134,7 @@ fn read_undated(reading: Reading, l: &[u64]) -> TurnTaken
 
 // One turn of DateTime::parse: now, a dated phrase, a duration, or a bare time last.
 fn read_turn(reading: Reading, l: &[u64]) -> TurnTaken
-    ensures { result ≡ turn_answer reading (now l.entry) (turn_of reading (now l.entry)) }
+    ensures { result ≡ turn_answer reading l.now (turn_of reading l.now) }
 {
     if is_at(l, 0, NOW) {
         return TurnTaken::Whole(Base::Now, Time::Empty, 0, 1);
@@ -168,7 +168,7 @@ fn ended(taken: Count) -> Outline
 
 // DateTime::parse, turn after turn: behind a link a datetime is read again.
 fn read_date_time(reading: Reading, l: &[u64]) -> Outline
-    ensures { result ≡ outline_answer reading (now l.entry) (date_time_of reading (now l.entry)) }
+    ensures { result ≡ outline_answer reading l.now (date_time_of reading l.now) }
 {
     let mut at: usize = 0;
     let mut m: usize = 0;
@@ -209,7 +209,7 @@ fn read_date_time(reading: Reading, l: &[u64]) -> Outline
 
 // The same, kept only where at least n lexemes are taken.
 pub(crate) fn read_outline(reading: Reading, l: &[u64], n: usize) -> Outline
-    ensures { result ≡ outline_answer reading (now l.entry) (kept n (date_time_of reading (now l.entry))) }
+    ensures { result ≡ outline_answer reading l.now (kept n (date_time_of reading l.now)) }
 {
     let o = read_date_time(reading, l);
     let taken = o.taken;
