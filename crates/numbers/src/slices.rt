@@ -39,7 +39,7 @@ pub fn rest(l: &[u64], t: usize) -> &[u64]
     requires { t ≤ length l.now }
     ensures result_value { result.now ≡ drop t l.now }
     ensures result_value_2 { t + length result.now ≡ length l.now }
-    ensures own { result.ref_ptr ≡ (l.ref_ptr.0, t * 8 + l.ref_ptr.1) }
+    ensures own { result.ref_ptr ≡ (l.entry.ref_ptr.0, t * 8 + l.entry.ref_ptr.1) }
 {
     &l[t..]
 }

@@ -74,7 +74,7 @@ pub fn read(reading: Reading, phrase: &[u8]) -> PhraseRead
 // The offending part of the caller's own phrase; empty where nothing is refused.
 pub fn offending(reading: Reading, phrase: &[u8]) -> &[u8]
     ensures result_value { result.now ≡ offending_of phrase.now (read_of reading (words_in reading) phrase.now) }
-    ensures own { result.ref_ptr ≡ (phrase.ref_ptr.0, place_of (read_of reading (words_in reading) phrase.now) + phrase.ref_ptr.1) }
+    ensures own { result.ref_ptr ≡ (phrase.entry.ref_ptr.0, place_of (read_of reading (words_in reading) phrase.now) + phrase.entry.ref_ptr.1) }
 {
     let r = read(reading, phrase);
     let refusal = r.refusal;

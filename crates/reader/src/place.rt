@@ -19,7 +19,7 @@ pub(crate) fn place_behind(at: usize, t: Token) -> usize
 // What stands from a place on, where it stands in the phrase; past the last byte nothing does.
 pub(crate) fn rest_from(s: &[u8], at: usize) -> &[u8]
     ensures result_value { result.now ≡ drop at s.now }
-    ensures own { result.ref_ptr ≡ (s.ref_ptr.0, min at (length s.now) + s.ref_ptr.1) }
+    ensures own { result.ref_ptr ≡ (s.entry.ref_ptr.0, min at (length s.now) + s.entry.ref_ptr.1) }
 {
     let n = s.len();
     if n < at {
