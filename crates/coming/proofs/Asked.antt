@@ -12,7 +12,6 @@ use borrow.Author.Tests.{lt-ltb, le-ltb, le-leb, lt-leb}
 use Rattle.digits.proofs.Order.{le-or_lt}
 use Rattle.coming.specs.Next.{first_at}
 use Rattle.repeats.specs.Held.{First, between, held, keep}
-use Rattle.repeats.specs.Occurrences.{holds}
 use Rattle.repeats.proofs.Held.{FirstBelow, between_append, first_head, held_none}
 
 -- all entries lie below b

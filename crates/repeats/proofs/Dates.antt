@@ -6,7 +6,6 @@ use Prim.Native.Nat.{ℕ, ◌+◌, ◌-◌, ◌*◌, ◌/◌, ◌%◌, ◌≤◌
 use native.Mathlib.Omega.{arith}
 use Rattle.calendar.specs.Gregorian.{leap_year, month_length, IsDate, year_of, month_of_day, day_of, days}
 use Rattle.calendar.proofs.Dates.{Before, by_year_lem, by_month, by_day, day_date, is_date_lem, in_days, date_day, order_day}
-use Rattle.calendar.proofs.Months.{month}
 use lib.Dec.{leb}
 use borrow.Author.Tests.{leb-true}
 use Rattle.repeats.specs.Firsts.{day_in, has_day}

@@ -1,7 +1,7 @@
 -- Rounding up: its bounds, its steps, and that nothing between divides.
 use mathlib.Core.Path.{◌≡◌, refl}
 use mathlib.Core.Bool.{Bool, true, false}
-use mathlib.Core.Logic.{◌⊎◌, ⊎_elim}
+use mathlib.Core.Logic.{⊎_elim}
 use Prim.Native.Nat.{ℕ, suc, ◌+◌, ◌-◌, ◌*◌, ◌/◌, ◌%◌, ◌≤◌, ◌<◌}
 use native.Mathlib.Nat.{div-eq_of_lt-le, div-add-mod, mod-lt, mul-mod_right, mul-le-mul_left}
 use native.Mathlib.Omega.{arith}

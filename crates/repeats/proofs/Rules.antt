@@ -1,7 +1,7 @@
 -- The closed form of every rule, and the list of its occurrences.
 use mathlib.Core.Path.{◌≡◌, refl, sym, ◌∙◌}
 use mathlib.Core.Bool.{Bool, true, false, ◌&&◌}
-use mathlib.Core.Logic.{◌⊎◌, ⊎_elim}
+use mathlib.Core.Logic.{⊎_elim}
 use mathlib.Core.List.{◌∷◌, []}
 use lib.ListN.{take}
 use lib.Dec.{eqb}

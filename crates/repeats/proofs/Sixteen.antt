@@ -1,7 +1,7 @@
 -- Of 16 turns of a monthly rule whose start has the day one has it too.
 use mathlib.Core.Path.{◌≡◌, refl, ap, sym, ◌∙◌}
 use mathlib.Core.Bool.{Bool, true, false, ◌||◌}
-use mathlib.Core.Logic.{◌⊎◌, ⊎_elim}
+use mathlib.Core.Logic.{⊎_elim}
 use lib.Dec.{eqb, leb}
 use Prim.Native.Nat.{ℕ, suc, ◌+◌, ◌-◌, ◌*◌, ◌/◌, ◌%◌, ◌≤◌, ◌<◌}
 use native.Mathlib.Omega.{arith}
@@ -14,7 +14,7 @@ use Rattle.calendar.proofs.Dates.{is_date_lem}
 use Rattle.repeats.specs.Firsts.{first_monthly, has_day, month_from, up}
 use Rattle.repeats.specs.Held.{First}
 use Rattle.repeats.specs.Occurrences.{holds, month_at, monthly}
-use Rattle.repeats.proofs.Dates.{apart, has_day_lem, length_at}
+use Rattle.repeats.proofs.Dates.{has_day_lem, length_at}
 use Rattle.repeats.proofs.Division.{by_order}
 use Rattle.repeats.proofs.Monthly.{monthly_first, turn_sought, turn_from}
 use Rattle.repeats.proofs.Turns.{common, leap_again, years_on}
