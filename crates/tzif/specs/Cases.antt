@@ -1,5 +1,5 @@
 -- Worked files, computed: each limit of a file on both sides.
-use Rattle.std.specs.Prelude.{ℕ, zero, suc, ◌-◌, ◌/◌, ◌%◌, ◌≡◌, refl, List, [], ◌∷◌, ◌++◌, map, length, replicate, take}
+use Rattle.std.specs.Prelude.{ℕ, zero, suc, ◌/◌, ◌%◌, ◌≡◌, refl, List, [], ◌∷◌, ◌++◌, map, length, replicate, take}
 use Rattle.refusals.specs.Answers.{Answer, given, refuse}
 use Rattle.digits.specs.Bytes.{bytes_of}
 use Rattle.tzif.specs.Zones.{Row, Zone, year_one}
