@@ -6,8 +6,8 @@ use mathlib.Core.List.{List, [], ◌∷◌}
 use mathlib.Core.Logic.{⊎_elim}
 use Prim.Native.Nat.{ℕ, ◌≤◌}
 use native.Mathlib.Omega.{arith}
+use types.Run.{OneOf}
 use denote.Enum.Declared.{tag_of}
-use borrow.Enum.Refused.{Among, opened}
 use borrow.Author.Tests.{eqb-false}
 use Rattle.numbers.specs.contracts.NumberFound.{the_type}
 use Rattle.numbers.specs.declared.Number.{Number}
@@ -17,11 +17,11 @@ use Rattle.numbers.specs.Answers.{MAX, Bounded, Taken, Read, pick, or_else, and_
 
 -- which arms of a `let .. else` or a `match` an answer may have come by: the variants are numbered Is 0, Nothing 1, Overflow 2
 abbrev pub Tag : List ℕ → NumberFound → Type 0
-Tag ks w = Among ks (tag_of the_type w)
+Tag ks w = OneOf ks (tag_of the_type w)
 
 -- a number is none of two others
-pub neither : (a b c : ℕ) {A : Type 0} → (a ≡ b → ⊥) → (a ≡ c → ⊥) → Among (b ∷ c ∷ []) a → A
-neither a b c p q k = ⊎_elim (λ e. absurd (p e)) (λ e. absurd (q e)) (opened k)
+pub neither : (a b c : ℕ) {A : Type 0} → (a ≡ b → ⊥) → (a ≡ c → ⊥) → OneOf (b ∷ c ∷ []) a → A
+neither a b c p q k = ⊎_elim (λ e. absurd (p e)) (λ e. absurd (q e)) k
 
 -- not `Nothing`: the first alternative stays
 pub kept : (w b : NumberFound) → Tag (0 ∷ 2 ∷ []) w → or_else w b ≡ w

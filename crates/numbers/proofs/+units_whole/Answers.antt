@@ -3,6 +3,7 @@ use mathlib.Core.Path.{sym}
 use Prim.Native.Nat.{ℕ, ◌+◌, ◌*◌, ◌≤◌, ◌<◌}
 use native.Mathlib.Omega.{arith}
 use lib.ListN.{length}
+use borrow.Enum.Refused.{opened}
 use Rattle.numbers.specs.Answers.{USIZE}
 use Rattle.numbers.specs.Numbers.{tail_of, units_of, num_step, num_of}
 use Rattle.numbers.proofs.NumberAnswers.{kept, none, found, most, wider, promised}
@@ -18,7 +19,7 @@ pub whole-returns-in_default-clause-value : goal.whole-returns-in_default-clause
 unfolding num_step
 whole-returns-in_default-clause-value t c =
     rw (num_is _ c.args.l.now, ← c.num_triple-triple.ensures.value, ← c.units-scaled.ensures.value)
-    (sym (kept _ _ c.in_default.in_default-own.keys2))
+    (sym (kept _ _ (opened c.in_default.in_default-own.keys2)))
 
 pub whole-returns-in_default-clause-read : goal.whole-returns-in_default-clause-read
 whole-returns-in_default-clause-read t c = (promised (whole-returns-in_default-clause-value t c) (num_read _ _)).1
@@ -36,7 +37,7 @@ whole-returns-in_default-unit-clause-value t c =
       c.in-Nothing.is,
       ← c.found.ensures,
       ← c.units-unit.ensures.value,
-    ) (sym (kept _ _ c.in_default-unit.in_default-unit-own.keys2))
+    ) (sym (kept _ _ (opened c.in_default-unit.in_default-unit-own.keys2)))
 
 pub whole-returns-in_default-unit-clause-read : goal.whole-returns-in_default-unit-clause-read
 whole-returns-in_default-unit-clause-read t c = (promised (whole-returns-in_default-unit-clause-value t c) (num_read _ _)).1
@@ -52,7 +53,7 @@ whole-returns-in_default-triple-clause-value t c =
       ← c.found.ensures,
       ← c.units-unit.ensures.value,
       c.in-Nothing-unit.is,
-    ) (sym (kept _ _ c.in_default-triple.in_default-triple-own.keys2))
+    ) (sym (kept _ _ (opened c.in_default-triple.in_default-triple-own.keys2)))
 
 pub whole-returns-in_default-triple-clause-read : goal.whole-returns-in_default-triple-clause-read
 whole-returns-in_default-triple-clause-read t c = (promised (whole-returns-in_default-triple-clause-value t c) (num_read _ _)).1
@@ -78,7 +79,7 @@ whole-returns-clause-read t c = (promised (whole-returns-clause-value t c) (num_
 
 pub units-returns-in_default-clause-value : goal.units-returns-in_default-clause-value
 unfolding units_of
-units-returns-in_default-clause-value t c = rw (none c.in_default.in_default-own.keys2 c.requires)
+units-returns-in_default-clause-value t c = rw (none (opened c.in_default.in_default-own.keys2) c.requires)
 
 pub units-returns-in_default-clause-read : goal.units-returns-in_default-clause-read
 units-returns-in_default-clause-read t c =
@@ -94,7 +95,7 @@ units-returns-in_default-num_triple_unit-clause-value t c =
       c.in-Is.is,
       ← c.rest.ensures.result_value,
       ← c.num_triple_unit.ensures.value,
-      none c.in_default-num_triple_unit.in_default-num_triple_unit-own.keys2 c.num_triple_unit.ensures.taken,
+      none (opened c.in_default-num_triple_unit.in_default-num_triple_unit-own.keys2) c.num_triple_unit.ensures.taken,
     )
 
 pub units-returns-in_default-num_triple_unit-clause-read : goal.units-returns-in_default-num_triple_unit-clause-read

@@ -1,6 +1,7 @@
 use Prim.Native.Nat.{◌≤◌, ◌<◌}
 use native.Mathlib.Omega.{arith}
 use lib.ListN.{length}
+use borrow.Enum.Refused.{opened}
 use Rattle.numbers.specs.Numbers.{tail_of, hundreds_of}
 use Rattle.numbers.proofs.NumberAnswers.{none, found, most, promised}
 use Rattle.numbers.proofs.LexemeAt.{there}
@@ -20,7 +21,7 @@ seen c =
 pub returns-in_default-clause-value : goal.returns-in_default-clause-value
 unfolding hundreds_of
 returns-in_default-clause-value c =
-    rw (none c.in_default.in_default-own.keys2 c.requires)
+    rw (none (opened c.in_default.in_default-own.keys2) c.requires)
 
 pub returns-in_default-clause-taken : goal.returns-in_default-clause-taken
 returns-in_default-clause-taken c =

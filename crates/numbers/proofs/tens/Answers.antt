@@ -1,5 +1,6 @@
 use mathlib.Core.Path.{sym}
 use borrow.Author.Tests.{eq-eqb, ne_eqb}
+use borrow.Enum.Refused.{opened}
 use Rattle.numbers.specs.Numbers.{tens_of}
 use Rattle.numbers.proofs.NumberAnswers.{passed, promised}
 use Rattle.numbers.proofs.NumberBounds.{tens_taken}
@@ -9,7 +10,7 @@ pub returns-in_default : goal.returns-in_default
 unfolding tens_of
 returns-in_default c =
     let all = promised
-    (rw (← c.take_if-tokens.ensures.value, ← c.word-a.ensures) (sym (passed _ _ c.in_default.in_default-own.keys2)))
+    (rw (← c.take_if-tokens.ensures.value, ← c.word-a.ensures) (sym (passed _ _ (opened c.in_default.in_default-own.keys2))))
     (tens_taken _) in record { value = all.0; taken = all.1 }
 
 pub returns-then-n-eq0 : goal.returns-then-n-eq0
