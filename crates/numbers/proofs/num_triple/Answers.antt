@@ -1,5 +1,6 @@
 use mathlib.Core.Path.{sym}
 use native.Mathlib.Omega.{arith}
+use borrow.Enum.Refused.{opened}
 use Rattle.numbers.specs.Numbers.{num_triple_of}
 use Rattle.numbers.proofs.NumberAnswers.{kept, wider, promised}
 use Rattle.numbers.proofs.NumberBounds.{num_triple_taken}
@@ -14,7 +15,7 @@ returns-in_default c =
     let ones = c.ones in
     let hundreds = c.hundreds-a in
     let arm = c.in_default.in_default-own in
-    let all = promised (rw (← ones.ensures.value, ← hundreds.ensures.value) (sym (kept _ _ arm.keys2))) (num_triple_taken _ _) in record { value = all.0; taken = all.1 }
+    let all = promised (rw (← ones.ensures.value, ← hundreds.ensures.value) (sym (kept _ _ (opened arm.keys2)))) (num_triple_taken _ _) in record { value = all.0; taken = all.1 }
 
 pub hundreds-b-requires : goal.hundreds-b-requires
 hundreds-b-requires c = rw c.found.ensures (record { bounds = omega arith })
@@ -33,7 +34,7 @@ returns-in_default-b c =
       c.in-Nothing.is,
       ← c.found.ensures,
       ← hundreds2.ensures.value,
-    ) (sym (kept _ _ arm2.keys2)))
+    ) (sym (kept _ _ (opened arm2.keys2))))
     (num_triple_taken _ _) in record { value = all.0; taken = all.1 }
 
 pub returns-in_default-c : goal.returns-in_default-c
@@ -53,7 +54,7 @@ returns-in_default-c c =
       ← hundreds2.ensures.value,
       c.in-Nothing-b.is,
       ← num-double.ensures.value,
-    ) (sym (kept _ _ arm3.keys2))) (num_triple_taken _ _) in record { value = all.0; taken = all.1 }
+    ) (sym (kept _ _ (opened arm3.keys2)))) (num_triple_taken _ _) in record { value = all.0; taken = all.1 }
 
 pub returns : goal.returns
 unfolding num_triple_of

@@ -2,6 +2,7 @@ use Prim.Native.Nat.{◌+◌, ◌≤◌}
 use lib.ListN.{length}
 use native.Mathlib.Nat.{add-zero}
 use native.Mathlib.Omega.{arith}
+use borrow.Enum.Refused.{opened}
 use Rattle.numbers.specs.Numbers.{tens_ones_of}
 use Rattle.numbers.proofs.NumberAnswers.{none, found, promised}
 use Rattle.numbers.proofs.NumberBounds.{tens_ones_taken}
@@ -24,7 +25,7 @@ unfolding tens_ones_of
 returns-in_default-clause-value c =
     let tens = c.tens in
     let arm = c.in_default.in_default-own in
-    rw (← tens.ensures.value, none arm.keys2 tens.ensures.taken)
+    rw (← tens.ensures.value, none (opened arm.keys2) tens.ensures.taken)
 
 pub returns-in_default-clause-taken : goal.returns-in_default-clause-taken
 returns-in_default-clause-taken c =
@@ -49,7 +50,7 @@ returns-in_default-ones-clause-value c =
       ← take-if.ensures.value,
       ← rest.ensures.result_value,
       ← ones.ensures.value,
-      none arm2.keys2 ones.ensures.taken,
+      none (opened arm2.keys2) ones.ensures.taken,
       add-zero c.in-Is.n.value,
       add-zero,
       ← c.found.ensures,
