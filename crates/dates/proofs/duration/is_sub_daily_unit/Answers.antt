@@ -7,8 +7,8 @@ use Rattle.dates.specs.contracts.units.Unit.{the_type}
 use Rattle.dates.specs.declared.units.Unit.{Unit}
 use Rattle.dates.specs.declared.units.Unit.TheVariants.{Day, Week, Hour, Minute, Month, Year}
 use Rattle.dates.specs.Durations.{is_sub_daily_unit}
-use Rattle.dates.proofs.duration.is_sub_daily_unit.Statement.{statement}
-use Rattle.dates.proofs.duration.is_sub_daily_unit.Tie as tie
+use borrow.Enum.Refused.{opened}
+use Rattle.dates.proofs.duration.is_sub_daily_unit.Goals as goal
 
 -- the units of either arm, by their numbers
 daily : (u : Unit) → OneOf (0 ∷ 1 ∷ 4 ∷ 5 ∷ []) (tag_of the_type u) → is_sub_daily_unit u ≡ false
@@ -27,11 +27,8 @@ sub-daily Year k = absurd (miss (2 ∷ 3 ∷ []) 5 tt k)
 sub-daily Hour k = refl
 sub-daily Minute k = refl
 
-returns : tie.Need-returns
-returns c = sym (daily c.before.args.u c.match.keys1)
+pub returns-in-Day : goal.returns-in-Day
+returns-in-Day c = sym (daily c.args.u (opened c.in-Day.in-Day-own.keys1))
 
-returns_2 : tie.Need-returns-2
-returns_2 c = sym (sub-daily c.before.args.u c.match.keys2)
-
-pub is_sub_daily_unit_spec : {M : Type 1} → statement M
-is_sub_daily_unit_spec = tie.close (tie.spec returns returns_2)
+pub returns-in-Hour : goal.returns-in-Hour
+returns-in-Hour c = sym (sub-daily c.args.u c.in-Hour.in-Hour-own.keys2)

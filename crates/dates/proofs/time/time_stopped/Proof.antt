@@ -1,7 +1,0 @@
-use Rattle.dates.proofs.Parsed.{number_arm, dropped}
-use borrow.Author.Rules.{rules}
-use Rattle.dates.proofs.time.time_stopped.Statement.{statement}
-use Rattle.dates.proofs.time.time_stopped.Tie as tie
-
-pub time_stopped_spec : {M : Type 1} → statement M
-time_stopped_spec = tie.close (tie.spec (λ c. search rules) (λ c. rw (dropped (number_arm _ c.match.keys2))) (λ c. search rules))

@@ -1,0 +1,31 @@
+use native.Mathlib.Omega.{arith}
+use Rattle.numbers.proofs.LexemeAt.{within_bounds}
+use Rattle.dates.specs.Units.{weekday_of}
+use Rattle.dates.proofs.Parsed.{promised}
+use Rattle.dates.proofs.LexemesTaken.{weekday_took}
+use borrow.Author.Rules.{rules}
+use Rattle.dates.proofs.units.read_weekday.Goals as goal
+
+pub get-x-requires : goal.get-x-requires
+unfolding weekday_of
+get-x-requires c = search rules
+
+pub is_within-requires : goal.is_within-requires
+unfolding weekday_of
+is_within-requires c = search rules
+
+pub overflow_sub-result : goal.overflow_sub-result
+unfolding weekday_of
+overflow_sub-result c = let b = within_bounds _ _ _ c.is_within.ensures c.if-is_within.true in omega arith
+
+pub overflow_cast-result : goal.overflow_cast-result
+unfolding weekday_of
+overflow_cast-result c = let b = within_bounds _ _ _ c.is_within.ensures c.if-is_within.true in omega arith
+
+pub returns-then-is_within : goal.returns-then-is_within
+unfolding weekday_of
+returns-then-is_within c = let all = promised (rw (← c.get-x.ensures.value, ← c.is_within.ensures, c.if-is_within.true)) (weekday_took _) in record { result_value = all.0; took = all.1 }
+
+pub returns : goal.returns
+unfolding weekday_of
+returns c = let all = promised (rw (← c.get-x.ensures.value, ← c.is_within.ensures, c.if-is_within.false)) (weekday_took _) in record { result_value = all.0; took = all.1 }
