@@ -10,8 +10,8 @@ use Rattle.expressions.specs.declared.expr.Expr.TheVariants.{Date, DateRelative,
 use Rattle.expressions.specs.declared.expr.Expr.TheVariants.{UnitRelative, RelativeWeekday, WeekdayRelative, WeekdayExpressionBefore}
 use Rattle.expressions.specs.declared.expr.Expr.TheVariants.{WeekdayExpressionAfter, Before, After, Weekday, Empty}
 use Rattle.expressions.specs.Shapes.{has_duration}
-use Rattle.expressions.proofs.expr.has_duration.Statement.{statement}
-use Rattle.expressions.proofs.expr.has_duration.Tie as tie
+use borrow.Enum.Refused.{opened}
+use Rattle.expressions.proofs.expr.has_duration.Goals as goal
 
 -- the numbers of the variants of each arm
 abbrev own : List ℕ
@@ -35,11 +35,8 @@ arm (After d) = (λ k. refl, λ k. absurd (miss bare 10 tt k))
 arm (Weekday w) = (λ k. absurd (miss own 11 tt k), λ k. refl)
 arm Empty = (λ k. absurd (miss own 12 tt k), λ k. refl)
 
-returns : tie.Need-returns
-returns c = sym ((arm c.before.args.e).0 c.match.keys1)
+pub returns-in-DateExpressionAfter : goal.returns-in-DateExpressionAfter
+returns-in-DateExpressionAfter c = sym ((arm c.args.e).0 c.in-DateExpressionAfter.in-DateExpressionAfter-own.keys1)
 
-returns_2 : tie.Need-returns-2
-returns_2 c = sym ((arm c.before.args.e).1 c.match.keys2)
-
-pub has_duration_spec : {M : Type 1} → statement M
-has_duration_spec = tie.close (tie.spec returns returns_2)
+pub returns-in_default : goal.returns-in_default
+returns-in_default c = sym ((arm c.args.e).1 (opened c.in_default.in_default-own.keys2))
