@@ -95,9 +95,9 @@ module _ {M : Type 1} {𝓤 : Ura M} (𝓛 : Logic 𝓤) where
 
   module _ (κs : Lfts 1) (d : Lexer) where
     -- what a reader owns is what its fields own
-    pub opened : ent 𝓤 (sem 𝓛 ((Held κs).own d (mach d ∷ []))) (sem 𝓛 (Fields κs d))
+    pub opened : ent 𝓤 (sem 𝓛 ((Held κs).own_val d (mach d ∷ []))) (sem 𝓛 (Fields κs d))
     opened =
-        qed 𝓛 (‵ ((Held κs).own d (mach d ∷ [])) ∷ []) ∵
+        qed 𝓛 (‵ ((Held κs).own_val d (mach d ∷ [])) ∷ []) ∵
         use1 𝓛 (given (mach d ∷ [] ≡ mach d ∷ []) (‵ (Fields κs d)))
         (own_open 𝓛 (T.the_type (α κs)) (T'.the_laws (α κs)) (d.reading, (d.phrase, (d.at, tt))) (mach d)) $ learn ! (λ _. done !)
 

@@ -48,9 +48,9 @@ module _ {M : Type 1} {𝓤 : Ura M} (𝓛 : Logic 𝓤) (ρ : Slot 1) (E : Prom
     Post = (walk_of 𝓛 (Outer ρ) (stayed ρ) (outer 𝓤 ρ E)).post bound
 
     pub exits : (r : (ρ.row (κ, tt)).Denot) (u : Val)
-        → ent 𝓤 (⋆ 𝓛 (‵ ((ρ.row (κ, tt)).own r (u ∷ [])) ∷ raw (toks 𝓛 1 (κ, tt) (q, tt)) ∷ raw (E (κ, tt) d r) ∷ [])) (Post u)
+        → ent 𝓤 (⋆ 𝓛 (‵ ((ρ.row (κ, tt)).own_val r (u ∷ [])) ∷ raw (toks 𝓛 1 (κ, tt) (q, tt)) ∷ raw (E (κ, tt) d r) ∷ [])) (Post u)
     exits r u =
-        qed 𝓛 (‵ ((ρ.row (κ, tt)).own r (u ∷ [])) ∷ raw (toks 𝓛 1 (κ, tt) (q, tt)) ∷ raw (E (κ, tt) d r) ∷ []) ∵
+        qed 𝓛 (‵ ((ρ.row (κ, tt)).own_val r (u ∷ [])) ∷ raw (toks 𝓛 1 (κ, tt) (q, tt)) ∷ raw (E (κ, tt) d r) ∷ []) ∵
         suffices ! _ (ends_at 𝓛 (Outer ρ) (stayed ρ) (outer 𝓤 ρ E) bound u r (tt, tt) (tt, tt)) $
         nothing ! $ nothing ! $ fjoin ! $ move ! (0 ∷ 1 ∷ []) $ join ! $ move ! (1 ∷ 0 ∷ []) $ join ! $ frame ! $ done !
 

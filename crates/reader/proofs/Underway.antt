@@ -1,9 +1,9 @@
 -- What is gathered after each turn of a reading. Assumes nothing.
-use mathlib.Core.Path.{◌≡◌, refl, ap, sym, ◌∙◌}
-use mathlib.Core.Bool.{true, false, false≢true}
+use mathlib.Core.Path.{◌≡◌, refl, ap, sym, subst, ◌∙◌}
+use mathlib.Core.Bool.{true, false, cond, false≢true}
 use mathlib.Core.List.{List, [], ◌∷◌, ◌++◌, append-nil, append_assoc}
 use mathlib.Core.Logic.{◌⊎◌, inl, inr}
-use Prim.Native.Nat.{ℕ, zero, suc, ◌+◌, ◌-◌, ◌<◌}
+use Prim.Native.Nat.{ℕ, zero, suc, ◌+◌, ◌-◌, ◌<◌, ◌≤◌}
 use native.Mathlib.Omega.{arith}
 use borrow.Author.Tests.{le-leb, lt-leb}
 use lib.ListN.{length, length-append, replicate}
@@ -108,3 +108,29 @@ module _ {A : Lexed} {F : List Item} {g : Gathered} {r : Lexer} {t : ℕ} where
   pub stopped : Underway A F g r t → g.going ≡ false → g ≡ gathered_of A F
   stopped (inl e) off = e
   stopped (inr h) off = absurd (false≢true (sym off ∙ ap (λ (x : Gathered). x.going) h.gathered))
+
+-- the turns to go at most while it goes on, by how many lexemes are gathered
+abbrev pub turns_of : Gathered → ℕ
+turns_of g = 65 - g.count
+
+-- and none once it is over
+abbrev pub turns_left : Gathered → ℕ
+turns_left g = cond g.going (turns_of g) 0
+
+module _ {A : Lexed} {F : List Item} {g : Gathered} {r : Lexer} {t : ℕ} where
+  -- where it goes on, so many are to go
+  counts : Going A F g r t → turns_of g ≡ t
+  counts h = let n : g.count ≡ length h.done = ap (λ (x : Gathered). x.count) h.gathered in omega (arith, h.room, h.turns)
+
+  -- the count of the turns may be read off what is gathered
+  pub counted : Underway A F g r t → Underway A F g r (turns_of g)
+  counted (inl e) = inl e
+  counted (inr h) = inr (subst (Going A F g r) (sym (counts h)) h)
+
+  -- no more are left than there are to go
+  pub at_most : Underway A F g r t → turns_left g ≤ t
+  at_most (inl e) = let off : turns_left g ≡ 0 = ap turns_left e in omega arith
+  at_most (inr h) =
+      let on : g.going ≡ true = ap (λ (x : Gathered). x.going) h.gathered in
+      let n : turns_left g ≡ turns_of g = rw on in
+      omega (arith, counts h)

@@ -69,12 +69,12 @@ module _ {M : Type 1} {𝓤 : Ura M} {𝓛 : Logic 𝓤} {K : Type 0} {Γ : List
   pub answered : K → Soaks G → (T : Ended) (c : Clauses 𝓤 T) (y : (Promise 𝓛 T c).Ghost) (u : Val) (E : Res T.signature y.0.0 → SProp 𝓤)
       → Gives 𝓛 T c y E
       → let R = type_at T.signature.result y.0.0 in
-      ((r : Res T.signature y.0.0) → Is R r (u ∷ []) → Seq K 𝓛 (‵ (R.own r (u ∷ [])) ∷ raw (Tokens 𝓛 T c y) ∷ raw (E r) ∷ Γ) G)
+      ((r : Res T.signature y.0.0) → Is R r (u ∷ []) → Seq K 𝓛 (‵ (R.own_val r (u ∷ [])) ∷ raw (Tokens 𝓛 T c y) ∷ raw (E r) ∷ Γ) G)
       → Seq K 𝓛 (raw ((Promise 𝓛 T c).post y u) ∷ Γ) G
   answered t z T c y u E gives k =
       let R = type_at T.signature.result y.0.0 in
       use1 𝓛 (later (some (λ (r : Res T.signature y.0.0).
-      (raw (Tokens 𝓛 T c y) ⊛ ‵ (R.own r (u ∷ []))) ⊛ raw (ensured 𝓛 T c y.0.0 y.0.3 y.1 r)))) (id⊢ 𝓤 _) $
+      (raw (Tokens 𝓛 T c y) ⊛ ‵ (R.own_val r (u ∷ []))) ⊛ raw (ensured 𝓛 T c y.0.0 y.0.3 y.1 r)))) (id⊢ 𝓤 _) $
       await t z $ pick t (λ r. split t $ move t (1 ∷ []) $
       use1 𝓛 (raw (E r)) (ex_e 𝓤 _ (λ ws. via 𝓤 _ (snd∗ 𝓤 (sem 𝓛 (lasts T y.0.0 y.0.3 ws)) _) (gives r ws))) $
       move t (1 ∷ []) $ split t $ move t (1 ∷ []) $ peeks t R (Is R) (shows 𝓛 R) r (u ∷ []) (λ is. k r is))
@@ -83,7 +83,7 @@ module _ {M : Type 1} {𝓤 : Ura M} {𝓛 : Logic 𝓤} {K : Type 0} {Γ : List
   pub told : K → Soaks G → (T : Ended) (c : Clauses 𝓤 T) (y : (Promise 𝓛 T c).Ghost) (u : Val) (φ : Res T.signature y.0.0 → Type 0)
       → Gives 𝓛 T c y (λ r. fact 𝓤 (φ r))
       → let R = type_at T.signature.result y.0.0 in
-      ((r : Res T.signature y.0.0) → φ r → Is R r (u ∷ []) → Seq K 𝓛 (‵ (R.own r (u ∷ [])) ∷ raw (Tokens 𝓛 T c y) ∷ Γ) G)
+      ((r : Res T.signature y.0.0) → φ r → Is R r (u ∷ []) → Seq K 𝓛 (‵ (R.own_val r (u ∷ [])) ∷ raw (Tokens 𝓛 T c y) ∷ Γ) G)
       → Seq K 𝓛 (raw ((Promise 𝓛 T c).post y u) ∷ Γ) G
   told t z T c y u φ gives k =
       answered t z T c y u (λ r. fact 𝓤 (φ r)) gives (λ r is. move t (2 ∷ []) $ heard t (φ r) (λ e. k r e is))

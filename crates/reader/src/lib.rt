@@ -18,7 +18,7 @@ mod gather;
 mod place;
 
 // One of the readings, a phrase, and the place from which it is read on.
-#[derive(Drop)]
+#[derive(Clone, Copy)]
 pub struct Lexer<'a> {
     reading: Reading,
     phrase: &'a [u8],
