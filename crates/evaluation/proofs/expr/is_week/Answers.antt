@@ -7,9 +7,8 @@ use Rattle.dates.specs.declared.units.Unit.{Unit}
 use Rattle.dates.specs.declared.units.Unit.TheVariants.{Day, Week, Hour, Minute, Month, Year}
 use Rattle.dates.specs.contracts.units.Unit.{the_type}
 use Rattle.evaluation.specs.Evaluate.{is_week}
-use borrow.Author.Rules.{rules}
-use Rattle.evaluation.proofs.expr.is_week.Statement.{statement}
-use Rattle.evaluation.proofs.expr.is_week.Tie as tie
+use borrow.Enum.Refused.{opened}
+use Rattle.evaluation.proofs.expr.is_week.Goals as goal
 
 -- every other unit, by its number
 other : (u : Unit) → OneOf (0 ∷ 2 ∷ 3 ∷ 4 ∷ 5 ∷ []) (tag_of the_type u) → is_week u ≡ false
@@ -20,14 +19,5 @@ other Minute k = refl
 other Month k = refl
 other Year k = refl
 
-enum_told : tie.Need-enum-told
-enum_told c = search rules
-
-returns : tie.Need-returns
-returns c = search rules
-
-returns_2 : tie.Need-returns-2
-returns_2 c = sym (other c.before.args.unit c.match.keys2)
-
-pub is_week_spec : {M : Type 1} → statement M
-is_week_spec = tie.close (tie.spec enum_told returns returns_2)
+pub returns-in_default : goal.returns-in_default
+returns-in_default c = sym (other c.args.unit (opened c.in_default.in_default-own.keys2))

@@ -8,9 +8,8 @@ use Rattle.dates.specs.declared.date.Date.TheVariants.{YearMonthNumDay, MonthNum
 use Rattle.dates.specs.declared.date.Date.TheVariants.{MonthNumDay, MonthDay, Today, Tomorrow, Yesterday, Empty}
 use Rattle.dates.specs.contracts.date.Date.{the_type}
 use Rattle.evaluation.specs.Evaluate.{is_month_and_day}
-use borrow.Author.Rules.{rules}
-use Rattle.evaluation.proofs.expr.is_month_and_day.Statement.{statement}
-use Rattle.evaluation.proofs.expr.is_month_and_day.Tie as tie
+use borrow.Enum.Refused.{opened}
+use Rattle.evaluation.proofs.expr.is_month_and_day.Goals as goal
 
 -- every other date, by its number
 other : (d : Date) → OneOf (0 ∷ 1 ∷ 2 ∷ 3 ∷ 6 ∷ 7 ∷ 8 ∷ 9 ∷ []) (tag_of the_type d) → is_month_and_day d ≡ false
@@ -25,20 +24,5 @@ other Tomorrow k = refl
 other Yesterday k = refl
 other Empty k = refl
 
-enum_told : tie.Need-enum-told
-enum_told c = search rules
-
-enum-told-2 : tie.Need-enum-told-2
-enum-told-2 c = search rules
-
-returns : tie.Need-returns
-returns c = search rules
-
-returns_2 : tie.Need-returns-2
-returns_2 c = search rules
-
-returns-3 : tie.Need-returns-3
-returns-3 c = sym (other c.before.args.date c.match.keys3)
-
-pub is_month_and_day_spec : {M : Type 1} → statement M
-is_month_and_day_spec = tie.close (tie.spec enum_told enum-told-2 returns returns_2 returns-3)
+pub returns-in_default : goal.returns-in_default
+returns-in_default c = sym (other c.args.date (opened c.in_default.in_default-own.keys3))
