@@ -62,7 +62,7 @@ joined_small (lengths back a b e f j) g h =
     rw j (more {s = minutes back (a + b)} (record { numbers = tt; minutes = omega arith }) none)
 
 -- one step more
-pub small_add : {ss : List Step} {s : Step} {m k : ℕ} → All (SmallStep m) ss → SmallStep k s → All (SmallStep (m + k)) (add_step ss s)
+pub small_add : {m : ℕ} {ss : List Step} {s : Step} {k : ℕ} → All (SmallStep m) ss → SmallStep k s → All (SmallStep (m + k)) (add_step ss s)
 small_add none h = more (smaller (omega arith) h) none
 small_add (more g none) h = joined_small (meeting _ _) g h
 small_add (more g (more i hs)) h = more (smaller (omega arith) g) (small_add (more i hs) h)
