@@ -97,7 +97,7 @@ date_expr_at (weekday_relative w s u) t = weekday_relative_at w s u t
 date_expr_at (weekday w) t = forward_to (w % 7) t
 date_expr_at empty t = moment t
 
--- `DateTime::to_chrono` in a world, at its now n: "date, time of day, then outer durations, innermost first"; "Steps ahead of a time_of_day_lem
+-- `DateTime::to_chrono` in a world, at its now n: "date, time of day, then outer durations, innermost first"; "Steps ahead of a time-of-day
 -- step act on civil date and time alone"
 module _ {S : Type 0} (w : World S) where
   unfoldable pub evaluate_in : DateTime → S → Reach S

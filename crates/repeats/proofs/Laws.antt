@@ -132,7 +132,7 @@ rows_front t l before h =
     let size = rows_length t l in
     rw (sets-eq (rows t l) before 0 (omega arith), zero-add, size)
 
--- UNTIL a date_time_lem: a day is below the limit exactly if the start's time of day on it is not after that
+-- UNTIL a date-time: a day is below the limit exactly if the start's time of day on it is not after that
 module _ (t u : Moment) (v : IsMoment t) (w : IsMoment u) (n : ℕ) where
   instant_at_lem : instant_of (at_day n t) ≡ 86400000 * n + time_of_day t
   instant_at_lem = rw (day_date n) (omega arith)

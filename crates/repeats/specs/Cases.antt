@@ -18,7 +18,7 @@ use Rattle.repeats.specs.Listing.{rows, list_of}
 abbrev rule : Freq → ℕ → Bound → ℕ → ℕ → Rule
 rule f i b w d = record { freq = f; interval = i; bound = b; days = w; day = d }
 
--- a date_time_lem of UNTIL
+-- a date-time of UNTIL
 abbrev until : ℕ → ℕ → ℕ → ℕ → ℕ → ℕ → Bound
 until y m d h mi s = UntilMoment (moment_of y m d h mi s 0)
 
@@ -48,7 +48,7 @@ listings =
     ∷ lists (rule Weekly 2 (UntilDay 2026 3 1) 66 0) tuesday 6 (given [])
     -- without BYDAY the start's own weekday
     ∷ lists (rule Weekly 1 (UntilDay 2026 2 28) 0 0) tuesday 700 (given (day_number 2026 2 10 ∷ day_number 2026 2 17 ∷ day_number 2026 2 24 ∷ []))
-    -- UNTIL a date has that day; a date_time_lem has it if the start's time of day is not after it
+    -- UNTIL a date has that day; a date-time has it if the start's time of day is not after it
     ∷ lists (rule Daily 1 (UntilDay 2026 2 12) 0 0) tuesday 700 (given (day_number 2026 2 10 ∷ day_number 2026 2 11 ∷ day_number 2026 2 12 ∷ []))
     ∷ lists (rule Daily 1 (until 2026 2 12 9 30 15) 0 0) tuesday 700 (given (day_number 2026 2 10 ∷ day_number 2026 2 11 ∷ []))
     ∷ lists (rule Daily 1 (until 2026 2 12 9 30 16) 0 0) tuesday 700 (given (day_number 2026 2 10 ∷ day_number 2026 2 11 ∷ day_number 2026 2 12 ∷ []))

@@ -53,7 +53,7 @@ repeat_of r t = repeat_by r.freq r t
 abbrev pub time_of_day : Moment → ℕ
 time_of_day t = 1000 * (60 * (60 * t.hour + t.minute) + t.second) + t.millisecond
 
--- the first day too late: "UNTIL is a civil date, that day included, or a date_time_lem"; "the list ends with year 9999"
+-- the first day too late: "UNTIL is a civil date, that day included, or a date-time"; "the list ends with year 9999"
 abbrev pub limit_of : Bound → Moment → ℕ
 limit_of Endless t = days
 limit_of (Count n) t = days

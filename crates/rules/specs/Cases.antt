@@ -90,7 +90,7 @@ texts =
     ∷ refuses (bytes_of "FREQ=DAILY;UNTIL=020260101")
     ∷ refuses (bytes_of "FREQ=DAILY;UNTIL=2026-01-01")
     ∷ refuses (bytes_of "FREQ=DAILY;UNTIL=")
-    -- and as a date_time_lem that exists, without "Z"
+    -- and as a date-time that exists, without "Z"
     ∷ reads (bytes_of "FREQ=DAILY;UNTIL=20240229T235959") (rule Daily 1 (UntilMoment (moment_of 2024 2 29 23 59 59 0)) 0 0)
     ∷ reads (bytes_of "FREQ=DAILY;UNTIL=00010101t000000") (rule Daily 1 (UntilMoment (moment_of 1 1 1 0 0 0 0)) 0 0)
     ∷ refuses (bytes_of "FREQ=DAILY;UNTIL=20240229T235960")

@@ -6,7 +6,7 @@ use Rattle.rules.specs.declared.Bound.{Bound}
 use Rattle.rules.specs.declared.Bound.TheVariants.{Endless, Count, UntilDay, UntilMoment}
 use Rattle.rules.specs.declared.Rule.{Rule}
 
--- "COUNT from 1 to 4,294,967,295"; UNTIL is a civil date or date_time_lem of the calendar
+-- "COUNT from 1 to 4,294,967,295"; UNTIL is a civil date or date-time of the calendar
 abbrev pub IsBound : Bound → Type 0
 IsBound Endless = Unit
 IsBound (Count n) = 1 ≤ n

@@ -16,15 +16,15 @@ bound_of n = cond (eqb n 0) Endless (Count n)
 unfoldable pub count_in : List ℕ → Bound
 count_in s = bound_of (number_to 4294967295 s)
 
--- "date_fullyear = 4DIGIT" at the front of a text
+-- "date-fullyear = 4DIGIT" at the front of a text
 abbrev pub year_at : List ℕ → ℕ
 year_at s = 100 * two_at s 0 + two_at s 2
 
--- "date-value = date_fullyear date_month date_mday" (section 3.3.4), a date of the years 1 to 9999
+-- "date-value = date-fullyear date-month date-mday" (section 3.3.4), a date of the years 1 to 9999
 abbrev pub day_in : List ℕ → Bound
 day_in s = cond (is_date (year_at s) (two_at s 4) (two_at s 6)) (UntilDay (year_at s) (two_at s 4) (two_at s 6)) Endless
 
--- "date_time_lem = date "T" time" (section 3.3.5), "time = time_hour time_minute time_second" (section 3.3.12)
+-- "date-time = date "T" time" (section 3.3.5), "time = time-hour time-minute time-second" (section 3.3.12)
 abbrev pub moment_at : List ℕ → Moment
 moment_at s = moment_of (year_at s) (two_at s 4) (two_at s 6) (two_at s 9) (two_at s 11) (two_at s 13) 0
 
@@ -32,6 +32,6 @@ moment_at s = moment_of (year_at s) (two_at s 4) (two_at s 6) (two_at s 9) (two_
 abbrev pub moment_in : List ℕ → Bound
 moment_in s = cond (is_moment (moment_at s)) (UntilMoment (moment_at s)) Endless
 
--- "UNTIL is a civil date, that day included, or a date_time_lem without "Z""
+-- "UNTIL is a civil date, that day included, or a date-time without "Z""
 unfoldable pub until_in : List ℕ → Bound
 until_in s = cond (of_form (bytes_of "00000000") s) (day_in s) (cond (of_form (bytes_of "00000000T000000") s) (moment_in s) Endless)

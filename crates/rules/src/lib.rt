@@ -16,7 +16,7 @@ pub enum Freq {
     Monthly,
 }
 
-// COUNT, or UNTIL as a civil date, that day included, or as a civil date_time_lem, or neither.
+// COUNT, or UNTIL as a civil date, that day included, or as a civil date-time, or neither.
 #[derive(Clone, Copy)]
 pub enum Bound {
     Endless,

@@ -150,7 +150,7 @@ fn day_in(s: &[u8]) -> Bound
     Bound::Endless
 }
 
-// The numbers of a date_time_lem in their places.
+// The numbers of a date-time in their places.
 fn moment_at(s: &[u8]) -> Moment
     requires { 15 ≤ length s.now }
     ensures { result ≡ moment_at s.now }
@@ -159,7 +159,7 @@ fn moment_at(s: &[u8]) -> Moment
     date.with_time(two(s, 9), two(s, 11), two(s, 13), 0)
 }
 
-// A date_time_lem as UNTIL, if it exists.
+// A date-time as UNTIL, if it exists.
 fn moment_in(s: &[u8]) -> Bound
     requires { 15 ≤ length s.now }
     ensures { result ≡ moment_in s.now }

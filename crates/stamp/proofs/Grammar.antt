@@ -13,7 +13,7 @@ use Rattle.digits.specs.Bytes.{bytes_of}
 use Rattle.digits.specs.Forms.{of_form}
 use Rattle.digits.proofs.Forms.{form_length, form_parts}
 use Rattle.calendar.specs.Fixed.{moment_form}
-use Rattle.stamp.specs.Grammar.{Rule, date_time_lem, is_of}
+use Rattle.stamp.specs.Grammar.{Rule, date_time, is_of}
 use Rattle.stamp.specs.Stamps.{offset_place, fraction_at}
 
 -- the form of a fraction: none, or one to three digits behind a point
@@ -67,7 +67,7 @@ with_fraction f more =
 -- the grammar by its four fractions
 pub by_fraction :
     (s : List ℕ) →
-    is_of date_time_lem s
+    is_of date_time s
     ≡ (is_of (with_fraction "" []) s || (is_of (with_fraction ".0" []) s || (is_of (with_fraction ".00" []) s || is_of (with_fraction ".000" []) s)))
 by_fraction s =
     let three = with_fraction ".000" [] in
@@ -114,12 +114,12 @@ module _ (s : List ℕ) where
       (split "+00:00" east_form (omega arith) long, (split "-00:00" west_form (omega arith) long, others)),
     )
 
-  pub parts : is_of date_time_lem s ≡ true → Parts s
+  pub parts : is_of date_time s ≡ true → Parts s
   parts =
       let three = with_fraction ".000" [] in
       let two = with_fraction ".00" three in
       let one = with_fraction ".0" two in
-      from_one date_time_lem s
+      from_one date_time s
       (with_fraction_lem "" no_fraction refl refl one
       (with_fraction_lem ".0" tenths refl refl two
       (with_fraction_lem ".00" hundredths refl refl three

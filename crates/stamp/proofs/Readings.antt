@@ -14,14 +14,14 @@ use Rattle.digits.specs.Digits.{two_at}
 use Rattle.calendar.specs.Moments.{IsMoment, is_day_of_month, is_date, is_time}
 use Rattle.calendar.proofs.Again.{year_most}
 use Rattle.calendar.proofs.Valid.{test_date, test_time}
-use Rattle.stamp.specs.Grammar.{date_time_lem, is_of}
+use Rattle.stamp.specs.Grammar.{date_time, is_of}
 use Rattle.stamp.specs.Stamps.{IsOffset, offset_place, has_numoffset, offset_in, offset_exists, moment_exists, stamp_in, stamp_of, zulu}
 use Rattle.stamp.specs.declared.Stamp.{Stamp}
 use Rattle.stamp.proofs.Grammar.{parts}
 
 -- a text of the grammar whose date, time and offset exist
 pub record Exists (s : List ℕ) : Type 0 where
-  pub form : is_of date_time_lem s ≡ true
+  pub form : is_of date_time s ≡ true
   pub moment : moment_exists (stamp_in s).moment ≡ true
   pub offset : offset_exists (drop (offset_place s) s) ≡ true
 
@@ -57,10 +57,10 @@ pub data Reading (s : List ℕ) (a : Answer Stamp) : Type 0 where
 pub one_of_three : (s : List ℕ) → Reading s (stamp_of s)
 unfolding stamp_of
 one_of_three s =
-    go (is_of date_time_lem s) refl (moment_exists (stamp_in s).moment) refl (offset_exists (drop (offset_place s) s)) refl
+    go (is_of date_time s) refl (moment_exists (stamp_in s).moment) refl (offset_exists (drop (offset_place s) s)) refl
     (eqb (stamp_in s).moment.year 0) refl
   where
-    go : (a : Bool) → is_of date_time_lem s ≡ a → (b : Bool) → moment_exists (stamp_in s).moment ≡ b →
+    go : (a : Bool) → is_of date_time s ≡ a → (b : Bool) → moment_exists (stamp_in s).moment ≡ b →
         (c : Bool) → offset_exists (drop (offset_place s) s) ≡ c → (d : Bool) → eqb (stamp_in s).moment.year 0 ≡ d →
         Reading s (cond a (cond (b && c) (cond d (refuse Outside 0 0) (given (stamp_in s))) (refuse NoStamp 0 0)) (refuse NoStamp 0 0))
     go true p true q true r true e = year_zero (record { form = p; moment = q; offset = r }) (eqb-true _ _ e) refl

@@ -23,7 +23,7 @@ use Rattle.calendar.specs.Fixed.{moment_form, moment_text, moment_in}
 use Rattle.calendar.specs.declared.moments.Moment.{Moment}
 use Rattle.calendar.proofs.ReadBack.{moment_fits, moment_back}
 use Rattle.calendar.proofs.Valid.{day_passes, time_passes}
-use Rattle.stamp.specs.Grammar.{Rule, form, behind, in_order, either, optional, time_secfrac, time_offset, date_time_lem, is_of}
+use Rattle.stamp.specs.Grammar.{Rule, form, behind, in_order, either, optional, time_secfrac, time_offset, date_time, is_of}
 use Rattle.stamp.specs.Stamps.{IsOffset, offset_place, fraction_at, millisecond_in, offset_in, offset_exists, stamp_at, stamp_in}
 use Rattle.stamp.specs.Stamps.{moment_exists, in_years, stamp_of, offset_text, fraction_text, stamp_text, written_of}
 use Rattle.stamp.specs.declared.Offset.{Offset}
@@ -43,7 +43,7 @@ rest_judged f s (g ∷ r) u h = rw (form_behind f s g u h, rest_judged f s r u h
 abbrev rests : Rule
 rests = in_order (optional time_secfrac ∷ time_offset ∷ [])
 
-behind_moment : (t : Moment) (u : List ℕ) → is_of date_time_lem (moment_text (code "T") t ++ u) ≡ is_of rests u
+behind_moment : (t : Moment) (u : List ℕ) → is_of date_time (moment_text (code "T") t ++ u) ≡ is_of rests u
 behind_moment t u = rest_judged (moment_form (code "T")) (moment_text (code "T") t) rests u (moment_fits (code "T") t)
 
 -- a fraction and an offset behind 19 bytes are found in their places

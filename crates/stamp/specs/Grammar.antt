@@ -31,57 +31,57 @@ either a b = a ++ b
 abbrev pub optional : Rule → Rule
 optional r = either (form "") r
 
--- "date_fullyear = 4DIGIT"
+-- "date-fullyear = 4DIGIT"
 abbrev pub date_fullyear : Rule
 date_fullyear = form "0000"
 
--- "date_month = 2DIGIT"
+-- "date-month = 2DIGIT"
 abbrev pub date_month : Rule
 date_month = form "00"
 
--- "date_mday = 2DIGIT"
+-- "date-mday = 2DIGIT"
 abbrev pub date_mday : Rule
 date_mday = form "00"
 
--- "time_hour = 2DIGIT"
+-- "time-hour = 2DIGIT"
 abbrev pub time_hour : Rule
 time_hour = form "00"
 
--- "time_minute = 2DIGIT"
+-- "time-minute = 2DIGIT"
 abbrev pub time_minute : Rule
 time_minute = form "00"
 
--- "time_second = 2DIGIT"
+-- "time-second = 2DIGIT"
 abbrev pub time_second : Rule
 time_second = form "00"
 
--- "time_secfrac = "." 1*DIGIT", of which "one to three" are taken
+-- "time-secfrac = "." 1*DIGIT", of which "one to three" are taken
 abbrev pub time_secfrac : Rule
 time_secfrac = either (form ".0") (either (form ".00") (form ".000"))
 
--- "time_numoffset = ("+" / "-") time_hour ":" time_minute"
+-- "time-numoffset = ("+" / "-") time-hour ":" time-minute"
 abbrev pub time_numoffset : Rule
 time_numoffset = in_order (either (form "+") (form "-") ∷ time_hour ∷ form ":" ∷ time_minute ∷ [])
 
--- "time_offset = "Z" / time_numoffset"
+-- "time-offset = "Z" / time-numoffset"
 abbrev pub time_offset : Rule
 time_offset = either (form "Z") time_numoffset
 
--- "partial_time = time_hour ":" time_minute ":" time_second [time_secfrac]"
+-- "partial-time = time-hour ":" time-minute ":" time-second [time-secfrac]"
 abbrev pub partial_time : Rule
 partial_time = in_order (time_hour ∷ form ":" ∷ time_minute ∷ form ":" ∷ time_second ∷ optional time_secfrac ∷ [])
 
--- "full_date = date_fullyear "-" date_month "-" date_mday"
+-- "full-date = date-fullyear "-" date-month "-" date-mday"
 abbrev pub full_date : Rule
 full_date = in_order (date_fullyear ∷ form "-" ∷ date_month ∷ form "-" ∷ date_mday ∷ [])
 
--- "full_time = partial_time time_offset"
+-- "full-time = partial-time time-offset"
 abbrev pub full_time : Rule
 full_time = in_order (partial_time ∷ time_offset ∷ [])
 
--- "date_time_lem = full_date "T" full_time"
-abbrev pub date_time_lem : Rule
-date_time_lem = in_order (full_date ∷ form "T" ∷ full_time ∷ [])
+-- "date-time = full-date "T" full-time"
+abbrev pub date_time : Rule
+date_time = in_order (full_date ∷ form "T" ∷ full_time ∷ [])
 
 -- a text is of a rule where it is of one of its alternatives, whole
 unfoldable pub is_of : Rule → List ℕ → Bool

@@ -9,7 +9,7 @@ use Rattle.digits.specs.Digits.{digits_of, marked, two_at}
 use Rattle.calendar.specs.Moments.{is_day_of_month, is_time, is_moment}
 use Rattle.calendar.specs.Fixed.{moment_text, moment_in}
 use Rattle.calendar.specs.declared.moments.Moment.{Moment}
-use Rattle.stamp.specs.Grammar.{date_time_lem, is_of}
+use Rattle.stamp.specs.Grammar.{date_time, is_of}
 use Rattle.stamp.specs.declared.Offset.{Offset}
 use Rattle.stamp.specs.declared.Stamp.{Stamp}
 use Rattle.stamp.specs.declared.read.StampRead.{StampRead}
@@ -55,7 +55,7 @@ stamp_at p s = record { moment = moment_in (millisecond_in (fraction_at p s)) s;
 abbrev pub stamp_in : List ℕ → Stamp
 stamp_in s = stamp_at (offset_place s) s
 
--- "time_hour ; 00-23", "time_minute ; 00-59" of the offset; "Z" has none
+-- "time-hour ; 00-23", "time-minute ; 00-59" of the offset; "Z" has none
 abbrev pub offset_exists : List ℕ → Bool
 offset_exists u = cond (has_numoffset u) (is_time (two_at u 1) (two_at u 4) 0 0) true
 
@@ -74,7 +74,7 @@ judged s =
 
 -- "14 for any other form"
 unfoldable pub stamp_of : List ℕ → Answer Stamp
-stamp_of s = cond (is_of date_time_lem s) (judged s) (refuse NoStamp 0 0)
+stamp_of s = cond (is_of date_time s) (judged s) (refuse NoStamp 0 0)
 
 -- the code's answer
 abbrev pub stamp_answer : StampRead → Answer Stamp

@@ -1,6 +1,6 @@
 // A text read as a stamp.
 ghost use Rattle.std.specs.Prelude.{◌≡◌, [], ◌∷◌, ◌≤◌, length};
-ghost use Rattle.stamp.specs.Grammar.{date_time_lem, is_of};
+ghost use Rattle.stamp.specs.Grammar.{date_time, is_of};
 ghost use Rattle.stamp.specs.Stamps.{offset_place, fraction_digit, millisecond_in, west_of, offset_in, offset_exists, stamp_at};
 ghost use Rattle.stamp.specs.Stamps.{moment_exists, in_years, judged, stamp_of, stamp_answer};
 
@@ -33,7 +33,7 @@ fn of_three(first: &[u8], second: &[u8], third: &[u8], text: &[u8]) -> bool
 
 // True for a text of the grammar: without a fraction, or with one of one to three digits, and with each of three offsets.
 fn is_date_time(text: &[u8]) -> bool
-    ensures { result ≡ is_of date_time_lem text.now }
+    ensures { result ≡ is_of date_time text.now }
 {
     if of_three(
         b"0000-00-00T00:00:00Z",

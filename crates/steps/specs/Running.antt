@@ -113,7 +113,7 @@ is_dated [] = false
 is_dated (s ∷ ss) = eqb (times_due s) 1
 
 module _ {S : Type 0} (w : World S) where
-  -- "Steps ahead of a time_of_day_lem step act on civil date and time alone": from the civil moment t. The time step's result is settled.
+  -- "Steps ahead of a time-of-day step act on civil date and time alone": from the civil moment t. The time step's result is settled.
   abbrev pub ahead_in : List Step → S → Moment → Reach S
   ahead_in [] n t = w.settle (moment t)
   ahead_in (From s ∷ ss) n t = and_then (start_at s t) (ahead_in ss n)
