@@ -63,7 +63,8 @@ duration_parts :
     {n : ℕ} {ss : List Step} (back : Bool) (d : Duration) → SmallDuration d → Parts n ss →
     Parts (n + size d) (add_duration listed back ss d)
 duration_parts back (part p) h hs = one_more hs (part_small back p h)
-duration_parts back (concat p d) h hs = wider (omega arith) (duration_parts back d h.1 (one_more hs (part_small back p h.0)))
+duration_parts {n = n} {ss = ss} back (concat p d) h hs =
+    wider (omega arith) (duration_parts {n = n + 1} {ss = add_step ss (By (move_of_part back p))} back d h.1 (one_more hs (part_small back p h.0)))
 
 -- a date rule, and a duration from it
 on_date : (d : Date) → SmallDate d → Parts 0 (From (OnDate d) ∷ [])

@@ -46,23 +46,34 @@ pub may_add :
     (0 < p.n) × (p.n < 24) × (minutes_of (last_of p) + minutes_of s < 2 ^ 64)
 may_add h s short few = (h.some, omega (arith, h.most), omega (arith, h.minutes))
 
+-- the bounds of a start alone
+pub within_start : {p : Plan} {k : ℕ} (s : Start) → p ≡ begun s → 0 < k → Within p k
+within_start s e h = rw e (record { some = omega arith; most = omega arith; minutes = omega arith })
+
+-- of one step more
+pub within_behind :
+    {p q : Plan} {k i : ℕ} → Within p k → (s : Step) → q ≡ add_to p s → minutes_of s ≤ widest → k < i → Within q i
+within_behind h s e short lt =
+    let g = grown s e h.some in
+    record { some = g.some; most = omega (arith, h.most); minutes = omega (arith, h.minutes) }
+
+-- the same plan in wider bounds
+pub within_wider : {p : Plan} {k i : ℕ} → Within p k → k ≤ i → Within p i
+within_wider h le = record { some = h.some; most = omega (arith, h.most); minutes = omega (arith, h.minutes) }
+
 -- what is promised of a start alone
 pub started : {p : Plan} {k : ℕ} (s : Start) → p ≡ begun s → 0 < k → (p ≡ begun s) × Within p k
-started s e h = (e, rw e (record { some = omega arith; most = omega arith; minutes = omega arith }))
+started s e h = (e, within_start s e h)
 
 -- of one step more
 pub behind :
     {p q x : Plan} {k i : ℕ} → (p ≡ x) × Within p k → (s : Step) → q ≡ add_to p s → minutes_of s ≤ widest → k < i →
     (q ≡ add_to x s) × Within q i
-behind h s e short lt =
-    let g = grown s e h.1.some in (
-      e ∙ ap (λ (p : Plan). add_to p s) h.0,
-      record { some = g.some; most = omega (arith, h.1.most); minutes = omega (arith, h.1.minutes) },
-    )
+behind h s e short lt = (e ∙ ap (λ (p : Plan). add_to p s) h.0, within_behind h.1 s e short lt)
 
 -- of a plan whose bound is wider
 pub widened : {p x : Plan} {k i : ℕ} → (p ≡ x) × Within p k → k ≤ i → (p ≡ x) × Within p i
-widened h le = (h.0, record { some = h.1.some; most = omega (arith, h.1.most); minutes = omega (arith, h.1.minutes) })
+widened h le = (h.0, within_wider h.1 le)
 
 -- a row of parts more
 pub within_row : {p q : Plan} {k i from to : ℕ} → Within p k → Longer p q from to → k + to ≡ i + from → Within q i
