@@ -1,7 +1,7 @@
 -- A board in the caller's own memory, and what each call makes of it and answers, whatever the memory holds.
 use Rattle.std.specs.Prelude.{ℕ, zero, suc, ◌+◌, ◌*◌, ◌/◌, ◌%◌, min, Bool, cond, not, ◌&&◌, List, [], ◌∷◌, map, eqb, ltb, length, get_or, take, drop, set, replicate}
 use Rattle.std.proofs.lemmas.List.Edits.{sets}
-use Rattle.std.specs.Borrow.{Bor}
+use Rattle.std.specs.Borrow.{MutBor}
 use denote.Triple.Both.{Both}
 use Rattle.refusals.specs.Table.{InvalidMoment, FullBoard, EmptySlot, NothingDue}
 use Rattle.refusals.specs.Answers.{Answer, given, refused, refuse, and_then, refusal_of}
@@ -36,11 +36,11 @@ abbrev pub memory : List ℕ → List ℕ → List ℕ → List ℕ → Memory
 memory ready lengths keys state = record { ready = ready; lengths = lengths; keys = keys; state = state }
 
 -- what a call finds in the four arrays that it is lent
-abbrev pub at_entry : {A B C D : Type 0} → Both (Bor (List ℕ)) A → Both (Bor (List ℕ)) B → Both (Bor (List ℕ)) C → Both (Bor (List ℕ)) D → Memory
+abbrev pub at_entry : {A B C D : Type 0} → Both (MutBor (List ℕ)) A → Both (MutBor (List ℕ)) B → Both (MutBor (List ℕ)) C → Both (MutBor (List ℕ)) D → Memory
 at_entry ready lengths keys state = memory ready.entry.now lengths.entry.now keys.entry.now state.entry.now
 
 -- and what it leaves there
-abbrev pub at_exit : {A B C D : Type 0} → Both A (Bor (List ℕ)) → Both B (Bor (List ℕ)) → Both C (Bor (List ℕ)) → Both D (Bor (List ℕ)) → Memory
+abbrev pub at_exit : {A B C D : Type 0} → Both A (MutBor (List ℕ)) → Both B (MutBor (List ℕ)) → Both C (MutBor (List ℕ)) → Both D (MutBor (List ℕ)) → Memory
 at_exit ready lengths keys state = memory ready.exit.now lengths.exit.now keys.exit.now state.exit.now
 
 -- how many keys there are, whatever the memory says

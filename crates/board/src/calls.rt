@@ -100,8 +100,8 @@ pub fn again(
     state: &mut [u32; 8],
     at: Moment,
 ) -> u32
-    ensures value { result ≡ (refusal_of (again_of (at_entry ready lengths keys state) at)).number }
-    ensures state_after { let m = at_entry ready lengths keys state in
+    ensures value { result ≡ (refusal_of (again_of (memory ready.now lengths.now keys.old state.old) at)).number }
+    ensures state_after { let m = memory ready.now lengths.now keys.old state.old in
         memory ready.now lengths.now keys.new state.new ≡ memory_after m (again_of m at) }
 {
     if at.valid() {
