@@ -1,6 +1,8 @@
 // The program `fuzzy`: a first line with now on standard input, then one phrase a line; a moment or a refusal a phrase on standard output.
 #![tactic(auto)]
 
-fn main() {
-    console::run();
+use std::io;
+
+fn main(rt: HostRuntime) -> io::Result<()> {
+    console::run(&rt)
 }

@@ -5,14 +5,15 @@
 
 ghost use Rattle.std.specs.Prelude.{◌+◌, ◌<◌, ◌≤◌, length};
 
-use bytes::scan;
 use calendar::fixed::moment_in;
 use digits::digit::two;
 use fuzzydate::{
     fuzzy_board_add_in, fuzzy_board_again_in, fuzzy_board_head_in, fuzzy_board_make_in,
     fuzzy_board_order_in, fuzzy_board_remove_in,
 };
-use libc::STDOUT_FILENO;
+use scan::find;
+use std::io;
+use std::io::Read;
 
 // The bytes of a line with a now, and of one with a slot.
 const NOW: usize = 26;
@@ -23,40 +24,39 @@ const SLOT: usize = 6;
 const LENGTH: u64 = 4294967296;
 
 // A number behind a text.
-fn write_number(text: &[u8], n: u64) {
-    io::write_all(STDOUT_FILENO, text);
-    io::print_decimal(STDOUT_FILENO, n);
+fn write_number(rt: &impl Print, text: &[u8], n: u64) -> io::Result<()> {
+    rt.write_all(text)?;
+    rt.print(n)
 }
 
 // An answer's number, place and length.
-fn write_answer(answer: u64) {
-    write_number(b"", answer % 65536);
-    write_number(b" ", answer / 65536 % 65536);
-    write_number(b" ", answer / LENGTH);
+fn write_answer(rt: &impl Print, answer: u64) -> io::Result<()> {
+    write_number(rt, b"", answer % 65536)?;
+    write_number(rt, b" ", answer / 65536 % 65536)?;
+    write_number(rt, b" ", answer / LENGTH)
 }
 
 // One number of several.
-fn write_one(n: u32) {
-    write_number(b" ", n as u64);
+fn write_one(rt: &impl Print, n: u32) -> io::Result<()> {
+    write_number(rt, b" ", n as u64)
 }
 
 // The first numbers of an array, so many.
-fn write_numbers(numbers: &[u32], size: usize)
+fn write_numbers(rt: &impl Print, numbers: &[u32], size: usize) -> io::Result<()>
     requires { size ≤ length numbers.now }
 {
-    let mut i: usize = 0;
-    while i < size {
-        write_one(numbers[i]);
-        i += 1;
+    for i in 0..size {
+        write_one(rt, numbers[i])?;
     }
+    Ok(())
 }
 
 // The numbers that an order counts, and the one behind them where there is one.
-fn write_slots(numbers: &[u32], count: usize) {
+fn write_slots(rt: &impl Print, numbers: &[u32], count: usize) -> io::Result<()> {
     if count < numbers.len() {
-        return write_numbers(numbers, count + 1);
+        return write_numbers(rt, numbers, count + 1);
     }
-    write_numbers(numbers, numbers.len());
+    write_numbers(rt, numbers, numbers.len())
 }
 
 // The number of the four digits at a place.
@@ -67,9 +67,14 @@ fn four(line: &[u8], at: usize) -> u32
 }
 
 // A board made empty.
-fn write_make(line: &[u8], lengths: &mut [u32; 256], state: &mut [u32; 8]) {
+fn write_make(
+    rt: &impl Print,
+    line: &[u8],
+    lengths: &mut [u32; 256],
+    state: &mut [u32; 8],
+) -> io::Result<()> {
     if line.len() < NOW {
-        return;
+        return Ok(());
     }
     let t = moment_in(&line[2..], four(line, 22));
     let at = [
@@ -82,19 +87,20 @@ fn write_make(line: &[u8], lengths: &mut [u32; 256], state: &mut [u32; 8]) {
         t.millisecond,
     ];
     let answer = fuzzy_board_make_in(lengths, state, &at);
-    write_answer(answer);
+    write_answer(rt, answer)
 }
 
 // All reminders run again.
 fn write_again(
+    rt: &impl Print,
     line: &[u8],
     ready: &[u8; 98304],
     lengths: &[u32; 256],
     keys: &mut [u64; 256],
     state: &mut [u32; 8],
-) {
+) -> io::Result<()> {
     if line.len() < NOW {
-        return;
+        return Ok(());
     }
     let t = moment_in(&line[2..], four(line, 22));
     let at = [
@@ -107,153 +113,212 @@ fn write_again(
         t.millisecond,
     ];
     let answer = fuzzy_board_again_in(ready, lengths, keys, state, &at);
-    write_answer(answer);
+    write_answer(rt, answer)
 }
 
 // One reminder less.
 fn write_remove(
+    rt: &impl Print,
     line: &[u8],
     lengths: &mut [u32; 256],
     keys: &mut [u64; 256],
     state: &mut [u32; 8],
-) {
+) -> io::Result<()> {
     if line.len() < SLOT {
-        return;
+        return Ok(());
     }
-    write_answer(fuzzy_board_remove_in(lengths, keys, state, four(line, 2)));
+    write_answer(
+        rt,
+        fuzzy_board_remove_in(lengths, keys, state, four(line, 2)),
+    )
 }
 
 // One reminder more, in the reading of a digit.
 fn write_add(
+    rt: &impl Print,
     line: &[u8],
     ready: &mut [u8; 98304],
     lengths: &mut [u32; 256],
     keys: &mut [u64; 256],
     state: &mut [u32; 8],
-) {
+) -> io::Result<()> {
     if line.len() < 2 {
-        return;
+        return Ok(());
     }
     let reading = (line[0] % 16) as u32;
-    write_answer(fuzzy_board_add_in(ready, lengths, keys, state, reading, &line[2..]));
+    write_answer(
+        rt,
+        fuzzy_board_add_in(ready, lengths, keys, state, reading, &line[2..]),
+    )
 }
 
 // The head, and its moment in a lent array.
-fn write_moment(keys: &[u64; 256], state: &[u32; 8], moment: &mut [u32; 7]) {
-    write_answer(fuzzy_board_head_in(keys, state, moment));
-    write_numbers(moment, 7);
+fn write_moment(
+    rt: &impl Print,
+    keys: &[u64; 256],
+    state: &[u32; 8],
+    moment: &mut [u32; 7],
+) -> io::Result<()> {
+    write_answer(rt, fuzzy_board_head_in(keys, state, moment))?;
+    write_numbers(rt, moment, 7)
 }
 
 // The head, and its moment; sevens where there is none.
-fn write_head(keys: &[u64; 256], state: &[u32; 8]) {
+fn write_head(rt: &impl Print, keys: &[u64; 256], state: &[u32; 8]) -> io::Result<()> {
     let mut moment = [7u32; 7];
-    write_moment(keys, state, &mut moment);
+    write_moment(rt, keys, state, &mut moment)
 }
 
 // The order, in a lent array.
-fn write_row(keys: &[u64; 256], state: &[u32; 8], slots: &mut [u32; 256]) {
+fn write_row(
+    rt: &impl Print,
+    keys: &[u64; 256],
+    state: &[u32; 8],
+    slots: &mut [u32; 256],
+) -> io::Result<()> {
     let answer = fuzzy_board_order_in(keys, state, slots);
-    write_answer(answer);
-    write_slots(slots, (answer / LENGTH) as usize);
+    write_answer(rt, answer)?;
+    write_slots(rt, slots, (answer / LENGTH) as usize)
 }
 
 // The order, and a seven behind it.
-fn write_order(keys: &[u64; 256], state: &[u32; 8]) {
+fn write_order(rt: &impl Print, keys: &[u64; 256], state: &[u32; 8]) -> io::Result<()> {
     let mut slots = [7u32; 256];
-    write_row(keys, state, &mut slots);
+    write_row(rt, keys, state, &mut slots)
 }
 
 // A call that changes the board.
 fn write_change(
+    rt: &impl Print,
     line: &[u8],
     kind: u8,
     ready: &mut [u8; 98304],
     lengths: &mut [u32; 256],
     keys: &mut [u64; 256],
     state: &mut [u32; 8],
-) {
+) -> io::Result<()> {
     if kind == b'M' {
-        return write_make(line, lengths, state);
+        return write_make(rt, line, lengths, state);
     }
     if kind == b'N' {
-        return write_again(line, ready, lengths, keys, state);
+        return write_again(rt, line, ready, lengths, keys, state);
     }
     if kind == b'R' {
-        return write_remove(line, lengths, keys, state);
+        return write_remove(rt, line, lengths, keys, state);
     }
-    write_add(line, ready, lengths, keys, state);
+    write_add(rt, line, ready, lengths, keys, state)
 }
 
 // A call of either kind.
 fn write_call(
+    rt: &impl Print,
     line: &[u8],
     kind: u8,
     ready: &mut [u8; 98304],
     lengths: &mut [u32; 256],
     keys: &mut [u64; 256],
     state: &mut [u32; 8],
-) {
+) -> io::Result<()> {
     if kind == b'H' {
-        return write_head(keys, state);
+        return write_head(rt, keys, state);
     }
     if kind == b'O' {
-        return write_order(keys, state);
+        return write_order(rt, keys, state);
     }
-    write_change(line, kind, ready, lengths, keys, state);
+    write_change(rt, line, kind, ready, lengths, keys, state)
 }
 
 // One line; an empty one is passed over.
 fn write_line(
+    rt: &impl Print,
     line: &[u8],
     ready: &mut [u8; 98304],
     lengths: &mut [u32; 256],
     keys: &mut [u64; 256],
     state: &mut [u32; 8],
-) {
+) -> io::Result<()> {
     if line.len() == 0 {
-        return;
+        return Ok(());
     }
-    write_call(line, line[0], ready, lengths, keys, state);
-    io::write_all(STDOUT_FILENO, b"\n");
+    write_call(rt, line, line[0], ready, lengths, keys, state)?;
+    rt.write_all(b"\n")
 }
 
 // Each line; bytes behind the last line feed, if any, are a line.
 fn write_lines(
+    rt: &impl Print,
     text: &[u8],
     ready: &mut [u8; 98304],
     lengths: &mut [u32; 256],
     keys: &mut [u64; 256],
     state: &mut [u32; 8],
-) {
+) -> io::Result<()> {
     let mut at: usize = 0;
     while at < text.len() {
-        let end = scan::find(text, at, text.len(), b'\n');
-        write_line(&text[at..end], ready, lengths, keys, state);
+        let end = find(text, at, text.len(), b'\n');
+        write_line(rt, &text[at..end], ready, lengths, keys, state)?;
         at = end + 1;
     }
+    Ok(())
 }
 
 // The next piece of standard input, without what an earlier one left.
 fn write_piece(
-    text: &mut [u8],
+    rt: &impl Print,
+    input: &mut impl Read,
+    text: &mut Vec<u8>,
     ready: &mut [u8; 98304],
     lengths: &mut [u32; 256],
     keys: &mut [u64; 256],
     state: &mut [u32; 8],
-) {
-    let n = io::read_full(libc::STDIN_FILENO, text);
-    write_lines(&text[..n], ready, lengths, keys, state);
+) -> io::Result<()> {
+    text.clear();
+    input.by_ref().take(65536).read_to_end(text)?;
+    write_lines(rt, text, ready, lengths, keys, state)
 }
 
 // Standard input has up to four pieces of 65,536 bytes, each of whole lines: data/expected.py, which writes it, sees to that.
-fn main() {
-    let mut text = io::large_buffer();
+fn main(rt: HostRuntime) -> io::Result<()> {
+    let mut input = rt.reader();
+    let mut text = Vec::new(rt.alloc());
     let mut ready = [0u8; 98304];
     let mut lengths = [0u32; 256];
     let mut keys = [0u64; 256];
     let mut state = [0u32; 8];
-    write_piece(&mut text, &mut ready, &mut lengths, &mut keys, &mut state);
-    write_piece(&mut text, &mut ready, &mut lengths, &mut keys, &mut state);
-    write_piece(&mut text, &mut ready, &mut lengths, &mut keys, &mut state);
-    write_piece(&mut text, &mut ready, &mut lengths, &mut keys, &mut state);
+    write_piece(
+        &rt,
+        &mut input,
+        &mut text,
+        &mut ready,
+        &mut lengths,
+        &mut keys,
+        &mut state,
+    )?;
+    write_piece(
+        &rt,
+        &mut input,
+        &mut text,
+        &mut ready,
+        &mut lengths,
+        &mut keys,
+        &mut state,
+    )?;
+    write_piece(
+        &rt,
+        &mut input,
+        &mut text,
+        &mut ready,
+        &mut lengths,
+        &mut keys,
+        &mut state,
+    )?;
+    write_piece(
+        &rt,
+        &mut input,
+        &mut text,
+        &mut ready,
+        &mut lengths,
+        &mut keys,
+        &mut state,
+    )
 }

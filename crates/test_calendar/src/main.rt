@@ -5,135 +5,137 @@ ghost use Rattle.calendar.specs.Moments.{IsMoment};
 
 use calendar::fixed::put_moment;
 use calendar::moments::{Moment, Reached};
+use std::io;
 
 // Writes bytes.
-fn text(s: &[u8]) {
-    io::write_all(1, s);
+fn text(rt: &impl Print, s: &[u8]) -> io::Result<()> {
+    rt.write_all(s)
 }
 
 // Writes the date of a moment: the first ten bytes of its text.
-fn date(t: Moment) {
+fn date(rt: &impl Print, t: Moment) -> io::Result<()> {
     let mut out = [0u8; 19];
     put_moment(&mut out, b' ', t);
-    text(&out[0..10]);
+    text(rt, &out[0..10])
 }
 
 // Writes a moment.
-fn moment(t: Moment) {
+fn moment(rt: &impl Print, t: Moment) -> io::Result<()> {
     let mut out = [0u8; 19];
     put_moment(&mut out, b' ', t);
-    text(&out);
+    text(rt, &out)
 }
 
 // Writes the date, the day number and the weekday of a moment.
-fn day_line(t: Moment)
+fn day_line(rt: &impl Print, t: Moment) -> io::Result<()>
     requires { IsMoment t }
 {
     let n = t.day_number();
-    date(t);
-    text(b" is day ");
-    io::print_decimal(1, n as u64);
-    text(b", weekday ");
-    io::print_decimal(1, calendar::moments::weekday_of(n) as u64);
-    text(b"\n");
+    date(rt, t)?;
+    text(rt, b" is day ")?;
+    rt.print(n as u64)?;
+    text(rt, b", weekday ")?;
+    rt.print(calendar::moments::weekday_of(n) as u64)?;
+    text(rt, b"\n")
 }
 
 // Day n: its date, and that date's number and weekday.
-fn day(n: u32) {
+fn day(rt: &impl Print, n: u32) -> io::Result<()> {
     let s = Moment::first().on_day(n);
     let Reached::At(t) = s else {
-        text(b"refused 12\n");
-        return;
+        return text(rt, b"refused 12\n");
     };
-    day_line(t);
+    day_line(rt, t)
 }
 
 // 29 February of year y, if there is one.
-fn leap_day(y: u32) {
+fn leap_day(rt: &impl Print, y: u32) -> io::Result<()> {
     let t = Moment::first().with_date(y, 2, 29);
     if t.valid() {
-        day_line(t);
+        day_line(rt, t)
     } else {
-        date(t);
-        text(b" is no date\n");
+        date(rt, t)?;
+        text(rt, b" is no date\n")
     }
 }
 
 // A step of size k from t, with the refusal's number.
-fn step(t: Moment, k: u64, words: &[u8], s: Reached) {
-    moment(t);
-    text(b", ");
-    io::print_decimal(1, k);
-    text(words);
+fn step(rt: &impl Print, t: Moment, k: u64, words: &[u8], s: Reached) -> io::Result<()> {
+    moment(rt, t)?;
+    text(rt, b", ")?;
+    rt.print(k)?;
+    text(rt, words)?;
     match s {
-        Reached::At(u) => moment(u),
+        Reached::At(u) => moment(rt, u)?,
         Reached::Refused(number) => {
-            text(b"refused ");
-            io::print_decimal(1, number as u64);
+            text(rt, b"refused ")?;
+            rt.print(number as u64)?;
         }
     }
-    text(b"\n");
+    text(rt, b"\n")
 }
 
 // The six steps of size k.
-fn six(t: Moment, k: u64)
+fn six(rt: &impl Print, t: Moment, k: u64) -> io::Result<()>
     requires { IsMoment t }
 {
-    step(t, k, b" minutes later: ", t.minutes_step(false, k));
-    step(t, k, b" minutes earlier: ", t.minutes_step(true, k));
-    step(t, k, b" months later: ", t.months_step(false, k));
-    step(t, k, b" months earlier: ", t.months_step(true, k));
-    step(t, k, b" years later: ", t.years_step(false, k));
-    step(t, k, b" years earlier: ", t.years_step(true, k));
+    step(rt, t, k, b" minutes later: ", t.minutes_step(false, k))?;
+    step(rt, t, k, b" minutes earlier: ", t.minutes_step(true, k))?;
+    step(rt, t, k, b" months later: ", t.months_step(false, k))?;
+    step(rt, t, k, b" months earlier: ", t.months_step(true, k))?;
+    step(rt, t, k, b" years later: ", t.years_step(false, k))?;
+    step(rt, t, k, b" years earlier: ", t.years_step(true, k))
 }
 
 // Small steps, those on both sides of each limit, and the largest.
-fn steps(t: Moment)
+fn steps(rt: &impl Print, t: Moment) -> io::Result<()>
     requires { IsMoment t }
 {
-    six(t, 0);
-    six(t, 1);
-    six(t, 4);
-    six(t, 9998);
-    six(t, 9999);
-    six(t, 119987);
-    six(t, 119988);
-    six(t, 5258964959);
-    six(t, 5258964960);
-    six(t, 18446744073709551615);
+    six(rt, t, 0)?;
+    six(rt, t, 1)?;
+    six(rt, t, 4)?;
+    six(rt, t, 9998)?;
+    six(rt, t, 9999)?;
+    six(rt, t, 119987)?;
+    six(rt, t, 119988)?;
+    six(rt, t, 5258964959)?;
+    six(rt, t, 5258964960)?;
+    six(rt, t, 18446744073709551615)
 }
 
 // Steps from t, which is a moment.
-fn start(t: Moment) {
+fn start(rt: &impl Print, t: Moment) -> io::Result<()> {
     if t.valid() {
-        steps(t);
+        steps(rt, t)?;
     }
+    Ok(())
 }
 
 // Every 997th day, the last, and the first past it.
-fn days() {
+fn days(rt: &impl Print) -> io::Result<()> {
     for i in 0..3664 {
-        day(997 * i);
+        day(rt, 997 * i)?;
     }
-    day(Moment::DAYS - 1);
-    day(Moment::DAYS);
+    day(rt, Moment::DAYS - 1)?;
+    day(rt, Moment::DAYS)
 }
 
 // 29 February of the years that divide by 100, and of every fourth year of four centuries.
-fn leap_days() {
+fn leap_days(rt: &impl Print) -> io::Result<()> {
     for i in 0..101 {
-        leap_day(100 * i);
-        leap_day(1700 + 4 * i);
+        leap_day(rt, 100 * i)?;
+        leap_day(rt, 1700 + 4 * i)?;
     }
+    Ok(())
 }
 
-fn main() {
-    days();
-    leap_days();
-    start(Moment::first());
-    start(Moment::last().with_date(1900, 1, 31));
-    start(Moment::last().with_date(2024, 1, 31));
-    start(Moment::last().with_date(2024, 2, 29));
-    start(Moment::last().with_date(9996, 2, 29));
-    start(Moment::last());
+fn main(rt: HostRuntime) -> io::Result<()> {
+    days(&rt)?;
+    leap_days(&rt)?;
+    start(&rt, Moment::first())?;
+    start(&rt, Moment::last().with_date(1900, 1, 31))?;
+    start(&rt, Moment::last().with_date(2024, 1, 31))?;
+    start(&rt, Moment::last().with_date(2024, 2, 29))?;
+    start(&rt, Moment::last().with_date(9996, 2, 29))?;
+    start(&rt, Moment::last())
 }

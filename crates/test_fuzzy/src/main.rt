@@ -2,6 +2,8 @@
 // no line feed at the end. data/expected.py writes the input and the output.
 #![tactic(auto)]
 
-fn main() {
-    console::run();
+use std::io;
+
+fn main(rt: HostRuntime) -> io::Result<()> {
+    console::run(&rt)
 }

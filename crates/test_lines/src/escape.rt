@@ -1,6 +1,5 @@
 // The bytes that a line's text stands for: `\x_hh` is one byte, every other byte stands for itself.
 ghost use Rattle.std.specs.Prelude.{◌≡◌, ◌+◌, ◌≤◌, ◌<◌, length};
-ghost use Rattle.io.specs.Counts.{IsPrefixLen};
 
 // A byte of a phrase, and how many bytes of the line it takes.
 #[derive(Clone, Copy)]
@@ -59,7 +58,7 @@ fn spelled_at(s: &[u8], i: usize) -> Spelled
 
 // The phrase from a place of a line on, as far as there is room for it; how many bytes it has.
 pub(crate) fn unescape(line: &[u8], from: usize, phrase: &mut [u8]) -> usize
-    ensures { IsPrefixLen result phrase.new }
+    ensures { result ≤ length phrase.new }
 {
     let mut i = from;
     let mut n: usize = 0;

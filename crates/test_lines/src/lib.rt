@@ -2,11 +2,13 @@
 // readings, as oracle/README.md has them: a line ends at the stage that refuses.
 #![tactic(auto)]
 
-ghost use Rattle.std.specs.Prelude.{◌+◌, ◌≤◌, length};
+ghost use Rattle.std.specs.Prelude.{◌+◌, ◌≤◌, length, IfOk};
 
-use bytes::scan;
 use lexer::reading::Reading;
 use line::write_line;
+use scan::find;
+use std::io;
+use std::io::Read;
 
 mod escape;
 mod line;
@@ -17,27 +19,27 @@ mod read;
 const MOST: usize = 2048;
 
 // Reads behind the bytes that are kept; how many came, 0 at the end of the input.
-fn read_behind(piece: &mut [u8], held: usize) -> usize
+fn read_behind(input: &mut impl Read, piece: &mut [u8], held: usize) -> io::Result<usize>
     requires { held ≤ length piece.old }
-    ensures { held + result ≤ length piece.old }
+    ensures { IfOk result (λ n. held + n ≤ length piece.old) }
 {
-    io::read_full(libc::STDIN_FILENO, &mut piece[held..])
+    input.read(&mut piece[held..])
 }
 
 // Answers each line that a line feed ends; where the unfinished one begins.
-fn write_lines(reading: Reading, s: &[u8]) -> usize
-    ensures { result ≤ length s.now }
+fn write_lines(rt: &impl Print, reading: Reading, s: &[u8]) -> io::Result<usize>
+    ensures { IfOk result (λ n. n ≤ length s.now) }
 {
     let mut at: usize = 0;
     while at < s.len() {
-        let end = scan::find(s, at, s.len(), b'\n');
+        let end = find(s, at, s.len(), b'\n');
         if end == s.len() {
-            return at;
+            return Ok(at);
         }
-        write_line(reading, &s[at..end]);
+        write_line(rt, reading, &s[at..end])?;
         at = end + 1;
     }
-    at
+    Ok(at)
 }
 
 // Moves the bytes from one place up to another to the front, but no more than are kept; how many are.
@@ -59,39 +61,50 @@ fn keep(piece: &mut [u8], from: usize, to: usize) -> usize
 }
 
 // Answers the lines that end in the first bytes of a piece, and keeps the rest at its front; how many bytes are kept.
-fn write_piece(reading: Reading, piece: &mut [u8], size: usize) -> usize
+fn write_piece(
+    rt: &impl Print,
+    reading: Reading,
+    piece: &mut [u8],
+    size: usize,
+) -> io::Result<usize>
     requires { size ≤ length piece.old }
-    ensures { result ≤ 2048 }
+    ensures { IfOk result (λ n. n ≤ 2048) }
 {
-    let rest = write_lines(reading, &piece[..size]);
-    keep(piece, rest, size)
+    let rest = write_lines(rt, reading, &piece[..size])?;
+    Ok(keep(piece, rest, size))
 }
 
 // Bytes behind the last line feed, if any, are a line.
-fn write_last(reading: Reading, rest: &[u8]) {
+fn write_last(rt: &impl Print, reading: Reading, rest: &[u8]) -> io::Result<()> {
     if 0 < rest.len() {
-        write_line(reading, rest);
+        write_line(rt, reading, rest)?;
     }
+    Ok(())
 }
 
 // Piece by piece to the end of the input. The turns are counted only so that they end.
-fn write_answers(reading: Reading, piece: &mut [u8])
+fn write_answers(
+    rt: &impl Print,
+    input: &mut impl Read,
+    reading: Reading,
+    piece: &mut [u8],
+) -> io::Result<()>
     requires { 2048 ≤ length piece.old }
 {
     let mut held: usize = 0;
-    let mut turns: u64 = 18446744073709551615;
-    while 0 < turns {
-        let n = read_behind(piece, held);
+    for _ in 0..u64::MAX {
+        let n = read_behind(input, piece, held)?;
         if n == 0 {
-            return write_last(reading, &piece[..held]);
+            return write_last(rt, reading, &piece[..held]);
         }
-        held = write_piece(reading, piece, held + n);
-        turns -= 1;
+        held = write_piece(rt, reading, piece, held + n)?;
     }
+    Ok(())
 }
 
 // The answers to all of standard input on standard output.
-pub fn run(reading: Reading) {
-    let mut piece = io::buffer();
-    write_answers(reading, &mut piece);
+pub fn run(rt: &(impl Input + Print), reading: Reading) -> io::Result<()> {
+    let mut piece = [0u8; 4096];
+    let mut input = rt.reader();
+    write_answers(rt, &mut input, reading, &mut piece)
 }

@@ -1,8 +1,9 @@
 // The Rust's names of lexemes, and of what is named as its lexeme is.
 use super::out::{number, text};
-use bytes::scan;
 use dates::units::{RelativeSpecifier, Unit};
 use lexer::lexeme::{DAY, HOUR, JANUARY, LAST, MINUTE, MONDAY, MONTH, NEXT, NUM, THIS, WEEK, YEAR};
+use scan::find;
+use std::io;
 
 // `enum Lexeme` but for Num, in the order of the codes, ten bytes each: nothing, one to nineteen, the tens, then from A on in the enum's
 // order.
@@ -18,58 +19,58 @@ const NAMES: [u8; 890] = *b"\
     Hundred   Thousand  Million   Billion   Last      ST        ND        RD        TH        ";
 
 // The name in a row, up to its first blank.
-fn write_row(row: u64) {
+fn write_row(rt: &impl Print, row: u64) -> io::Result<()> {
     if 89 <= row {
-        return;
+        return Ok(());
     }
     let names = NAMES;
     let start = (row * 10) as usize;
-    let end = scan::find(&names, start, start + 10, b' ');
-    text(&names[start..end]);
+    let end = find(&names, start, start + 10, b' ');
+    text(rt, &names[start..end])
 }
 
 // `enum Lexeme`, by its code.
-pub fn write_lexeme(code: u64) {
+pub fn write_lexeme(rt: &impl Print, code: u64) -> io::Result<()> {
     if code < 20 {
-        return write_row(code);
+        return write_row(rt, code);
     }
     if code < 100 {
-        return write_row(18 + code / 10);
+        return write_row(rt, 18 + code / 10);
     }
     if code < NUM {
-        return write_row(code - 72);
+        return write_row(rt, code - 72);
     }
-    number(b"Num(", code % NUM);
-    text(b")");
+    number(rt, b"Num(", code % NUM)?;
+    text(rt, b")")
 }
 
 // `enum Unit`
-pub fn write_unit(u: Unit) {
+pub fn write_unit(rt: &impl Print, u: Unit) -> io::Result<()> {
     match u {
-        Unit::Day => write_lexeme(DAY),
-        Unit::Week => write_lexeme(WEEK),
-        Unit::Hour => write_lexeme(HOUR),
-        Unit::Minute => write_lexeme(MINUTE),
-        Unit::Month => write_lexeme(MONTH),
-        Unit::Year => write_lexeme(YEAR),
+        Unit::Day => write_lexeme(rt, DAY),
+        Unit::Week => write_lexeme(rt, WEEK),
+        Unit::Hour => write_lexeme(rt, HOUR),
+        Unit::Minute => write_lexeme(rt, MINUTE),
+        Unit::Month => write_lexeme(rt, MONTH),
+        Unit::Year => write_lexeme(rt, YEAR),
     }
 }
 
 // `enum RelativeSpecifier`
-pub fn write_specifier(s: RelativeSpecifier) {
+pub fn write_specifier(rt: &impl Print, s: RelativeSpecifier) -> io::Result<()> {
     match s {
-        RelativeSpecifier::This => write_lexeme(THIS),
-        RelativeSpecifier::Next => write_lexeme(NEXT),
-        RelativeSpecifier::Last => write_lexeme(LAST),
+        RelativeSpecifier::This => write_lexeme(rt, THIS),
+        RelativeSpecifier::Next => write_lexeme(rt, NEXT),
+        RelativeSpecifier::Last => write_lexeme(rt, LAST),
     }
 }
 
 // `enum Weekday`, Monday 0.
-pub fn write_weekday(w: u32) {
-    write_lexeme(MONDAY + w as u64);
+pub fn write_weekday(rt: &impl Print, w: u32) -> io::Result<()> {
+    write_lexeme(rt, MONDAY + w as u64)
 }
 
 // `enum Month`, January 1.
-pub fn write_month(m: u32) {
-    write_lexeme(JANUARY - 1 + m as u64);
+pub fn write_month(rt: &impl Print, m: u32) -> io::Result<()> {
+    write_lexeme(rt, JANUARY - 1 + m as u64)
 }

@@ -1,22 +1,22 @@
 // Writing to standard output.
 use calendar::fixed::put_moment;
 use calendar::moments::Moment;
-use libc::STDOUT_FILENO;
+use std::io;
 
 // Bytes as they are.
-pub fn text(s: &[u8]) {
-    io::write_all(STDOUT_FILENO, s);
+pub fn text(rt: &impl Print, s: &[u8]) -> io::Result<()> {
+    rt.write_all(s)
 }
 
 // A number behind a text.
-pub fn number(s: &[u8], n: u64) {
-    text(s);
-    io::print_decimal(STDOUT_FILENO, n);
+pub fn number(rt: &impl Print, s: &[u8], n: u64) -> io::Result<()> {
+    text(rt, s)?;
+    rt.print(n)
 }
 
 // A moment, `2026-02-11 09:30:15`.
-pub fn moment(t: Moment) {
+pub fn moment(rt: &impl Print, t: Moment) -> io::Result<()> {
     let mut out = [0u8; 19];
     put_moment(&mut out, b' ', t);
-    text(&out);
+    text(rt, &out)
 }

@@ -7,252 +7,249 @@ use dates::time::Time;
 use dates::units::RelativeSpecifier;
 use expressions::expr::Expr;
 use phrase::chain::{Base, Chain};
+use std::io;
 
 // Two numbers behind a name.
-fn two(name: &[u8], a: u32, b: u32) {
-    number(name, a as u64);
-    number(b",", b as u64);
-    text(b")");
+fn two(rt: &impl Print, name: &[u8], a: u32, b: u32) -> io::Result<()> {
+    number(rt, name, a as u64)?;
+    number(rt, b",", b as u64)?;
+    text(rt, b")")
 }
 
 // Three numbers behind a name.
-fn three(name: &[u8], a: u32, b: u32, c: u32) {
-    number(name, a as u64);
-    number(b",", b as u64);
-    number(b",", c as u64);
-    text(b")");
+fn three(rt: &impl Print, name: &[u8], a: u32, b: u32, c: u32) -> io::Result<()> {
+    number(rt, name, a as u64)?;
+    number(rt, b",", b as u64)?;
+    number(rt, b",", c as u64)?;
+    text(rt, b")")
 }
 
 // A month and a number behind a name.
-fn month_and(name: &[u8], m: u32, n: u32) {
-    text(name);
-    write_month(m);
-    number(b",", n as u64);
+fn month_and(rt: &impl Print, name: &[u8], m: u32, n: u32) -> io::Result<()> {
+    text(rt, name)?;
+    write_month(rt, m)?;
+    number(rt, b",", n as u64)
 }
 
 // `enum Date`
-fn write_date(d: Date) {
+fn write_date(rt: &impl Print, d: Date) -> io::Result<()> {
     match d {
-        Date::YearMonthNumDay(y, m, d) => three(b"YearMonthNumDay(", y, m, d),
-        Date::MonthNumDayYear(m, d, y) => three(b"MonthNumDayYear(", m, d, y),
+        Date::YearMonthNumDay(y, m, d) => three(rt, b"YearMonthNumDay(", y, m, d),
+        Date::MonthNumDayYear(m, d, y) => three(rt, b"MonthNumDayYear(", m, d, y),
         Date::DayMonthYear(d, m, y) => {
-            number(b"DayMonthYear(", d as u64);
-            month_and(b",", m, y);
-            text(b")");
+            number(rt, b"DayMonthYear(", d as u64)?;
+            month_and(rt, b",", m, y)?;
+            text(rt, b")")
         }
         Date::MonthDayYear(m, d, y) => {
-            month_and(b"MonthDayYear(", m, d);
-            number(b",", y as u64);
-            text(b")");
+            month_and(rt, b"MonthDayYear(", m, d)?;
+            number(rt, b",", y as u64)?;
+            text(rt, b")")
         }
-        Date::MonthNumDay(m, d) => two(b"MonthNumDay(", m, d),
+        Date::MonthNumDay(m, d) => two(rt, b"MonthNumDay(", m, d),
         Date::MonthDay(m, d) => {
-            month_and(b"MonthDay(", m, d);
-            text(b")");
+            month_and(rt, b"MonthDay(", m, d)?;
+            text(rt, b")")
         }
-        Date::Today => text(b"Today"),
-        Date::Tomorrow => text(b"Tomorrow"),
-        Date::Yesterday => text(b"Yesterday"),
-        Date::Empty => text(b"Empty"),
+        Date::Today => text(rt, b"Today"),
+        Date::Tomorrow => text(rt, b"Tomorrow"),
+        Date::Yesterday => text(rt, b"Yesterday"),
+        Date::Empty => text(rt, b"Empty"),
     }
 }
 
 // `enum Time`
-fn write_time(t: Time) {
+fn write_time(rt: &impl Print, t: Time) -> io::Result<()> {
     match t {
-        Time::HourMin(h, m) => two(b"HourMin(", h, m),
-        Time::HourMinAM(h, m) => two(b"HourMinAM(", h, m),
-        Time::HourMinPM(h, m) => two(b"HourMinPM(", h, m),
-        Time::Empty => text(b"Empty"),
+        Time::HourMin(h, m) => two(rt, b"HourMin(", h, m),
+        Time::HourMinAM(h, m) => two(rt, b"HourMinAM(", h, m),
+        Time::HourMinPM(h, m) => two(rt, b"HourMinPM(", h, m),
+        Time::Empty => text(rt, b"Empty"),
     }
 }
 
 // A time between two texts.
-fn timed(before: &[u8], t: Time, behind: &[u8]) {
-    text(before);
-    write_time(t);
-    text(behind);
+fn timed(rt: &impl Print, before: &[u8], t: Time, behind: &[u8]) -> io::Result<()> {
+    text(rt, before)?;
+    write_time(rt, t)?;
+    text(rt, behind)
 }
 
 // `Duration::Article`, `Duration::Specific`
-fn write_part(p: Part) {
+fn write_part(rt: &impl Print, p: Part) -> io::Result<()> {
     match p {
         Part::Article(u) => {
-            text(b"Article(");
-            write_unit(u);
+            text(rt, b"Article(")?;
+            write_unit(rt, u)?;
         }
         Part::Specific(u, n) => {
-            number(b"Specific(", n as u64);
-            text(b",");
-            write_unit(u);
+            number(rt, b"Specific(", n as u64)?;
+            text(rt, b",")?;
+            write_unit(rt, u)?;
         }
     }
-    text(b")");
+    text(rt, b")")
 }
 
 // So many closing brackets.
-fn close(n: u8) {
-    let mut i: u8 = 0;
-    while i < n {
-        text(b")");
-        i += 1;
+fn close(rt: &impl Print, n: u8) -> io::Result<()> {
+    for i in 0u8..n {
+        text(rt, b")")?;
     }
+    Ok(())
 }
 
 // `enum Duration`: each part but the last is joined to what follows it. Nothing where there are no parts.
-fn write_duration(parts: Parts, from: u8, to: u8) {
-    let mut i = from;
-    while i < to {
+fn write_duration(rt: &impl Print, parts: Parts, from: u8, to: u8) -> io::Result<()> {
+    for i in from..to {
         if 21 <= i {
-            return;
+            return Ok(());
         }
         if i + 1 < to {
-            text(b"Concat(");
+            text(rt, b"Concat(")?;
         }
         let slot = parts.items[i as usize];
         let part = slot.part;
-        write_part(part);
+        write_part(rt, part)?;
         if i + 1 < to {
-            text(b",");
+            text(rt, b",")?;
         }
-        i += 1;
     }
     if from < to {
-        close(to - from - 1);
+        close(rt, to - from - 1)?;
     }
+    Ok(())
 }
 
 // A date behind a name, and a comma.
-fn dated(name: &[u8], d: Date) {
-    text(name);
-    write_date(d);
-    text(b",");
+fn dated(rt: &impl Print, name: &[u8], d: Date) -> io::Result<()> {
+    text(rt, name)?;
+    write_date(rt, d)?;
+    text(rt, b",")
 }
 
 // A weekday behind a name, and a comma.
-fn on_weekday(name: &[u8], w: u32) {
-    text(name);
-    write_weekday(w);
-    text(b",");
+fn on_weekday(rt: &impl Print, name: &[u8], w: u32) -> io::Result<()> {
+    text(rt, name)?;
+    write_weekday(rt, w)?;
+    text(rt, b",")
 }
 
 // A specifier behind a name, and a comma.
-fn specified(name: &[u8], s: RelativeSpecifier) {
-    text(name);
-    write_specifier(s);
-    text(b",");
+fn specified(rt: &impl Print, name: &[u8], s: RelativeSpecifier) -> io::Result<()> {
+    text(rt, name)?;
+    write_specifier(rt, s)?;
+    text(rt, b",")
 }
 
 // `enum DateExpr` up to its duration, or to its closing bracket where it has none.
-fn open_expr(e: Expr) {
+fn open_expr(rt: &impl Print, e: Expr) -> io::Result<()> {
     match e {
         Expr::Date(d) => {
-            text(b"Date(");
-            write_date(d);
+            text(rt, b"Date(")?;
+            write_date(rt, d)
         }
         Expr::DateRelative(d, s, u) => {
-            dated(b"DateRelative(", d);
-            specified(b"", s);
-            write_unit(u);
+            dated(rt, b"DateRelative(", d)?;
+            specified(rt, b"", s)?;
+            write_unit(rt, u)
         }
-        Expr::DateExpressionAfter(d) => dated(b"DateExpressionAfter(", d),
-        Expr::DateExpressionBefore(d) => dated(b"DateExpressionBefore(", d),
+        Expr::DateExpressionAfter(d) => dated(rt, b"DateExpressionAfter(", d),
+        Expr::DateExpressionBefore(d) => dated(rt, b"DateExpressionBefore(", d),
         Expr::UnitRelative(s, u) => {
-            specified(b"UnitRelative(", s);
-            write_unit(u);
+            specified(rt, b"UnitRelative(", s)?;
+            write_unit(rt, u)
         }
         Expr::RelativeWeekday(s, w) => {
-            specified(b"RelativeWeekday(", s);
-            write_weekday(w);
+            specified(rt, b"RelativeWeekday(", s)?;
+            write_weekday(rt, w)
         }
         Expr::WeekdayRelative(w, s, u) => {
-            on_weekday(b"WeekdayRelative(", w);
-            specified(b"", s);
-            write_unit(u);
+            on_weekday(rt, b"WeekdayRelative(", w)?;
+            specified(rt, b"", s)?;
+            write_unit(rt, u)
         }
-        Expr::WeekdayExpressionBefore(w) => on_weekday(b"WeekdayExpressionBefore(", w),
-        Expr::WeekdayExpressionAfter(w) => on_weekday(b"WeekdayExpressionAfter(", w),
-        Expr::Before(_) => text(b"Before("),
-        Expr::After(_) => text(b"After("),
+        Expr::WeekdayExpressionBefore(w) => on_weekday(rt, b"WeekdayExpressionBefore(", w),
+        Expr::WeekdayExpressionAfter(w) => on_weekday(rt, b"WeekdayExpressionAfter(", w),
+        Expr::Before(_) => text(rt, b"Before("),
+        Expr::After(_) => text(rt, b"After("),
         Expr::Weekday(w) => {
-            text(b"Weekday(");
-            write_weekday(w);
+            text(rt, b"Weekday(")?;
+            write_weekday(rt, w)
         }
-        Expr::Empty => text(b"Empty"),
+        Expr::Empty => text(rt, b"Empty"),
     }
 }
 
 // `enum DateExpr` behind its duration.
-fn close_expr(e: Expr) {
+fn close_expr(rt: &impl Print, e: Expr) -> io::Result<()> {
     match e {
-        Expr::Empty => (),
+        Expr::Empty => Ok(()),
         Expr::Before(d) | Expr::After(d) => {
-            text(b",");
-            write_date(d);
-            text(b")");
+            text(rt, b",")?;
+            write_date(rt, d)?;
+            text(rt, b")")
         }
-        _ => text(b")"),
+        _ => text(rt, b")"),
     }
 }
 
 // `DateTime::Now`, `DateTime::DateTime`, `DateTime::TimeDate` up to the date's own duration.
-fn open_base(base: Base, time: Time) {
+fn open_base(rt: &impl Print, base: Base, time: Time) -> io::Result<()> {
     match base {
-        Base::Now => text(b"Now"),
+        Base::Now => text(rt, b"Now"),
         Base::DateTime(e) => {
-            text(b"DateTime(");
-            open_expr(e);
+            text(rt, b"DateTime(")?;
+            open_expr(rt, e)
         }
         Base::TimeDate(e) => {
-            timed(b"TimeDate(", time, b",");
-            open_expr(e);
+            timed(rt, b"TimeDate(", time, b",")?;
+            open_expr(rt, e)
         }
     }
 }
 
 // The same behind the date's own duration.
-fn close_base(base: Base, time: Time) {
+fn close_base(rt: &impl Print, base: Base, time: Time) -> io::Result<()> {
     match base {
-        Base::Now => (),
+        Base::Now => Ok(()),
         Base::DateTime(e) => {
-            close_expr(e);
-            timed(b",", time, b")");
+            close_expr(rt, e)?;
+            timed(rt, b",", time, b")")
         }
         Base::TimeDate(e) => {
-            close_expr(e);
-            text(b")");
+            close_expr(rt, e)?;
+            text(rt, b")")
         }
     }
 }
 
 // `DateTime::After`, `DateTime::Before` up to its duration.
-fn open_link(back: bool) {
+fn open_link(rt: &impl Print, back: bool) -> io::Result<()> {
     if back {
-        text(b"Before(");
+        text(rt, b"Before(")
     } else {
-        text(b"After(");
+        text(rt, b"After(")
     }
 }
 
 // `enum DateTime`: the durations, outermost first, around the base, which has its own parts behind theirs.
-pub fn write_reading(r: Chain) {
+pub fn write_reading(rt: &impl Print, r: Chain) -> io::Result<()> {
     let parts = r.parts;
     let m = r.m;
-    let mut i: u8 = 0;
-    while i < m {
+    for i in 0u8..m {
         if 21 <= i {
-            return;
+            return Ok(());
         }
         let link = r.links[i as usize];
-        open_link(link.back);
-        write_duration(parts, link.from, link.to);
-        text(b",");
-        i += 1;
+        open_link(rt, link.back)?;
+        write_duration(rt, parts, link.from, link.to)?;
+        text(rt, b",")?;
     }
     let base = r.base;
     let time = r.time;
-    open_base(base, time);
-    write_duration(parts, r.own, parts.n);
-    close_base(base, time);
-    close(m);
+    open_base(rt, base, time)?;
+    write_duration(rt, parts, r.own, parts.n)?;
+    close_base(rt, base, time)?;
+    close(rt, m)
 }

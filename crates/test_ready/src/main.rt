@@ -3,7 +3,6 @@
 #![tactic(auto)]
 
 use answer::{Answered, answer};
-use bytes::scan;
 use calendar::fixed::moment_in;
 use calendar::moments::{Moment, Reached};
 use lexer::reading::Reading;
@@ -11,6 +10,9 @@ use phrase::read::offending;
 use ready::make_ready;
 use records::record::encode;
 use records::run::run_ready;
+use scan::find;
+use std::io;
+use std::io::Read;
 use steps::plan::Plan;
 use test_print::out::{moment, number, text};
 
@@ -18,82 +20,83 @@ use test_print::out::{moment, number, text};
 const NOW: usize = 19;
 
 // A refusal with its place and the end of its part.
-fn write_refusal(n: u32, place: usize, end: usize) {
-    number(b"refused ", n as u64);
-    number(b" at ", place as u64);
-    number(b" to ", end as u64);
+fn write_refusal(rt: &impl Print, n: u32, place: usize, end: usize) -> io::Result<()> {
+    number(rt, b"refused ", n as u64)?;
+    number(rt, b" at ", place as u64)?;
+    number(rt, b" to ", end as u64)
 }
 
 // The answer to a phrase at a now.
-fn write_answer(phrase: &[u8], t: Moment) {
+fn write_answer(rt: &impl Print, phrase: &[u8], t: Moment) -> io::Result<()> {
     match answer(Reading::First, phrase, t) {
-        Answered::At(u) => moment(u),
-        Answered::Refused(r) => write_refusal(r.number, r.place, r.end),
+        Answered::At(u) => moment(rt, u),
+        Answered::Refused(r) => write_refusal(rt, r.number, r.place, r.end),
     }
 }
 
 // The first bytes of a buffer as a ready phrase, run at a now.
-fn write_records(ready: &[u8], size: usize, t: Moment) {
+fn write_records(rt: &impl Print, ready: &[u8], size: usize, t: Moment) -> io::Result<()> {
     if ready.len() < size {
-        return;
+        return Ok(());
     }
     match run_ready(&ready[0..size], t) {
-        Reached::At(u) => moment(u),
-        Reached::Refused(k) => write_refusal(k, 0, 0),
+        Reached::At(u) => moment(rt, u),
+        Reached::Refused(k) => write_refusal(rt, k, 0, 0),
     }
 }
 
 // The records of a plan, run at a now, and how many there are: a phrase that was made ready has at most 24.
-fn write_run(plan: Plan, t: Moment) {
+fn write_run(rt: &impl Print, plan: Plan, t: Moment) -> io::Result<()> {
     let n = plan.n;
     if n > 24 {
-        return;
+        return Ok(());
     }
     let mut ready = [0u8; 384];
     encode(plan, &mut ready);
-    write_records(&ready, 16 * n, t);
-    number(b"|", n as u64);
+    write_records(rt, &ready, 16 * n, t)?;
+    number(rt, b"|", n as u64)
 }
 
 // The phrase made ready, run at a now, and the count of its steps; or the refusal, no step and the offending part.
-fn write_ready(phrase: &[u8], t: Moment) {
+fn write_ready(rt: &impl Print, phrase: &[u8], t: Moment) -> io::Result<()> {
     let made = make_ready(Reading::First, phrase);
     let refusal = made.refusal;
     if refusal.number == 0 {
         let plan = made.plan;
-        write_run(plan, t);
+        write_run(rt, plan, t)
     } else {
-        write_refusal(refusal.number, refusal.place, refusal.end);
-        text(b"|0|");
-        text(offending(Reading::First, phrase));
+        write_refusal(rt, refusal.number, refusal.place, refusal.end)?;
+        text(rt, b"|0|")?;
+        text(rt, offending(Reading::First, phrase))
     }
 }
 
 // A now, a bar and a phrase.
-fn write_line(line: &[u8]) {
+fn write_line(rt: &impl Print, line: &[u8]) -> io::Result<()> {
     if line.len() <= NOW {
-        return;
+        return Ok(());
     }
     let t = moment_in(line, 0);
-    write_answer(&line[20..], t);
-    text(b"|");
-    write_ready(&line[20..], t);
-    text(b"\n");
+    write_answer(rt, &line[20..], t)?;
+    text(rt, b"|")?;
+    write_ready(rt, &line[20..], t)?;
+    text(rt, b"\n")
 }
 
 // Each line; bytes behind the last line feed, if any, are a line.
-fn write_lines(lines: &[u8]) {
+fn write_lines(rt: &impl Print, lines: &[u8]) -> io::Result<()> {
     let mut at: usize = 0;
     while at < lines.len() {
-        let end = scan::find(lines, at, lines.len(), b'\n');
-        write_line(&lines[at..end]);
+        let end = find(lines, at, lines.len(), b'\n');
+        write_line(rt, &lines[at..end])?;
         at = end + 1;
     }
+    Ok(())
 }
 
 // Standard input has fewer than 65,536 bytes: data/expected.py, which writes it, sees to that.
-fn main() {
-    let mut lines = io::large_buffer();
-    let n = io::read_full(libc::STDIN_FILENO, &mut lines);
-    write_lines(&lines[..n]);
+fn main(rt: HostRuntime) -> io::Result<()> {
+    let mut lines = Vec::new(rt.alloc());
+    rt.reader().take(65536).read_to_end(&mut lines)?;
+    write_lines(&rt, &lines)
 }

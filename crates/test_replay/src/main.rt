@@ -2,7 +2,8 @@
 #![tactic(auto)]
 
 use lexer::reading::Reading;
+use std::io;
 
-fn main() {
-    test_lines::run(Reading::First);
+fn main(rt: HostRuntime) -> io::Result<()> {
+    test_lines::run(&rt, Reading::First)
 }

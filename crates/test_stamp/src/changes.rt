@@ -3,6 +3,7 @@ ghost use Rattle.std.specs.Prelude.{◌<◌, length};
 
 use super::print::{number, stamp_line, text};
 use stamp::read::{StampRead, read_stamp};
+use std::io;
 use std::num::wrapping_add_u64;
 
 // How many texts were refused with 12, with 14, and with any other number.
@@ -26,54 +27,50 @@ impl Counts {
 }
 
 // One text: printed, or counted.
-fn judged(s: &[u8], counts: Counts) -> Counts {
+fn judged(rt: &impl Print, s: &[u8], counts: Counts) -> io::Result<Counts> {
     let r = read_stamp(s);
     match r {
         StampRead::Is(stamp) => {
-            stamp_line(s, stamp);
-            counts
+            stamp_line(rt, s, stamp)?;
+            Ok(counts)
         }
-        StampRead::Refused(k) => counts.add(k),
+        StampRead::Refused(k) => Ok(counts.add(k)),
     }
 }
 
 // The texts with each byte at a place.
-fn at_place(s: &mut [u8], i: usize, before: Counts) -> Counts
+fn at_place(rt: &impl Print, s: &mut [u8], i: usize, before: Counts) -> io::Result<Counts>
     requires { i < length s.old }
 {
     let own = s[i];
     let mut counts = before;
-    let mut b: u32 = 0;
-    while b < 256 {
+    for b in 0u32..256 {
         s[i] = b as u8;
-        counts = judged(s, counts);
-        b += 1;
+        counts = judged(rt, s, counts)?;
     }
     s[i] = own;
-    counts
+    Ok(counts)
 }
 
 // The texts with each byte at each place.
-fn at_each_place(s: &mut [u8]) -> Counts {
+fn at_each_place(rt: &impl Print, s: &mut [u8]) -> io::Result<Counts> {
     let mut counts = Counts {
         outside: 0,
         no_stamp: 0,
         other: 0,
     };
-    let mut i: usize = 0;
-    while i < s.len() {
-        counts = at_place(s, i, counts);
-        i += 1;
+    for i in 0..s.len() {
+        counts = at_place(rt, s, i, counts)?;
     }
-    counts
+    Ok(counts)
 }
 
 // The stamps among them, and the counts.
-pub(crate) fn changes(s: &mut [u8]) {
-    let counts = at_each_place(s);
-    text(b"refused");
-    number(counts.outside);
-    number(counts.no_stamp);
-    number(counts.other);
-    text(b"\n");
+pub(crate) fn changes(rt: &impl Print, s: &mut [u8]) -> io::Result<()> {
+    let counts = at_each_place(rt, s)?;
+    text(rt, b"refused")?;
+    number(rt, counts.outside)?;
+    number(rt, counts.no_stamp)?;
+    number(rt, counts.other)?;
+    text(rt, b"\n")
 }

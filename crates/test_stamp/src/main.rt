@@ -8,6 +8,7 @@ use changes::changes;
 use print::{line, number, text};
 use stamp::write::write_stamp;
 use stamp::{Offset, Stamp};
+use std::io;
 
 mod changes;
 mod print;
@@ -16,39 +17,41 @@ mod print;
 const FIRST_DAY: u32 = 738520;
 
 // A stamp as text in a lent buffer, and what that is read as.
-fn read_back(stamp: Stamp, out: &mut [u8]) {
+fn read_back(rt: &impl Print, stamp: Stamp, out: &mut [u8]) -> io::Result<()> {
     let w = write_stamp(stamp, out);
     let n = w.count;
     if n <= out.len() {
-        line(&out[..n]);
+        line(rt, &out[..n])?;
     }
+    Ok(())
 }
 
 // A stamp as text, and what that is read as.
-fn there_and_back(stamp: Stamp) {
+fn there_and_back(rt: &impl Print, stamp: Stamp) -> io::Result<()> {
     let mut out = [0u8; 29];
-    read_back(stamp, &mut out);
+    read_back(rt, stamp, &mut out)
 }
 
 // A day, at a time of day of its own.
-fn day(n: u32) {
+fn day(rt: &impl Print, n: u32) -> io::Result<()> {
     let r = Moment::first().on_day(n);
     let Reached::At(t) = r else {
-        return;
+        return Ok(());
     };
     let moment = t.with_time(n % 24, n % 60, n % 59, n % 1000);
     let offset = Offset {
         west: 0,
         minutes: 0,
     };
-    there_and_back(Stamp { moment, offset });
+    there_and_back(rt, Stamp { moment, offset })
 }
 
 // The days of 2023 and 2024.
-fn days() {
+fn days(rt: &impl Print) -> io::Result<()> {
     for i in 0..731 {
-        day(FIRST_DAY + i);
+        day(rt, FIRST_DAY + i)?;
     }
+    Ok(())
 }
 
 // A moment with an offset.
@@ -65,102 +68,103 @@ fn february(year: u32, ms: u32) -> Moment {
 }
 
 // All offsets to one side, and all milliseconds.
-fn offsets(west: u32) {
+fn offsets(rt: &impl Print, west: u32) -> io::Result<()> {
     for m in 0..1440 {
-        there_and_back(with_offset(february(2024, m % 1000), west, m));
+        there_and_back(rt, with_offset(february(2024, m % 1000), west, m))?;
     }
+    Ok(())
 }
 
 // A stamp in so many bytes of a lent buffer: the whole buffer, the refusal's number and the count.
-fn written_in(stamp: Stamp, out: &mut [u8], room: usize)
+fn written_in(rt: &impl Print, stamp: Stamp, out: &mut [u8], room: usize) -> io::Result<()>
     requires { room ≤ length out.old }
 {
     let w = write_stamp(stamp, &mut out[..room]);
-    text(out);
-    number(w.number as u64);
-    number(w.count as u64);
-    text(b"\n");
+    text(rt, out)?;
+    number(rt, w.number as u64)?;
+    number(rt, w.count as u64)?;
+    text(rt, b"\n")
 }
 
 // The same in a buffer full of dots.
-fn written(stamp: Stamp, room: usize)
+fn written(rt: &impl Print, stamp: Stamp, room: usize) -> io::Result<()>
     requires { room ≤ 30 }
 {
     let mut out = *b"..............................";
-    written_in(stamp, &mut out, room);
+    written_in(rt, stamp, &mut out, room)
 }
 
 // Exactly enough room and a byte too few, and which refusal comes first.
-fn rooms() {
-    written(with_offset(february(2024, 0), 0, 0), 30);
-    written(with_offset(february(2024, 0), 0, 0), 20);
-    written(with_offset(february(2024, 0), 0, 0), 19);
-    written(with_offset(february(2024, 0), 0, 1439), 25);
-    written(with_offset(february(2024, 0), 0, 1439), 24);
-    written(with_offset(february(2024, 0), 1, 0), 25);
-    written(with_offset(february(2024, 0), 1, 0), 24);
-    written(with_offset(february(2024, 1), 0, 0), 24);
-    written(with_offset(february(2024, 1), 0, 0), 23);
-    written(with_offset(february(2024, 999), 1, 1439), 30);
-    written(with_offset(february(2024, 999), 1, 1439), 29);
-    written(with_offset(february(2024, 999), 1, 1439), 28);
-    written(with_offset(february(2024, 999), 0, 1440), 0);
-    written(with_offset(february(2024, 1), 2, 0), 0);
-    written(with_offset(february(2026, 0), 2, 1440), 0);
-    written(with_offset(february(2024, 1000), 2, 1440), 0);
-    written(with_offset(february(0, 0), 0, 0), 30);
+fn rooms(rt: &impl Print) -> io::Result<()> {
+    written(rt, with_offset(february(2024, 0), 0, 0), 30)?;
+    written(rt, with_offset(february(2024, 0), 0, 0), 20)?;
+    written(rt, with_offset(february(2024, 0), 0, 0), 19)?;
+    written(rt, with_offset(february(2024, 0), 0, 1439), 25)?;
+    written(rt, with_offset(february(2024, 0), 0, 1439), 24)?;
+    written(rt, with_offset(february(2024, 0), 1, 0), 25)?;
+    written(rt, with_offset(february(2024, 0), 1, 0), 24)?;
+    written(rt, with_offset(february(2024, 1), 0, 0), 24)?;
+    written(rt, with_offset(february(2024, 1), 0, 0), 23)?;
+    written(rt, with_offset(february(2024, 999), 1, 1439), 30)?;
+    written(rt, with_offset(february(2024, 999), 1, 1439), 29)?;
+    written(rt, with_offset(february(2024, 999), 1, 1439), 28)?;
+    written(rt, with_offset(february(2024, 999), 0, 1440), 0)?;
+    written(rt, with_offset(february(2024, 1), 2, 0), 0)?;
+    written(rt, with_offset(february(2026, 0), 2, 1440), 0)?;
+    written(rt, with_offset(february(2024, 1000), 2, 1440), 0)?;
+    written(rt, with_offset(february(0, 0), 0, 0), 30)
 }
 
 // Texts at the edges of the grammar.
-fn edges() {
-    line(b"2024-02-29t23:59:59z");
-    line(b"2024-02-29T23:59:59+24:00");
-    line(b"2024-02-29T23:59:59-24:00");
-    line(b"2024-02-29T23:59:59+23:60");
-    line(b"2026-02-29T23:59:59Z");
-    line(b"2024-00-29T23:59:59Z");
-    line(b"2024-13-29T23:59:59Z");
-    line(b"2024-02-00T23:59:59Z");
-    line(b"2024-02-29T24:00:00Z");
-    line(b"2024-02-29T23:60:59Z");
-    line(b"2024-02-29T23:59:60Z");
-    line(b"0000-02-29T00:00:00Z");
-    line(b"0000-02-30T00:00:00Z");
-    line(b"0000-02-29T00:00:00+24:00");
-    line(b"2024-02-29 23:59:59Z");
-    line(b"2024-02-29T23:59:59");
-    line(b"2024-02-29T23:59:59.5Z");
-    line(b"2024-02-29T23:59:59.05z");
-    line(b"2024-02-29T23:59:59.005Z");
-    line(b"2024-02-29T23:59:59.0005Z");
-    line(b"2024-02-29T23:59:59.000Z");
-    line(b"2024-02-29T23:59:59.Z");
-    line(b"2024-02-29T23:59:59.-01:00");
-    line(b"2024-02-29T23:59:59.9-01:00");
-    line(b"2024-02-29T23:59:59.99+01:00");
-    line(b"2024-02-29T23:59:59.999-00:00");
-    line(b"2024-02-29T23:59:59.9999+01:00");
-    line(b"2024-02-29T23:59:59,5Z");
-    line(b"2024-02-29T23:59:59.5");
-    line(b"2024-02-29T23:59:60.5Z");
-    line(b"0000-02-29T23:59:59.5Z");
-    line(b"2024-02-29T23:59:59.5+24:00");
-    line(b"2024-02-29T23:59:59ZZ");
-    line(b"2024-02-29T23:59:59+00:000");
-    line(b"2024-02-29T23:59:59Z\n");
-    line(b"");
+fn edges(rt: &impl Print) -> io::Result<()> {
+    line(rt, b"2024-02-29t23:59:59z")?;
+    line(rt, b"2024-02-29T23:59:59+24:00")?;
+    line(rt, b"2024-02-29T23:59:59-24:00")?;
+    line(rt, b"2024-02-29T23:59:59+23:60")?;
+    line(rt, b"2026-02-29T23:59:59Z")?;
+    line(rt, b"2024-00-29T23:59:59Z")?;
+    line(rt, b"2024-13-29T23:59:59Z")?;
+    line(rt, b"2024-02-00T23:59:59Z")?;
+    line(rt, b"2024-02-29T24:00:00Z")?;
+    line(rt, b"2024-02-29T23:60:59Z")?;
+    line(rt, b"2024-02-29T23:59:60Z")?;
+    line(rt, b"0000-02-29T00:00:00Z")?;
+    line(rt, b"0000-02-30T00:00:00Z")?;
+    line(rt, b"0000-02-29T00:00:00+24:00")?;
+    line(rt, b"2024-02-29 23:59:59Z")?;
+    line(rt, b"2024-02-29T23:59:59")?;
+    line(rt, b"2024-02-29T23:59:59.5Z")?;
+    line(rt, b"2024-02-29T23:59:59.05z")?;
+    line(rt, b"2024-02-29T23:59:59.005Z")?;
+    line(rt, b"2024-02-29T23:59:59.0005Z")?;
+    line(rt, b"2024-02-29T23:59:59.000Z")?;
+    line(rt, b"2024-02-29T23:59:59.Z")?;
+    line(rt, b"2024-02-29T23:59:59.-01:00")?;
+    line(rt, b"2024-02-29T23:59:59.9-01:00")?;
+    line(rt, b"2024-02-29T23:59:59.99+01:00")?;
+    line(rt, b"2024-02-29T23:59:59.999-00:00")?;
+    line(rt, b"2024-02-29T23:59:59.9999+01:00")?;
+    line(rt, b"2024-02-29T23:59:59,5Z")?;
+    line(rt, b"2024-02-29T23:59:59.5")?;
+    line(rt, b"2024-02-29T23:59:60.5Z")?;
+    line(rt, b"0000-02-29T23:59:59.5Z")?;
+    line(rt, b"2024-02-29T23:59:59.5+24:00")?;
+    line(rt, b"2024-02-29T23:59:59ZZ")?;
+    line(rt, b"2024-02-29T23:59:59+00:000")?;
+    line(rt, b"2024-02-29T23:59:59Z\n")?;
+    line(rt, b"")
 }
 
-fn main() {
-    days();
-    offsets(0);
-    offsets(1);
-    rooms();
-    edges();
+fn main(rt: HostRuntime) -> io::Result<()> {
+    days(&rt)?;
+    offsets(&rt, 0)?;
+    offsets(&rt, 1)?;
+    rooms(&rt)?;
+    edges(&rt)?;
     let mut zulu = *b"0004-02-29T23:59:59Z";
-    changes(&mut zulu);
+    changes(&rt, &mut zulu)?;
     let mut west = *b"2024-02-29T12:34:56-05:30";
-    changes(&mut west);
+    changes(&rt, &mut west)?;
     let mut fraction = *b"2024-02-29T12:34:56.070+05:30";
-    changes(&mut fraction);
+    changes(&rt, &mut fraction)
 }

@@ -7,9 +7,10 @@
 
 ghost use Rattle.std.specs.Prelude.{◌+◌, ◌<◌, ◌≤◌, length};
 
-use bytes::scan;
 use fuzzydate::{fuzzy_make_ready, fuzzy_read_in_zone, fuzzy_run_in_zone};
-use libc::STDOUT_FILENO;
+use scan::find;
+use std::io;
+use std::io::Read;
 
 // Where the length stands in an answer.
 const LENGTH: u64 = 4294967296;
@@ -18,40 +19,39 @@ const LENGTH: u64 = 4294967296;
 const PIECES: u64 = 4096;
 
 // A number behind a text.
-fn write_number(text: &[u8], n: u64) {
-    io::write_all(STDOUT_FILENO, text);
-    io::print_decimal(STDOUT_FILENO, n);
+fn write_number(rt: &impl Print, text: &[u8], n: u64) -> io::Result<()> {
+    rt.write_all(text)?;
+    rt.print(n)
 }
 
 // An answer: 0, or a refusal's number, place and length.
-fn write_answer(answer: u64) {
+fn write_answer(rt: &impl Print, answer: u64) -> io::Result<()> {
     if answer == 0 {
-        return write_number(b"", 0);
+        return write_number(rt, b"", 0);
     }
-    write_number(b"", answer % 65536);
-    write_number(b" ", answer / 65536 % 65536);
-    write_number(b" ", answer / LENGTH);
+    write_number(rt, b"", answer % 65536)?;
+    write_number(rt, b" ", answer / 65536 % 65536)?;
+    write_number(rt, b" ", answer / LENGTH)
 }
 
 // One number of several.
-fn write_one(n: u32) {
-    write_number(b" ", n as u64);
+fn write_one(rt: &impl Print, n: u32) -> io::Result<()> {
+    write_number(rt, b" ", n as u64)
 }
 
 // The nine numbers of a lent array.
-fn write_moment(moment: &[u32; 9]) {
-    let mut i: usize = 0;
-    while i < 9 {
-        write_one(moment[i]);
-        i += 1;
+fn write_moment(rt: &impl Print, moment: &[u32; 9]) -> io::Result<()> {
+    for i in 0..9 {
+        write_one(rt, moment[i])?;
     }
+    Ok(())
 }
 
 // An answer with what the lent arrays have.
-fn write_due(answer: u64, due: &[u64; 1], moment: &[u32; 9]) {
-    write_answer(answer);
-    write_number(b" ", due[0]);
-    write_moment(moment);
+fn write_due(rt: &impl Print, answer: u64, due: &[u64; 1], moment: &[u32; 9]) -> io::Result<()> {
+    write_answer(rt, answer)?;
+    write_number(rt, b" ", due[0])?;
+    write_moment(rt, moment)
 }
 
 // The number of a hexadecimal digit.
@@ -74,10 +74,8 @@ fn byte_at(text: &[u8], at: usize) -> u8
 // The number of all digits; of more than sixteen the last count.
 fn number_of(text: &[u8]) -> u64 {
     let mut n: u64 = 0;
-    let mut i: usize = 0;
-    while i < text.len() {
+    for i in 0..text.len() {
         n = n % 1152921504606846976 * 16 + nibble(text[i]) as u64;
-        i += 1;
     }
     n
 }
@@ -94,27 +92,30 @@ fn put_bytes(text: &[u8], out: &mut [u8], from: usize)
     requires { from ≤ 65600 }
 {
     let count = text.len() / 2;
-    let mut k: usize = 0;
-    while k < count {
+    for k in 0..count {
         put_byte(out, from + k, byte_at(text, 2 * k));
-        k += 1;
     }
 }
 
 // One byte from a place up to another.
 fn fill(out: &mut [u8], from: usize, to: usize, b: u8) {
-    let mut i = from;
-    while i < out.len() {
+    for i in from..out.len() {
         if to <= i {
             return;
         }
         out[i] = b;
-        i += 1;
     }
 }
 
 // A phrase read.
-fn write_read(reading: u32, phrase: &[u8], zone: &[u8], second: u64, millisecond: u32) {
+fn write_read(
+    rt: &impl Print,
+    reading: u32,
+    phrase: &[u8],
+    zone: &[u8],
+    second: u64,
+    millisecond: u32,
+) -> io::Result<()> {
     let mut due = [7u64; 1];
     let mut moment = [7u32; 9];
     let answer = fuzzy_read_in_zone(
@@ -126,91 +127,135 @@ fn write_read(reading: u32, phrase: &[u8], zone: &[u8], second: u64, millisecond
         &mut due,
         &mut moment,
     );
-    write_due(answer, &due, &moment);
+    write_due(rt, answer, &due, &moment)
 }
 
 // Records run.
-fn write_run(ready: &[u8], zone: &[u8], second: u64, millisecond: u32) {
+fn write_run(
+    rt: &impl Print,
+    ready: &[u8],
+    zone: &[u8],
+    second: u64,
+    millisecond: u32,
+) -> io::Result<()> {
     let mut due = [7u64; 1];
     let mut moment = [7u32; 9];
     let answer = fuzzy_run_in_zone(ready, zone, second, millisecond, &mut due, &mut moment);
-    write_due(answer, &due, &moment);
+    write_due(rt, answer, &due, &moment)
 }
 
 // Records run that are given in hexadecimal.
-fn write_records(text: &[u8], zone: &[u8], second: u64, millisecond: u32) {
-    let mut ready = io::buffer();
+fn write_records(
+    rt: &impl Print,
+    text: &[u8],
+    zone: &[u8],
+    second: u64,
+    millisecond: u32,
+) -> io::Result<()> {
+    let mut ready = [0u8; 4096];
     let n = text.len() / 2;
     put_bytes(text, &mut ready, 0);
     if n <= 4096 {
-        write_run(&ready[..n], zone, second, millisecond);
+        write_run(rt, &ready[..n], zone, second, millisecond)?;
     }
+    Ok(())
 }
 
 // What was made ready run, where it is not refused.
-fn write_made(made: u64, ready: &[u8], zone: &[u8], second: u64, millisecond: u32) {
+fn write_made(
+    rt: &impl Print,
+    made: u64,
+    ready: &[u8],
+    zone: &[u8],
+    second: u64,
+    millisecond: u32,
+) -> io::Result<()> {
     let end = (made / LENGTH) as usize;
     if 0 < made % LENGTH {
-        return write_answer(made);
+        return write_answer(rt, made);
     }
     if end <= ready.len() {
-        write_run(&ready[..end], zone, second, millisecond);
+        write_run(rt, &ready[..end], zone, second, millisecond)?;
     }
+    Ok(())
 }
 
 // A phrase made ready in a lent array, and run.
 fn write_lent(
+    rt: &impl Print,
     reading: u32,
     phrase: &[u8],
     ready: &mut [u8; 384],
     zone: &[u8],
     second: u64,
     millisecond: u32,
-) {
+) -> io::Result<()> {
     let made = fuzzy_make_ready(reading, phrase, ready);
-    write_made(made, ready, zone, second, millisecond);
+    write_made(rt, made, ready, zone, second, millisecond)
 }
 
 // A phrase made ready and run.
-fn write_ready(reading: u32, phrase: &[u8], zone: &[u8], second: u64, millisecond: u32) {
+fn write_ready(
+    rt: &impl Print,
+    reading: u32,
+    phrase: &[u8],
+    zone: &[u8],
+    second: u64,
+    millisecond: u32,
+) -> io::Result<()> {
     let mut ready = [0u8; 384];
-    write_lent(reading, phrase, &mut ready, zone, second, millisecond);
+    write_lent(rt, reading, phrase, &mut ready, zone, second, millisecond)
 }
 
 // "now" at three seconds, one behind the other.
-fn write_walk(second: u64, zone: &[u8], millisecond: u32) {
+fn write_walk(rt: &impl Print, second: u64, zone: &[u8], millisecond: u32) -> io::Result<()> {
     if second < 18446744073709551613 {
-        write_read(1, b"now", zone, second, millisecond);
-        io::write_all(STDOUT_FILENO, b"|");
-        write_read(1, b"now", zone, second + 1, millisecond);
-        io::write_all(STDOUT_FILENO, b"|");
-        write_read(1, b"now", zone, second + 2, millisecond);
+        write_read(rt, 1, b"now", zone, second, millisecond)?;
+        rt.write_all(b"|")?;
+        write_read(rt, 1, b"now", zone, second + 1, millisecond)?;
+        rt.write_all(b"|")?;
+        write_read(rt, 1, b"now", zone, second + 2, millisecond)?;
     }
+    Ok(())
 }
 
 // A call on a file.
-fn write_call(kind: u8, rest: &[u8], zone: &[u8], second: u64, millisecond: u32) {
+fn write_call(
+    rt: &impl Print,
+    kind: u8,
+    rest: &[u8],
+    zone: &[u8],
+    second: u64,
+    millisecond: u32,
+) -> io::Result<()> {
     if kind == b'W' {
-        return write_walk(number_of(rest), zone, millisecond);
+        return write_walk(rt, number_of(rest), zone, millisecond);
     }
     if kind == b'R' {
-        return write_records(rest, zone, second, millisecond);
+        return write_records(rt, rest, zone, second, millisecond);
     }
     if kind <= b'9' {
-        return write_read((kind % 16) as u32, rest, zone, second, millisecond);
+        return write_read(rt, (kind % 16) as u32, rest, zone, second, millisecond);
     }
-    write_ready((kind % 32) as u32, rest, zone, second, millisecond);
+    write_ready(rt, (kind % 32) as u32, rest, zone, second, millisecond)
 }
 
 // A call on the file that is there, with a line feed.
-fn write_line(kind: u8, rest: &[u8], zone: &[u8], state: &[u64; 3]) {
+fn write_line(
+    rt: &impl Print,
+    kind: u8,
+    rest: &[u8],
+    zone: &[u8],
+    state: &[u64; 3],
+) -> io::Result<()> {
     let size = state[0] as usize;
     let second = state[1];
     let millisecond = (state[2] % LENGTH) as u32;
     if size <= zone.len() {
-        write_call(kind, rest, &zone[..size], second, millisecond);
-        io::write_all(STDOUT_FILENO, b"\n");
+        write_call(rt, kind, rest, &zone[..size], second, millisecond)?;
+        rt.write_all(b"\n")?;
     }
+    Ok(())
 }
 
 // Bytes put behind the first so many.
@@ -260,61 +305,81 @@ fn is_bytes(kind: u8) -> bool {
 }
 
 // What a call is made on changed, or a call made.
-fn take_line(kind: u8, rest: &[u8], zone: &mut [u8], state: &mut [u64; 3]) {
+fn take_line(
+    rt: &impl Print,
+    kind: u8,
+    rest: &[u8],
+    zone: &mut [u8],
+    state: &mut [u64; 3],
+) -> io::Result<()> {
     if kind == b'T' {
         state[0] = number_of(rest);
-        return;
+        return Ok(());
     }
     if kind == b'@' {
         state[1] = number_of(rest);
-        return;
+        return Ok(());
     }
     if kind == b'M' {
         state[2] = number_of(rest);
-        return;
+        return Ok(());
     }
-    write_line(kind, rest, zone, state);
+    write_line(rt, kind, rest, zone, state)
 }
 
 // A line of either kind; an empty one is passed over.
-fn take(line: &[u8], zone: &mut [u8], state: &mut [u64; 3]) {
+fn take(rt: &impl Print, line: &[u8], zone: &mut [u8], state: &mut [u64; 3]) -> io::Result<()> {
     if line.len() == 0 {
-        return;
+        return Ok(());
     }
     let kind = line[0];
     if is_bytes(kind) {
-        return take_bytes(kind, &line[1..], zone, state);
+        take_bytes(kind, &line[1..], zone, state);
+        return Ok(());
     }
-    take_line(kind, &line[1..], zone, state);
+    take_line(rt, kind, &line[1..], zone, state)
 }
 
 // Each line; bytes behind the last line feed, if any, are a line.
-fn take_lines(text: &[u8], zone: &mut [u8], state: &mut [u64; 3]) {
+fn take_lines(
+    rt: &impl Print,
+    text: &[u8],
+    zone: &mut [u8],
+    state: &mut [u64; 3],
+) -> io::Result<()> {
     let mut at: usize = 0;
     while at < text.len() {
-        let end = scan::find(text, at, text.len(), b'\n');
-        take(&text[at..end], zone, state);
+        let end = find(text, at, text.len(), b'\n');
+        take(rt, &text[at..end], zone, state)?;
         at = end + 1;
     }
+    Ok(())
 }
 
 // The next piece of standard input, without what an earlier one left: its length.
-fn take_piece(text: &mut [u8], zone: &mut [u8], state: &mut [u64; 3]) -> usize {
-    let n = io::read_full(libc::STDIN_FILENO, text);
-    take_lines(&text[..n], zone, state);
-    n
+fn take_piece(
+    rt: &impl Print,
+    input: &mut impl Read,
+    text: &mut Vec<u8>,
+    zone: &mut [u8],
+    state: &mut [u64; 3],
+) -> io::Result<usize> {
+    text.clear();
+    let n = input.by_ref().take(65536).read_to_end(text)?;
+    take_lines(rt, text, zone, state)?;
+    Ok(n)
 }
 
 // Standard input has pieces of 65,536 bytes, each of whole lines: oracle/zones.py, which writes them, sees to that.
-fn main() {
-    let mut text = io::large_buffer();
+fn main(rt: HostRuntime) -> io::Result<()> {
+    let mut input = rt.reader();
+    let mut text = Vec::new(rt.alloc());
     let mut zone = [0u8; 65600];
     let mut state = [0u64; 3];
-    let mut i: u64 = 0;
-    while i < PIECES {
-        if take_piece(&mut text, &mut zone, &mut state) == 0 {
-            return;
+    for _ in 0..PIECES {
+        if take_piece(&rt, &mut input, &mut text, &mut zone, &mut state)? == 0 {
+            break;
         }
-        i += 1;
     }
+    Ok(())
 }

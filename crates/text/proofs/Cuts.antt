@@ -9,7 +9,7 @@ use lib.Dec.{eqb, ltb}
 use lib.ListN.{length, take, drop, length-drop}
 use lib.Seq.{append_snoc, drop-drop}
 use borrow.Author.Tests.{ltb-true, ltb-false}
-use Rattle.bytes.specs.Bytes.{index_after, index_of}
+use Rattle.scan.specs.Bytes.{index_of}
 use Rattle.text.specs.Lines.{feed, whole_from, rest_from, whole_of, rest_of, line_at}
 use Rattle.text.specs.declared.line.Line.{Line}
 
@@ -19,7 +19,7 @@ pub record Ended (l t : List ℕ) : Type 0 where
   pub rest : rest_from l t ≡ rest_of (drop (suc (index_of feed t)) t)
 
 ended : (t l : List ℕ) → index_of feed t < length t → Ended l t
-unfolding index_of index_after
+unfolding index_of
 ended [] l h = absurd (not-suc-le-zero h)
 ended (b ∷ t) l h = go (eqb b feed) refl (ended t (l ++ (b ∷ [])))
   where
@@ -36,7 +36,7 @@ pub record Open (l t : List ℕ) : Type 0 where
   pub rest : rest_from l t ≡ l ++ t
 
 goes_on : (t l : List ℕ) → length t ≤ index_of feed t → Open l t
-unfolding index_of index_after
+unfolding index_of
 goes_on [] l h = record { whole = refl; rest = sym (append-nil l) }
 goes_on (b ∷ t) l h = go (eqb b feed) refl (goes_on t (l ++ (b ∷ [])))
   where

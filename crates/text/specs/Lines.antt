@@ -1,7 +1,7 @@
 -- The lines of a text: "A line feed ends a line; bytes after the last one, if any, are a line." Assumes nothing.
 use Rattle.std.specs.Prelude.{ℕ, ◌+◌, cond, List, [], ◌∷◌, ◌++◌, ltb, eqb, length, drop}
 use Prim.Native.Char.{code}
-use Rattle.bytes.specs.Bytes.{index_of}
+use Rattle.scan.specs.Bytes.{index_of}
 use Rattle.text.specs.declared.line.Line.{Line}
 
 -- the byte that ends a line

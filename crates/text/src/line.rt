@@ -2,7 +2,7 @@
 ghost use Rattle.std.specs.Prelude.{◌≡◌};
 ghost use Rattle.text.specs.Lines.{line_at};
 
-use bytes::scan::find;
+use scan::find;
 
 // Where a line ends, and whether a line feed ends it.
 #[derive(Clone, Copy)]
