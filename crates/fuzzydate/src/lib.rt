@@ -474,8 +474,8 @@ pub extern "C" fn fuzzy_board_again_in(
     state: &mut [u32; 8],
     at: &[u32; MOMENT_NUMBERS],
 ) -> u64
-    ensures value { result ≡ code_of (again_of (at_entry ready lengths keys state) (moment_in at.now)) }
-    ensures state_after { let m = at_entry ready lengths keys state in
+    ensures value { result ≡ code_of (again_of (memory ready.now lengths.now keys.old state.old) (moment_in at.now)) }
+    ensures state_after { let m = memory ready.now lengths.now keys.old state.old in
         memory ready.now lengths.now keys.new state.new ≡ memory_after m (again_of m (moment_in at.now)) }
 {
     again(ready, lengths, keys, state, moment_in(at)) as u64
