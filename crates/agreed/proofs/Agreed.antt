@@ -4,13 +4,12 @@ use native.Mathlib.Omega.{arith}
 use mathlib.Core.Path.{◌≡◌, refl, sym, ◌∙◌}
 use mathlib.Core.List.{List}
 use lib.ListN.{length, take}
-use Rattle.refusals.specs.Answers.{Answer, given, refused}
+use Rattle.refusals.specs.Answers.{given, refused}
 use Rattle.refusals.specs.declared.Refusal.{Refusal}
 use Rattle.refusals.proofs.Holds.{Bounded, given_holds, refusal_holds}
 use Rattle.calendar.specs.declared.moments.Moment.{Moment}
 use Rattle.answer.specs.Answer.{placed}
 use Rattle.lexer.specs.Words.{folded}
-use Rattle.lexer.specs.declared.find.Looked.{Looked}
 use Rattle.lexer.specs.declared.reading.Reading.TheVariants.{First, Second}
 use Rattle.lexer.proofs.Visited.{at_most_eight}
 use Rattle.answer.proofs.PhraseAtNow.{settled}

@@ -2,13 +2,13 @@
 use Prim.Native.Nat.{ℕ, ◌+◌, ◌*◌}
 use native.Mathlib.Omega.{arith}
 use mathlib.Core.Path.{◌≡◌, refl}
-use mathlib.Core.Bool.{Bool, true, false, cond, ◌&&◌}
+use mathlib.Core.Bool.{Bool, true, false, cond}
 use mathlib.Core.List.{List, [], ◌∷◌}
 use mathlib.Core.Logic.{inl, inr}
 use lib.Dec.{leb}
 use lib.ListN.{length}
-use Rattle.refusals.specs.Table.{InvalidMoment, NoStamp, NotWhole, NoRoom, Outside, NoRule, NoStart, NoNext}
-use Rattle.refusals.specs.Answers.{Answer, given, refused, refuse, and_then}
+use Rattle.refusals.specs.Table.{InvalidMoment, NoStamp, NotWhole, NoRoom, Outside}
+use Rattle.refusals.specs.Answers.{Answer, given, refuse}
 use Rattle.refusals.proofs.Holds.{given_holds}
 use Rattle.calendar.specs.Moments.{is_moment}
 use Rattle.calendar.specs.declared.moments.Moment.{Moment}

@@ -1,11 +1,10 @@
 -- What an app has added to a board is what the board holds, and what is due first is read from the phrase that was added there. Assumes nothing.
-use Prim.Native.Nat.{ℕ, zero, suc, ◌%◌, ◌≤◌}
+use Prim.Native.Nat.{ℕ, zero, suc}
 use native.Mathlib.Omega.{arith}
 use mathlib.Core.Path.{◌≡◌, refl, sym, ap, subst, ◌∙◌}
 use mathlib.Core.Bool.{Bool, true, false, cond, not}
 use mathlib.Core.List.{List}
 use lib.Dec.{eqb, ltb}
-use lib.ListN.{get_or}
 use borrow.Author.Tests.{eqb-true, eqb-false}
 use Rattle.refusals.specs.Table.{NothingDue}
 use Rattle.refusals.specs.Answers.{Answer, given, refused, refuse}
@@ -16,11 +15,11 @@ use Rattle.answer.specs.Answer.{placed}
 use Rattle.steps.specs.Running.{run_of}
 use Rattle.records.specs.Records.{decode_of}
 use Rattle.board.specs.Boards.{Memory, Due, is_filled, outcome_at}
-use Rattle.board.specs.Scans.{Others, MovedTo, earlier, scan_from, scan_of}
+use Rattle.board.specs.Scans.{Others, earlier, scan_from, scan_of}
 use Rattle.fuzzydate.specs.Called.{answer_in, head_code, head_after}
 use Rattle.fuzzydate.proofs.Readings.{made_in}
-use Rattle.agreed.specs.Calls.{Read, number, size}
-use Rattle.agreed.specs.Boards.{Add, Makes, empty, unmade, Adds, put, full, unready, Removes, out, nothing, Moves, moved, unmoved}
+use Rattle.agreed.specs.Calls.{number, size}
+use Rattle.agreed.specs.Boards.{Makes, empty, unmade, Adds, put, full, unready, Removes, out, nothing, Moves, moved, unmoved}
 use Rattle.agreed.specs.Boards.{Made, new, then, by_make, by_add, by_remove, by_again, Head}
 use Rattle.agreed.specs.Boards.{Known, nothing_there, added, changed_at, Followed, begun, made_again, put_there, taken_out, run_again, left_alone, IsFirst, reads}
 use Rattle.agreed.proofs.Agreed.{read_says}

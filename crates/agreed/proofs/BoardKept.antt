@@ -28,7 +28,7 @@ use Rattle.fuzzydate.specs.Called.{reading_of, ready_in, code_of, added_code, he
 use Rattle.fuzzydate.proofs.BoardNumbers.{order_few}
 use Rattle.agreed.specs.Calls.{number, size}
 use Rattle.agreed.specs.Boards.{Make, Add, Remove, Again, Changed, by_make, by_add, by_remove, by_again, Made, new, then, Head, Order}
-use Rattle.agreed.proofs.AnyNow.{Tells, tells}
+use Rattle.agreed.proofs.AnyNow.{tells}
 
 -- a call answers and leaves what a definition says of the memory before it
 abbrev pub Says : (Answer Done → ℕ) → (Memory → Answer Done) → Memory → ℕ → Memory → Type 0

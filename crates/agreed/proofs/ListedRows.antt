@@ -5,16 +5,16 @@ use native.Mathlib.Omega.{arith}
 use mathlib.Core.Path.{◌≡◌, refl, sym, ap, subst, ◌∙◌}
 use mathlib.Core.Bool.{Bool, true, false, cond, ◌&&◌}
 use mathlib.Core.List.{List, [], ◌∷◌, ◌++◌}
-use mathlib.Core.Logic.{◌⊎◌, inl, inr, ⊎_elim}
+use mathlib.Core.Logic.{inl, inr, ⊎_elim}
 use lib.Dec.{leb}
 use lib.ListN.{length, get_or, take, drop, length-take}
 use lib.Seq.{sets}
 use Rattle.digits.proofs.Order.{le-or_lt}
 use Rattle.refusals.specs.Table.{InvalidMoment, NoRule, NoStart, NoNext}
-use Rattle.refusals.specs.Answers.{Answer, given, refused, refuse, and_then}
+use Rattle.refusals.specs.Answers.{Answer, given, refuse, and_then}
 use Rattle.refusals.proofs.Holds.{Holds, of_given, of_refusal, Bounded}
 use Rattle.calendar.specs.Gregorian.{days}
-use Rattle.calendar.specs.Moments.{IsMoment, is_moment, seven, at_day, day_of_moment, instant_of}
+use Rattle.calendar.specs.Moments.{IsMoment, is_moment, at_day, day_of_moment, instant_of}
 use Rattle.calendar.specs.declared.moments.Moment.{Moment}
 use Rattle.calendar.proofs.Dates.{day_date}
 use Rattle.calendar.proofs.Places.{at_day_moment, at_own_day}

@@ -4,7 +4,7 @@ use native.Mathlib.Omega.{arith}
 use mathlib.Core.Path.{◌≡◌, refl}
 use mathlib.Core.List.{List}
 use lib.ListN.{length, take}
-use Rattle.refusals.specs.Answers.{Answer, given, refused}
+use Rattle.refusals.specs.Answers.{Answer, given}
 use Rattle.refusals.specs.Writings.{buffer_of}
 use Rattle.refusals.proofs.Holds.{Holds, of_given, of_refusal, Bounded}
 use Rattle.digits.proofs.Stores.{sets-taken}
