@@ -22,8 +22,8 @@ use Rattle.calendar.proofs.moments.Moment.years_step.Reads as years_step'
 use Rattle.calendar.proofs.fixed.put_moment.Reads as put_moment'
 use Rattle.calendar.proofs.fixed.moment_in.Reads as moment_in'
 
-pub weekday_of_lem : Settled weekday_of'.Post
-weekday_of_lem = same weekday_of'.Post _ _ (λ κs a z e p. p)
+pub weekday_of : Settled weekday_of'.Post
+weekday_of = same weekday_of'.Post _ _ (λ κs a z e p. p)
 
 pub valid_day : Settled valid_day'.Post
 valid_day = same valid_day'.Post _ _ (λ κs a z e p. p)
@@ -43,41 +43,41 @@ last = same last'.Post _ _ (λ κs a z e p. p)
 pub valid : Settled valid'.Post
 valid = same valid'.Post _ _ (λ κs a z e p. p)
 
-pub with_date_lem : Settled with_date'.Post
-with_date_lem = same with_date'.Post _ _ (λ κs a z e p. p)
+pub with_date : Settled with_date'.Post
+with_date = same with_date'.Post _ _ (λ κs a z e p. p)
 
-pub with_time_lem : Settled with_time'.Post
-with_time_lem = same with_time'.Post _ _ (λ κs a z e p. p)
+pub with_time : Settled with_time'.Post
+with_time = same with_time'.Post _ _ (λ κs a z e p. p)
 
-pub day_number_lem : Settled day_number'.Post
-day_number_lem = same day_number'.Post _ _ (λ κs a z e p. p.0)
+pub day_number : Settled day_number'.Post
+day_number = same day_number'.Post _ _ (λ κs a z e p. p.0)
 
-pub at_day_lem : Settled at_day'.Post
-at_day_lem = same at_day'.Post _ _ (λ κs a z e p. p)
+pub at_day : Settled at_day'.Post
+at_day = same at_day'.Post _ _ (λ κs a z e p. p)
 
-pub on_day_lem : Settled on_day'.Post
-on_day_lem = through on_day'.Post _ (λ κs. reached_one) (same on_day'.Post _ _ (λ κs a z e p. p))
+pub on_day : Settled on_day'.Post
+on_day = through on_day'.Post _ (λ κs. reached_one) (same on_day'.Post _ _ (λ κs a z e p. p))
 
-pub minutes_step_lem : Settled minutes_step'.Post
-minutes_step_lem = through minutes_step'.Post _ (λ κs. reached_one) (same minutes_step'.Post _ _ (λ κs a z e p. p.0))
+pub minutes_step : Settled minutes_step'.Post
+minutes_step = through minutes_step'.Post _ (λ κs. reached_one) (same minutes_step'.Post _ _ (λ κs a z e p. p.0))
 
-pub month_number_lem : Settled month_number'.Post
-month_number_lem = same month_number'.Post _ _ (λ κs a z e p. p.0)
+pub month_number : Settled month_number'.Post
+month_number = same month_number'.Post _ _ (λ κs a z e p. p.0)
 
-pub second_number_lem : Settled second_number'.Post
-second_number_lem = same second_number'.Post _ _ (λ κs a z e p. p.0)
+pub second_number : Settled second_number'.Post
+second_number = same second_number'.Post _ _ (λ κs a z e p. p.0)
 
 pub at_second : Settled at_second'.Post
 at_second = same at_second'.Post _ _ (λ κs a z e p. p)
 
-pub months_step_lem : Settled months_step'.Post
-months_step_lem = through months_step'.Post _ (λ κs. reached_one) (same months_step'.Post _ _ (λ κs a z e p. p.0))
+pub months_step : Settled months_step'.Post
+months_step = through months_step'.Post _ (λ κs. reached_one) (same months_step'.Post _ _ (λ κs a z e p. p.0))
 
-pub years_step_lem : Settled years_step'.Post
-years_step_lem = through years_step'.Post _ (λ κs. reached_one) (same years_step'.Post _ _ (λ κs a z e p. p.0))
+pub years_step : Settled years_step'.Post
+years_step = through years_step'.Post _ (λ κs. reached_one) (same years_step'.Post _ _ (λ κs a z e p. p.0))
 
 pub put_moment : Same put_moment'.Post (λ κs z e. e.0.now)
 put_moment = same put_moment'.Post _ _ (λ κs a z e p. p)
 
-pub moment_in_lem : Settled moment_in'.Post
-moment_in_lem = same moment_in'.Post _ _ (λ κs a z e p. p)
+pub moment_in : Settled moment_in'.Post
+moment_in = same moment_in'.Post _ _ (λ κs a z e p. p)

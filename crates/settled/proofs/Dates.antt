@@ -13,8 +13,8 @@ use Rattle.dates.proofs.units.read_specifier.Reads as read_specifier'
 pub read_date : Settled read_date'.Post
 read_date = through read_date'.Post _ (λ κs. date_one) (same read_date'.Post _ _ (λ κs a z e p. p.0))
 
-pub is_sub_daily_unit_lem : Settled is_sub_daily_unit'.Post
-is_sub_daily_unit_lem = same is_sub_daily_unit'.Post _ _ (λ κs a z e p. p)
+pub is_sub_daily_unit : Settled is_sub_daily_unit'.Post
+is_sub_daily_unit = same is_sub_daily_unit'.Post _ _ (λ κs a z e p. p)
 
 pub read_duration : Settled read_duration'.Post
 read_duration = same read_duration'.Post _ _ (λ κs a z e p. p.0)

@@ -26,8 +26,8 @@ width = same width'.Post _ _ (λ κs a z e p. p.0)
 pub with_digit : Settled with_digit'.Post
 with_digit = same with_digit'.Post _ _ (λ κs a z e p. p)
 
-pub of_form_lem : Settled of_form'.Post
-of_form_lem = same of_form'.Post _ _ (λ κs a z e p. p)
+pub of_form : Settled of_form'.Post
+of_form = same of_form'.Post _ _ (λ κs a z e p. p)
 
 pub put_bytes : Same put_bytes'.Post (λ κs z e. e.0.now)
 put_bytes = same put_bytes'.Post _ _ (λ κs a z e p. p)

@@ -7,8 +7,8 @@ use Rattle.lexer.proofs.part.part.Reads as part'
 use Rattle.lexer.proofs.part.offending.Reads as offending'
 use Rattle.lexer.proofs.find.look_up.Reads as look_up'
 
-pub token_at_lem : Settled token_at'.Post
-token_at_lem = same token_at'.Post _ _ (λ κs a z e p. p)
+pub token_at : Settled token_at'.Post
+token_at = same token_at'.Post _ _ (λ κs a z e p. p)
 
 pub refuse : Settled refuse'.Post
 refuse = same refuse'.Post _ _ (λ κs a z e p. p)

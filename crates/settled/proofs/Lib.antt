@@ -1,6 +1,7 @@
 pub mod Settled
 pub mod Values
 pub mod Digits
+pub mod Scan
 pub mod Calendar
 pub mod Lexer
 pub mod Reader

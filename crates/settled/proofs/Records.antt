@@ -10,14 +10,14 @@ use Rattle.records.proofs.run.run_ready.Reads as run_ready'
 pub encode : Same encode'.Post (λ κs z e. e.1.0.now)
 encode = same encode'.Post _ _ (λ κs a z e p. p)
 
-pub is_list_lem : Settled is_list'.Post
-is_list_lem = same is_list'.Post _ _ (λ κs a z e p. p)
+pub is_list : Settled is_list'.Post
+is_list = same is_list'.Post _ _ (λ κs a z e p. p)
 
-pub step_at_lem : Settled step_at'.Post
-step_at_lem = same step_at'.Post _ _ (λ κs a z e p. p)
+pub step_at : Settled step_at'.Post
+step_at = same step_at'.Post _ _ (λ κs a z e p. p)
 
 pub walk : Settled walk'.Post
 walk = through walk'.Post _ (λ κs. reached_one) (same walk'.Post _ _ (λ κs a z e p. p.0))
 
-pub run_ready_lem : Settled run_ready'.Post
-run_ready_lem = through run_ready'.Post _ (λ κs. reached_one) (same run_ready'.Post _ _ (λ κs a z e p. p.0))
+pub run_ready : Settled run_ready'.Post
+run_ready = through run_ready'.Post _ (λ κs. reached_one) (same run_ready'.Post _ _ (λ κs a z e p. p.0))

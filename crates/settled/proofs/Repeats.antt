@@ -14,17 +14,17 @@ has_weekday = same has_weekday'.Post _ _ (λ κs a z e p. p)
 pub begin : Settled begin'.Post
 begin = same begin'.Post _ _ (λ κs a z e p. p)
 
-pub time_of_day_lem : Settled time_of_day'.Post
-time_of_day_lem = same time_of_day'.Post _ _ (λ κs a z e p. p)
+pub time_of_day : Settled time_of_day'.Post
+time_of_day = same time_of_day'.Post _ _ (λ κs a z e p. p)
 
 pub rounded_up : Settled rounded_up'.Post
 rounded_up = same rounded_up'.Post _ _ (λ κs a z e p. p.0)
 
-pub month_from_lem : Settled month_from'.Post
-month_from_lem = same month_from'.Post _ _ (λ κs a z e p. p.0)
+pub month_from : Settled month_from'.Post
+month_from = same month_from'.Post _ _ (λ κs a z e p. p.0)
 
-pub first_from_lem : Settled first_from'.Post
-first_from_lem = same first_from'.Post _ _ (λ κs a z e p. p)
+pub first_from : Settled first_from'.Post
+first_from = same first_from'.Post _ _ (λ κs a z e p. p)
 
 pub list : Settled list'.Post × Same list'.Post (λ κs z e. e.1.1.0.now)
 list = (same list'.Post _ _ (λ κs a z e p. p.0), same list'.Post _ _ (λ κs a z e p. p.1))

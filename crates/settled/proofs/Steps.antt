@@ -21,11 +21,11 @@ add = same add'.Post _ _ (λ κs a z e p. p)
 pub act : Settled act'.Post
 act = through act'.Post _ (λ κs. reached_one) (same act'.Post _ _ (λ κs a z e p. p.0))
 
-pub is_start_lem : Settled is_start'.Post
-is_start_lem = same is_start'.Post _ _ (λ κs a z e p. p)
+pub is_start : Settled is_start'.Post
+is_start = same is_start'.Post _ _ (λ κs a z e p. p)
 
 pub one-if_time : Settled one-if_time'.Post
 one-if_time = same one-if_time'.Post _ _ (λ κs a z e p. p.0)
 
-pub times_due_lem : Settled times_due'.Post
-times_due_lem = same times_due'.Post _ _ (λ κs a z e p. p)
+pub times_due : Settled times_due'.Post
+times_due = same times_due'.Post _ _ (λ κs a z e p. p)

@@ -11,8 +11,8 @@ check = same check'.Post _ _ (λ κs a z e p. p)
 pub transition_at : Settled transition_at'.Post
 transition_at = same transition_at'.Post _ _ (λ κs a z e p. p.0)
 
-pub offset_behind_lem : Settled offset_behind'.Post
-offset_behind_lem = same offset_behind'.Post _ _ (λ κs a z e p. p.0)
+pub offset_behind : Settled offset_behind'.Post
+offset_behind = same offset_behind'.Post _ _ (λ κs a z e p. p.0)
 
 pub turned : Settled turned'.Post
 turned = same turned'.Post _ _ (λ κs a z e p. p)

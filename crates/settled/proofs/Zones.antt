@@ -11,29 +11,29 @@ use Rattle.zones.proofs.instants.fixed_step.Reads as fixed_step'
 use Rattle.zones.proofs.instants.clock_of.Reads as clock_of'
 use Rattle.zones.proofs.instants.settle.Reads as settle'
 
-pub in_years_lem : Settled in_years'.Post
-in_years_lem = same in_years'.Post _ _ (λ κs a z e p. p)
+pub in_years : Settled in_years'.Post
+in_years = same in_years'.Post _ _ (λ κs a z e p. p)
 
-pub moment_of_second_lem : Settled moment_of_second'.Post
-moment_of_second_lem = same moment_of_second'.Post _ _ (λ κs a z e p. p)
+pub moment_of_second : Settled moment_of_second'.Post
+moment_of_second = same moment_of_second'.Post _ _ (λ κs a z e p. p)
 
-pub second_of_moment_lem : Settled second_of_moment'.Post
-second_of_moment_lem = same second_of_moment'.Post _ _ (λ κs a z e p. p.0)
+pub second_of_moment : Settled second_of_moment'.Post
+second_of_moment = same second_of_moment'.Post _ _ (λ κs a z e p. p.0)
 
-pub shift_at_lem : Settled shift_at'.Post
-shift_at_lem = same shift_at'.Post _ _ (λ κs a z e p. p.0)
+pub shift_at : Settled shift_at'.Post
+shift_at = same shift_at'.Post _ _ (λ κs a z e p. p.0)
 
-pub civil_of_lem : Settled civil_of'.Post
-civil_of_lem = same civil_of'.Post _ _ (λ κs a z e p. p)
+pub civil_of : Settled civil_of'.Post
+civil_of = same civil_of'.Post _ _ (λ κs a z e p. p)
 
 pub resolve : Settled resolve'.Post
 resolve = through resolve'.Post _ (λ κs. resolved_one) (same resolve'.Post _ _ (λ κs a z e p. p))
 
-pub fixed_step_lem : Settled fixed_step'.Post
-fixed_step_lem = through fixed_step'.Post _ (λ κs. arrived_one) (same fixed_step'.Post _ _ (λ κs a z e p. p.0))
+pub fixed_step : Settled fixed_step'.Post
+fixed_step = through fixed_step'.Post _ (λ κs. arrived_one) (same fixed_step'.Post _ _ (λ κs a z e p. p.0))
 
-pub clock_of_lem : Settled clock_of'.Post
-clock_of_lem = same clock_of'.Post _ _ (λ κs a z e p. p.0)
+pub clock_of : Settled clock_of'.Post
+clock_of = same clock_of'.Post _ _ (λ κs a z e p. p.0)
 
 pub settle : Settled settle'.Post
 settle = through settle'.Post _ (λ κs. arrived_one) (same settle'.Post _ _ (λ κs a z e p. p.0))
