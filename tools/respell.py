@@ -19,7 +19,7 @@ DECLARED = re.compile(r"^\s*(?:(?:abbrev|unfoldable|pub)\s+)*([a-z][\w'\-₀-₉
 CAMEL = re.compile(r"[a-z][a-z0-9]*[A-Z]")
 # functions of the library that lemmas are named after
 LIBRARY = set("length take drop append sets set map sum min max get_or slice_index leb ltb eqb suc and or not mul add sub div mod lt le reverse zero one".split())
-ACRONYM = {"xHH": "x_hh", "withTH": "with_th", "nearMAX": "near_max"}
+ACRONYM = {"withTH": "with_th", "nearMAX": "near_max"}
 
 
 def snake(name):

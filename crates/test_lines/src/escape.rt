@@ -1,4 +1,4 @@
-// The bytes that a line's text stands for: `\x_hh` is one byte, every other byte stands for itself.
+// The bytes that a line's text stands for: `\xHH` is one byte, every other byte stands for itself.
 ghost use Rattle.std.specs.Prelude.{◌≡◌, ◌+◌, ◌≤◌, ◌<◌, length};
 
 // A byte of a phrase, and how many bytes of the line it takes.
