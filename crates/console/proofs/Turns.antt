@@ -2,11 +2,10 @@
 use Prim.Native.Nat.{ℕ, ◌+◌, ◌≤◌, ◌<◌}
 use native.Mathlib.Omega.{arith}
 use mathlib.Core.Path.{◌≡◌, refl, sym, ap, ◌∙◌}
-use mathlib.Core.Bool.{Bool, false}
+use mathlib.Core.Bool.{Bool}
 use mathlib.Core.List.{List, [], ◌∷◌, ◌++◌, append-nil, append_assoc}
 use lib.ListN.{length, take, drop}
 use lib.Seq.{sets, take-add, length-take-le}
-use Rattle.std.specs.Prelude.{OnErr, Result, Ok, Err}
 use Rattle.digits.proofs.Stores.{sets-taken}
 use Rattle.text.specs.Lines.{rest_of}
 use Rattle.text.specs.Output.{passed_text, kept, piece_of, Held, last_text, output, in_pieces, joined}
@@ -14,7 +13,7 @@ use Rattle.text.specs.declared.stream.Known.{Known}
 use Rattle.text.specs.declared.stream.Known.TheVariants.{Nothing}
 use Rattle.text.specs.declared.stream.Piece.{Piece}
 use Rattle.text.proofs.Pieces.{in_pieces_lem}
-use Rattle.console.specs.Turns.{ReadBehind, MoreTo, Broken, unread, unwritten, Reached, start, behind, Stands, StandsBroken}
+use Rattle.console.specs.Turns.{ReadBehind, MoreTo, Reached, start, behind, Stands}
 
 -- what was kept, and the piece behind it
 pub in_two :
@@ -76,18 +75,6 @@ pub left_off :
     {s₀ out₀ s out : List ℕ} {k : Known} {held : ℕ} → Going s₀ out₀ s out k held → (b : Bool) → 257 < length s₀
     → Stands (record { known = k; held = held; ended = b }) s
 left_off was b h = let few = was.few in let input = was.input in record { reached = was.reached; within = omega arith }
-
--- what holds in any case holds of an error
-pub at_error : {T E P : Type 0} (r : Result T E) → P → OnErr r P
-at_error (Ok x) p = tt
-at_error (Err e) p = p
-
--- a read or a write failed: it stands all the same
-pub broken :
-    {s₀ out₀ s out s' out' : List ℕ} {k : Known} {held : ℕ} → Going s₀ out₀ s out k held → Broken k (take held s) s' out out' → length s' ≡ length s
-    → length out' ≡ length out → 257 < length s₀ → StandsBroken s'
-broken was (unread e q) i o h = record { stand = _; stands = standing was false e i h }
-broken was (unwritten m) i o h = record { stand = _; stands = left_off (going_on was m i o) false h }
 
 -- what was reached: some pieces, and what was written for them
 pub record Behind (k : Known) (l : List ℕ) : Type 0 where

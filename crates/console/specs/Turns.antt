@@ -7,7 +7,7 @@ use Rattle.text.specs.declared.stream.Known.{Known}
 use Rattle.text.specs.declared.stream.Known.TheVariants.{Nothing}
 use Rattle.console.specs.declared.Stand.{Stand}
 use Rattle.console.specs.declared.Turn.{Turn}
-use Rattle.console.specs.declared.Turn.TheVariants.{More, Ended}
+use Rattle.console.specs.declared.Turn.TheVariants.{More, Failed, Ended}
 
 -- some r bytes stand behind the first `held`, which are as before
 pub record ReadBehind (held r : ℕ) (before after : List ℕ) : Type 0 where
@@ -25,13 +25,8 @@ pub record MoreTo (k : Known) (m : List ℕ) (k' : Known) (h : ℕ) (s out out' 
 -- where the input has ended, what was kept is still there
 abbrev pub Turned : Known → List ℕ → Turn → List ℕ → List ℕ → List ℕ → Type 0
 Turned k m (More k' h) s out out' = MoreTo k m k' h s out out'
+Turned k m (Failed k' h) s out out' = MoreTo k m k' h s out out'
 Turned k m Ended s out out' = (take (length m) s ≡ m) × (out' ≡ out)
-
--- what a failed read or a failed write leaves: what was kept is still there, and out is as before; or a piece is read and answered, and what
--- was written of its answers is not known
-pub data Broken (k : Known) (m s out out' : List ℕ) : Type 0 where
-  unread : take (length m) s ≡ m → out' ≡ out → Broken k m s out out'
-  unwritten : {k' : Known} {h : ℕ} → MoreTo k m k' h s out out' → Broken k m s out out'
 
 -- k is known and l kept behind some pieces of the input, as `in_pieces` goes through them
 pub data Reached : Known → List ℕ → Type 0 where
@@ -42,8 +37,3 @@ pub data Reached : Known → List ℕ → Type 0 where
 pub record Stands (r : Stand) (s : List ℕ) : Type 0 where
   pub reached : Reached r.known (take r.held s)
   pub within : r.held < length s
-
--- what the loop leaves where a read or a write failed: it stands behind some pieces all the same
-pub record StandsBroken (s : List ℕ) : Type 0 where
-  pub stand : Stand
-  pub stands : Stands stand s

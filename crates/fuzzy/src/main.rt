@@ -1,8 +1,6 @@
 // The program `fuzzy`: a first line with now on standard input, then one phrase a line; a moment or a refusal a phrase on standard output.
 #![tactic(auto)]
 
-use std::io;
-
-fn main(rt: HostRuntime) -> io::Result<()> {
-    console::run(&rt)
+fn main(rt: HostRuntime) {
+    console::run(&rt);
 }

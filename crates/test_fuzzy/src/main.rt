@@ -2,8 +2,6 @@
 // no line feed at the end. data/expected.py writes the input and the output.
 #![tactic(auto)]
 
-use std::io;
-
-fn main(rt: HostRuntime) -> io::Result<()> {
-    console::run(&rt)
+fn main(rt: HostRuntime) {
+    console::run(&rt);
 }

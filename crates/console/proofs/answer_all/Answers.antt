@@ -1,17 +1,19 @@
 -- `console::answer_all` meets its contract. Assumes nothing.
+use mathlib.Core.Bool.{false}
 use mathlib.Core.Path.{refl}
 use native.Mathlib.Omega.{arith}
 use Rattle.console.specs.Turns.{start}
-use Rattle.console.proofs.Turns.{going_on, broken, at_error}
+use Rattle.console.proofs.Turns.{going_on, left_off}
 use Rattle.console.proofs.answer_all.Goals as goal
 
 pub loop-init : goal.loop-init
 loop-init g c = record { reached = start; few = omega arith; input = refl; output = refl }
 
-pub returns-in_err-k-clause-broken : goal.returns-in_err-k-clause-broken
-returns-in_err-k-clause-broken g c =
-    at_error _ (broken c.loop.invariant c.in_err-k.ensures.broken c.answer_next.auto.s c.answer_next.auto.out c.requires.0)
-
 pub loop-preserved : goal.loop-preserved
 loop-preserved g c =
-    going_on c.loop.invariant (rw c.in-More.is at c.in_ok-k.ensures.turned) c.answer_next.auto.s c.answer_next.auto.out
+    going_on c.loop.invariant (rw c.in-More.is at c.answer_next.ensures) c.answer_next.auto.s c.answer_next.auto.out
+
+pub returns-in-Failed : goal.returns-in-Failed
+returns-in-Failed g c =
+    let next = going_on c.loop.invariant (rw c.in-Failed.is at c.answer_next.ensures) c.answer_next.auto.s c.answer_next.auto.out in
+    left_off next false c.requires.0
