@@ -14,6 +14,7 @@ use fuzzydate::{
 use scan::find;
 use std::io;
 use std::io::Read;
+use test_input::read_full;
 
 // The bytes of a line with a now, and of one with a slot.
 const NOW: usize = 26;
@@ -266,21 +267,20 @@ fn write_lines(
 fn write_piece(
     rt: &impl Print,
     input: &mut impl Read,
-    text: &mut Vec<u8>,
+    text: &mut [u8],
     ready: &mut [u8; 98304],
     lengths: &mut [u32; 256],
     keys: &mut [u64; 256],
     state: &mut [u32; 8],
 ) -> io::Result<()> {
-    text.clear();
-    input.by_ref().take(65536).read_to_end(text)?;
-    write_lines(rt, text, ready, lengths, keys, state)
+    let n = read_full(input, text)?;
+    write_lines(rt, &text[..n], ready, lengths, keys, state)
 }
 
 // Standard input has up to four pieces of 65,536 bytes, each of whole lines: data/expected.py, which writes it, sees to that.
 fn main(rt: HostRuntime) -> io::Result<()> {
     let mut input = rt.reader();
-    let mut text = Vec::new(rt.alloc());
+    let mut text = [0u8; 65536];
     let mut ready = [0u8; 98304];
     let mut lengths = [0u32; 256];
     let mut keys = [0u64; 256];

@@ -5,7 +5,7 @@
 use fuzzydate::fuzzy_find_word;
 use scan::find;
 use std::io;
-use std::io::Read;
+use test_input::read_full;
 
 // A number behind a text.
 fn write_number(rt: &impl Print, text: &[u8], n: u64) -> io::Result<()> {
@@ -58,10 +58,11 @@ fn write_in(rt: &impl Print, reading: u32, text: &[u8]) -> io::Result<()> {
 
 // Standard input has fewer than 65,536 bytes: data/expected.py, which writes it, sees to that.
 fn main(rt: HostRuntime) -> io::Result<()> {
-    let mut text = Vec::new(rt.alloc());
-    rt.reader().take(65536).read_to_end(&mut text)?;
-    write_in(&rt, 1, &text)?;
-    write_in(&rt, 2, &text)?;
+    let mut input = rt.reader();
+    let mut text = [0u8; 65536];
+    let n = read_full(&mut input, &mut text)?;
+    write_in(&rt, 1, &text[..n])?;
+    write_in(&rt, 2, &text[..n])?;
     write_word(&rt, 0, b"now")?;
     write_word(&rt, 3, b"now")?;
     write_word(&rt, 4294967295, b"")

@@ -12,7 +12,7 @@ use reader::Lexer;
 use refusals::Refusal;
 use scan::find;
 use std::io;
-use std::io::Read;
+use test_input::read_full;
 
 // A number behind a text.
 fn write_number(rt: &impl Print, text: &[u8], n: u64) -> io::Result<()> {
@@ -126,8 +126,9 @@ fn write_in(rt: &impl Print, reading: Reading, text: &[u8]) -> io::Result<()> {
 
 // Standard input has fewer than 65,536 bytes: data/expected.py, which writes it, sees to that.
 fn main(rt: HostRuntime) -> io::Result<()> {
-    let mut text = Vec::new(rt.alloc());
-    rt.reader().take(65536).read_to_end(&mut text)?;
-    write_in(&rt, Reading::First, &text)?;
-    write_in(&rt, Reading::Second, &text)
+    let mut input = rt.reader();
+    let mut text = [0u8; 65536];
+    let n = read_full(&mut input, &mut text)?;
+    write_in(&rt, Reading::First, &text[..n])?;
+    write_in(&rt, Reading::Second, &text[..n])
 }

@@ -9,6 +9,7 @@ use line::write_line;
 use scan::find;
 use std::io;
 use std::io::Read;
+use test_input::read_full;
 
 mod escape;
 mod line;
@@ -23,7 +24,7 @@ fn read_behind(input: &mut impl Read, piece: &mut [u8], held: usize) -> io::Resu
     requires { held ≤ length piece.old }
     ensures { IfOk result (λ n. held + n ≤ length piece.old) }
 {
-    input.read(&mut piece[held..])
+    read_full(input, &mut piece[held..])
 }
 
 // Answers each line that a line feed ends; where the unfinished one begins.

@@ -12,8 +12,8 @@ use records::record::encode;
 use records::run::run_ready;
 use scan::find;
 use std::io;
-use std::io::Read;
 use steps::plan::Plan;
+use test_input::read_full;
 use test_print::out::{moment, number, text};
 
 // A now has this many bytes, and a bar stands behind it.
@@ -96,7 +96,8 @@ fn write_lines(rt: &impl Print, lines: &[u8]) -> io::Result<()> {
 
 // Standard input has fewer than 65,536 bytes: data/expected.py, which writes it, sees to that.
 fn main(rt: HostRuntime) -> io::Result<()> {
-    let mut lines = Vec::new(rt.alloc());
-    rt.reader().take(65536).read_to_end(&mut lines)?;
-    write_lines(&rt, &lines)
+    let mut input = rt.reader();
+    let mut lines = [0u8; 65536];
+    let n = read_full(&mut input, &mut lines)?;
+    write_lines(&rt, &lines[..n])
 }

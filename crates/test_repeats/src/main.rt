@@ -11,6 +11,7 @@ use fuzzydate::fuzzy_list_in;
 use scan::find;
 use std::io;
 use std::io::Read;
+use test_input::read_full;
 
 // Before the rule a line has this many bytes.
 const HEAD: usize = 30;
@@ -126,16 +127,15 @@ fn write_lines(rt: &impl Print, text: &[u8]) -> io::Result<()> {
 }
 
 // The next piece of standard input, without what an earlier one left.
-fn write_piece(rt: &impl Print, input: &mut impl Read, text: &mut Vec<u8>) -> io::Result<()> {
-    text.clear();
-    input.by_ref().take(65536).read_to_end(text)?;
-    write_lines(rt, text)
+fn write_piece(rt: &impl Print, input: &mut impl Read, text: &mut [u8]) -> io::Result<()> {
+    let n = read_full(input, text)?;
+    write_lines(rt, &text[..n])
 }
 
 // Standard input has up to four pieces of 65,536 bytes, each of whole lines: data/expected.py, which writes it, sees to that.
 fn main(rt: HostRuntime) -> io::Result<()> {
     let mut input = rt.reader();
-    let mut text = Vec::new(rt.alloc());
+    let mut text = [0u8; 65536];
     write_piece(&rt, &mut input, &mut text)?;
     write_piece(&rt, &mut input, &mut text)?;
     write_piece(&rt, &mut input, &mut text)?;

@@ -11,6 +11,7 @@ use fuzzydate::{fuzzy_make_ready, fuzzy_read_in_zone, fuzzy_run_in_zone};
 use scan::find;
 use std::io;
 use std::io::Read;
+use test_input::read_full;
 
 // Where the length stands in an answer.
 const LENGTH: u64 = 4294967296;
@@ -360,20 +361,19 @@ fn take_lines(
 fn take_piece(
     rt: &impl Print,
     input: &mut impl Read,
-    text: &mut Vec<u8>,
+    text: &mut [u8],
     zone: &mut [u8],
     state: &mut [u64; 3],
 ) -> io::Result<usize> {
-    text.clear();
-    let n = input.by_ref().take(65536).read_to_end(text)?;
-    take_lines(rt, text, zone, state)?;
+    let n = read_full(input, text)?;
+    take_lines(rt, &text[..n], zone, state)?;
     Ok(n)
 }
 
 // Standard input has pieces of 65,536 bytes, each of whole lines: oracle/zones.py, which writes them, sees to that.
 fn main(rt: HostRuntime) -> io::Result<()> {
     let mut input = rt.reader();
-    let mut text = Vec::new(rt.alloc());
+    let mut text = [0u8; 65536];
     let mut zone = [0u8; 65600];
     let mut state = [0u64; 3];
     for _ in 0..PIECES {
