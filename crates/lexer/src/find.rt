@@ -101,11 +101,11 @@ pub fn look_up(reading: Reading, word: &[u8]) -> Looked
     match reading {
         Reading::First => {
             let first = first_rows();
-            look_in(reading, &first, word)
+            look_in(reading, first, word)
         }
         Reading::Second => {
             let second = second_rows();
-            look_in(reading, &second, word)
+            look_in(reading, second, word)
         }
     }
 }

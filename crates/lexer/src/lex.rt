@@ -132,11 +132,11 @@ pub fn token_at(reading: Reading, s: &[u8], at: usize) -> Token
     match reading {
         Reading::First => {
             let first = first_rows();
-            token_in(reading, &first, s, at)
+            token_in(reading, first, s, at)
         }
         Reading::Second => {
             let second = second_rows();
-            token_in(reading, &second, s, at)
+            token_in(reading, second, s, at)
         }
     }
 }
@@ -203,11 +203,11 @@ pub fn lex(reading: Reading, s: &[u8], codes: &mut [u64; 64], starts: &mut [u8; 
     match reading {
         Reading::First => {
             let first = first_rows();
-            lex_in(reading, &first, s, codes, starts)
+            lex_in(reading, first, s, codes, starts)
         }
         Reading::Second => {
             let second = second_rows();
-            lex_in(reading, &second, s, codes, starts)
+            lex_in(reading, second, s, codes, starts)
         }
     }
 }

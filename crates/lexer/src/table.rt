@@ -1,5 +1,5 @@
 // The words of each reading in byte order, a row of 16 bytes each: the word, filled up to 14 with dots and blanks, its length and its lexeme.
-// (A run of equal bytes would be stored by itself, and rows of 14 bytes take more to be found than they save: both were measured.)
+// (Rows of 14 bytes take more to be found than they save, as was measured.)
 ghost use Rattle.std.specs.Prelude.{◌≡◌, ◌+◌, ◌≤◌, ◌<◌, length, take, drop};
 ghost use Rattle.lexer.specs.Keywords.{words_in, count_in};
 ghost use Rattle.lexer.specs.declared.reading.Reading.TheVariants.{First, Second};
@@ -7,7 +7,7 @@ ghost use Rattle.lexer.specs.Table.{sorted, cells, spelling_at, lexeme_at, bytes
 
 use super::reading::Reading;
 
-const FIRST_WORDS: [u8; 2128] = *b"\
+static FIRST_WORDS: [u8; 2128] = *b"\
     a. . . . . . .\x01\x64\
     after. . . . .\x05\x74\
     ago. . . . . .\x03\x94\
@@ -143,7 +143,7 @@ const FIRST_WORDS: [u8; 2128] = *b"\
     zero . . . . .\x04\x97\
 ";
 
-const SECOND_WORDS: [u8; 2176] = *b"\
+static SECOND_WORDS: [u8; 2176] = *b"\
     a. . . . . . .\x01\x64\
     after. . . . .\x05\x74\
     ago. . . . . .\x03\x94\
@@ -282,18 +282,18 @@ const SECOND_WORDS: [u8; 2176] = *b"\
     zero . . . . .\x04\x97\
 ";
 
-// All rows of the first reading. A constant is made anew wherever it stands in the code, so this is done once a phrase, and the rows are lent.
-pub(crate) fn first_rows() -> [u8; 2128]
-    ensures { result ≡ cells (sorted (words_in First)) }
+// All rows of the first reading, lent as they lie in the program: a constant would be made anew, byte by byte, in every call.
+pub(crate) fn first_rows() -> &'static [u8]
+    ensures { result.now ≡ cells (sorted (words_in First)) }
 {
-    FIRST_WORDS
+    &FIRST_WORDS
 }
 
 // All rows of the second.
-pub(crate) fn second_rows() -> [u8; 2176]
-    ensures { result ≡ cells (sorted (words_in Second)) }
+pub(crate) fn second_rows() -> &'static [u8]
+    ensures { result.now ≡ cells (sorted (words_in Second)) }
 {
-    SECOND_WORDS
+    &SECOND_WORDS
 }
 
 // How many rows a reading has.
