@@ -17,6 +17,7 @@ import time
 from urllib.parse import parse_qs, urlencode, urlsplit
 
 from selenium import webdriver
+from selenium.common.exceptions import StaleElementReferenceException
 from selenium.webdriver.common.by import By
 from selenium.webdriver.common.keys import Keys
 from selenium.webdriver.support.ui import Select
@@ -117,6 +118,15 @@ class Page:
     def one(self, selector):
         return self.browser.find_element(By.CSS_SELECTOR, selector)
 
+    def texts(self, selector):
+        """The texts of all that match. The page may draw them anew between the finding and the reading: then once more."""
+        for _ in range(100):
+            try:
+                return [found.text for found in self.all(selector)]
+            except StaleElementReferenceException:
+                pass
+        return check(False, selector, "is drawn anew all the time")
+
     def text(self, name):
         return self.by(name).text
 
@@ -191,9 +201,9 @@ def try_phrases(page, name):
     check("Type a phrase" in page.text("try-answer"), page.text("try-answer"))
     page.type_into("try-phrase", "next friday at 3 pm")
     answer = page.text("try-answer")
-    check("20 February 2026" in answer and page.one("#try-answer .time").text == "15:00", answer)
+    check("20 February 2026" in answer and page.texts("#try-answer .time")[0] == "15:00", answer)
     check("in 9 days, 5 hours and 29 minutes" in answer and "february 20 2026 at 15:00" in answer, answer)
-    marks = [page.one(f"#try-answer td.{kind}").text[:2] for kind in ("now", "due")]
+    marks = [page.texts(f"#try-answer td.{kind}")[0][:2] for kind in ("now", "due")]
     check(marks == ["11", "20"], "the month's marks:", marks)
     check(page.state() == {"tab": "try", "phrase": "next friday at 3 pm", "now": NOW, "reading": "2"}, page.browser.current_url)
     check(page.by("try-brief").is_displayed() == (page.width < 600), "the line below the phrase")
@@ -207,7 +217,7 @@ def try_phrases(page, name):
     page.one("[name='try-reading'][value='2']").send_keys(Keys.ARROW_LEFT)
     check("27 January 2026" in page.text("try-answer") and page.state()["reading"] == "1", page.text("try-answer"))
     page.visit(tab="try", phrase="tuesday 1 year and 2 weeks ago at 5:30 pm", now=NOW, reading="1")
-    steps = [step.text.replace("\n", " ") for step in page.all("#try-steps li")]
+    steps = [step.replace("\n", " ") for step in page.texts("#try-steps li")]
     wanted = ["Start today", "Go back 1 year", "Go back 2 weeks", "Go back to a Tuesday", "Set the time to 5:30 pm"]
     check(len(steps) == 5 and all(map(str.startswith, steps, wanted)) and steps[4].endswith("Tue 28 Jan 2025, 17:30"), steps)
     check(page.text("try-readings") == "", page.text("try-readings"))
@@ -217,12 +227,12 @@ def try_refusals(page, name):
     """A refused part underlined, a word while it is typed, and a now that is none."""
     page.visit(tab="try", phrase="three weeks before christmas", now=NOW, reading="2")
     mirrored = page.one("#try .mirror mark").get_attribute("textContent")
-    check(page.one("#try-answer mark").text == "christmas" and mirrored == "christmas", "the refused part")
+    check(page.texts("#try-answer mark")[0] == "christmas" and mirrored == "christmas", "the refused part")
     check("“christmas”: not understood." in page.text("try-answer"), page.text("try-answer"))
     page.shot(f"refused-{name}")
     page.type_into("try-phrase", "the day after tom")
     check("Keep typing" in page.text("try-answer") and "begins a known word" in page.text("try-word"), page.text("try-answer"))
-    check([fit.text for fit in page.all("#try-fits button")] == ["tomorrow"], page.text("try-fits"))
+    check(page.texts("#try-fits button") == ["tomorrow"], page.text("try-fits"))
     page.shot(f"typing-{name}")
     page.by("try-phrase").send_keys(Keys.ARROW_RIGHT)
     check(page.value("try-phrase") == "the day after tomorrow ", page.value("try-phrase"))
@@ -247,7 +257,7 @@ def why_moved(page, name):
     check(page.by("why").is_displayed() and not page.by("try").is_displayed(), "the second tab by its key")
     page.visit(tab="why", phrase="next friday at 3 pm", now=NOW)
     check("728 days (about 2 years) late" in page.text("why-verdict") and "late" in page.text("why-ahead-got"), page.text("why-verdict"))
-    check(len({got.text for got in page.all("#why-sent .got")}) == 1, "with the author's now they differ")
+    check(len(set(page.texts("#why-sent .got"))) == 1, "with the author's now they differ")
     page.check_access("why")
     page.shot(f"why-{name}")
     page.type_into("why-ahead", NOW)
@@ -285,7 +295,7 @@ def zones(page, name):
     page.check_access("zones")
     page.shot(f"zones-{name}")
     page.type_into("zones-phrase", "tomorrow at 2:30")
-    check("Refusal 23" in page.text("zones-answer") and "no 02:30" in page.one("#zones-line .gap").text, page.text("zones-answer"))
+    check("Refusal 23" in page.text("zones-answer") and "no 02:30" in page.texts("#zones-line .gap")[0], page.text("zones-answer"))
     page.shot(f"zones-skipped-{name}")
     page.visit(**BACK)
     check(len(page.all("#zones-line .twice")) == 2 and "an hour comes twice" in page.text("zones-line-said"), "the hour that comes twice")
@@ -347,7 +357,7 @@ def typed(page, archive, path, count):
             check_refusal(page, reading, phrase, expected)
         else:
             moments += 1
-            found = (page.one("#try-answer .day").text.split("\n")[1], page.one("#try-answer .time").text)
+            found = (page.texts("#try-answer .day")[0].split("\n")[1], page.texts("#try-answer .time")[0])
             check(found == expected, reading, phrase, now, expected, found)
     print(f"{count} phrases typed in: {moments} moments and {refused} refusals as the archive has them")
 
@@ -358,7 +368,7 @@ def check_refusal(page, reading, phrase, expected):
     if text.startswith("Keep typing"):
         check(number == 2, reading, phrase, expected, text)
         return
-    marks = [mark.text for mark in page.all("#try-answer mark")]
+    marks = page.texts("#try-answer mark")
     check(f"Refusal {number}" in text.split("\n"), reading, phrase, expected, text)
     check(marks == ([part] if part else []), reading, phrase, expected, marks)
 
