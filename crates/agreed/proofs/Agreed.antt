@@ -4,6 +4,7 @@ use native.Mathlib.Omega.{arith}
 use mathlib.Core.Path.{◌≡◌, refl, sym, ◌∙◌}
 use mathlib.Core.List.{List}
 use lib.ListN.{length, take}
+use Rattle.refusals.specs.Table.{number_of}
 use Rattle.refusals.specs.Answers.{given, refused}
 use Rattle.refusals.specs.declared.Refusal.{Refusal}
 use Rattle.refusals.proofs.Holds.{Bounded, given_holds, refusal_holds}
@@ -89,7 +90,7 @@ ready_alike reading phrase {phone} {phone'} {hub} {hub'} {q} {r} c d = go (ready
         (m.number_is ∙ sym o.number_is, λ z. handed ss few c.bytes m ∙ sym (handed ss few d.bytes o))
 
 -- the numbers of a refusal there
-usual : {low m : ℕ} → 1 ≤ low → (r : Refusal) → Bounded low 13 m r → Bounded 1 23 m r × Usual low r.number
+usual : {low m : ℕ} → 1 ≤ low → (r : Refusal) → Bounded low 13 m r → Bounded 1 23 m r × Usual low (number_of r.reason)
 usual h r b = (omega arith, (b.least, b.most))
 
 -- what every answer to a phrase in a reading is: 0 and a moment of the calendar; or a refusal of 1 to 13 whose part lies within the phrase,

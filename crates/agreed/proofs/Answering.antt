@@ -7,7 +7,9 @@ use mathlib.Core.List.{List, [], ◌∷◌}
 use mathlib.Core.Logic.{inl, inr}
 use lib.Dec.{leb}
 use lib.ListN.{length}
-use Rattle.refusals.specs.Table.{InvalidMoment, NoStamp, NotWhole, NoRoom, Outside}
+use Rattle.refusals.specs.Table.{number_of}
+use Rattle.refusals.specs.declared.Reason.TheVariants.{InvalidMoment, NoStamp, NotWhole, NoRoom, Outside}
+use Rattle.refusals.specs.declared.Reason.{Reason}
 use Rattle.refusals.specs.Answers.{Answer, given, refuse}
 use Rattle.refusals.proofs.Holds.{given_holds}
 use Rattle.calendar.specs.Moments.{is_moment}
@@ -37,23 +39,23 @@ read_stamp_answers {text} {array} {array'} {k} c = go (one_of_three text) (stamp
         rw (says.number_is, says.array'_is) (moment (record { moment = v; offset = o }))
     go (year_zero there y e) m =
         let says = rw e at m in
-        rw (says.number_is, says.array'_is) (refusal {k = Outside} (inl refl) (omega arith))
+        rw (says.number_is, says.array'_is) (refusal {k = number_of Outside} (inl refl) (omega arith))
     go (no_stamp none e) m =
         let says = rw e at m in
-        rw (says.number_is, says.array'_is) (refusal {k = NoStamp} (inr (inl refl)) (omega arith))
+        rw (says.number_is, says.array'_is) (refusal {k = number_of NoStamp} (inr (inl refl)) (omega arith))
 
-module _ {P : List ℕ → Type 0} {low mid high : ℕ} {text text' : List ℕ} {k : ℕ} where
+module _ {P : List ℕ → Type 0} {low mid high : Reason} {text text' : List ℕ} {k : ℕ} where
   -- two tests and the room, each with its refusal
   by_tests :
       (a b : Bool) (s : List ℕ) (w : Answer (List ℕ)) → w ≡ cond a (cond b (cond (leb (length s) (length text)) (given s) (refuse high 0 0)) (refuse mid 0 0)) (refuse low 0 0) →
       ((x : List ℕ) → w ≡ given x → P x) → Writes w text k text' → Wrote P (low ∷ mid ∷ high ∷ []) text k text'
-  by_tests false b s w e p m = let says = rw e at m in rw (says.number_is, says.array'_is) (unwritten {k = low + 65536 * 0 + 4294967296 * 0} (inl (omega arith)))
-  by_tests true false s w e p m = let says = rw e at m in rw (says.number_is, says.array'_is) (unwritten {k = mid + 65536 * 0 + 4294967296 * 0} (inr (inl (omega arith))))
+  by_tests false b s w e p m = let says = rw e at m in rw (says.number_is, says.array'_is) (unwritten {k = number_of low + 65536 * 0 + 4294967296 * 0} (inl (omega arith)))
+  by_tests true false s w e p m = let says = rw e at m in rw (says.number_is, says.array'_is) (unwritten {k = number_of mid + 65536 * 0 + 4294967296 * 0} (inr (inl (omega arith))))
   by_tests true true s w e p m = go (leb (length s) (length text)) e
     where
       go : (c : Bool) → w ≡ cond c (given s) (refuse high 0 0) → Wrote P (low ∷ mid ∷ high ∷ []) text k text'
       go true f = let says = rw f at m in rw (says.number_is, says.array'_is) (wrote {bytes = s} (p s f))
-      go false f = let says = rw f at m in rw (says.number_is, says.array'_is) (unwritten {k = high + 65536 * 0 + 4294967296 * 0} (inr (inr (inl (omega arith)))))
+      go false f = let says = rw f at m in rw (says.number_is, says.array'_is) (unwritten {k = number_of high + 65536 * 0 + 4294967296 * 0} (inr (inr (inl (omega arith)))))
 
 -- writing a stamp: its text, or 8, 14 or 17, and nothing written
 pub write_stamp_answers :

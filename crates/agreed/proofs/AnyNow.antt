@@ -5,7 +5,8 @@ use mathlib.Core.Path.{◌≡◌, refl, sym, ◌∙◌}
 use mathlib.Core.List.{List}
 use lib.ListN.{length, take}
 use Rattle.refusals.specs.Answers.{Answer, given, refused, refuse, and_then}
-use Rattle.refusals.specs.Table.{NoReading}
+use Rattle.refusals.specs.Table.{number_of}
+use Rattle.refusals.specs.declared.Reason.TheVariants.{NoReading}
 use Rattle.refusals.specs.declared.Refusal.{Refusal}
 use Rattle.refusals.proofs.Holds.{Holds, of_given, of_refusal, Bounded, given_holds, refusal_holds}
 use Rattle.steps.specs.declared.plan.Step.{Step}
@@ -65,7 +66,7 @@ none_ready reading other phrase = rw (no_reading reading (λ e. other (rw e firs
 
 -- a refusal's parts are found in its number
 parts_found :
-    (r : Refusal) {room k : ℕ} → Bounded 1 23 (min room 256) r → k ≡ code r → (number k ≡ r.number) × (place k + size k ≤ room)
+    (r : Refusal) {room k : ℕ} → Bounded 1 23 (min room 256) r → k ≡ code r → (number k ≡ number_of r.reason) × (place k + size k ≤ room)
 parts_found r b e = (omega arith, omega arith)
 
 -- two functions, with what they promise to answer at a now, to a phrase in a reading and to the steps of a ready phrase, and what an answer leaves;
@@ -80,14 +81,14 @@ pub record Answering {N L : Type 0} (A : Type 0) (Read : ℕ → List ℕ → N 
   pub run_says : {ready : List ℕ} {n : N} {array : L} {k : ℕ} {array' : L} → Run ready n array k array' →
       Says after (run (decode_of ready) n) array k array'
   pub made_runs : (reading : ℕ) (phrase : List ℕ) (n : N) → and_then (ready_in reading phrase) (λ ss. run ss n) ≡ read reading phrase n
-  pub some : (reading : ℕ) (phrase : List ℕ) (n : N) (r : Refusal) → read reading phrase n ≡ refused r → 1 ≤ r.number
+  pub some : (reading : ℕ) (phrase : List ℕ) (n : N) (r : Refusal) → read reading phrase n ≡ refused r → 1 ≤ number_of r.reason
   pub same : (x : A) (a b : L) → after (given x) a ≡ after (given x) b
   pub stays : (r : Refusal) (a : L) → after (refused r) a ≡ a
 
 module _ {N L A : Type 0} {Read : ℕ → List ℕ → N → L → ℕ → L → Type 0} {Run : List ℕ → N → L → ℕ → L → Type 0} (d : Answering A Read Run) where
   -- one answer, given in two calls
   alike :
-      (w : Answer A) → ((r : Refusal) → w ≡ refused r → 1 ≤ r.number) → {phone phone' hub hub' : L} {q r : ℕ} →
+      (w : Answer A) → ((r : Refusal) → w ≡ refused r → 1 ≤ number_of r.reason) → {phone phone' hub hub' : L} {q r : ℕ} →
       Says d.after w phone q phone' → Says d.after w hub r hub' → Alike q phone phone' r hub hub'
   alike (given x) some c e =
       record {
@@ -116,7 +117,7 @@ module _ {N L A : Type 0} {Read : ℕ → List ℕ → N → L → ℕ → L →
   -- what an answer whose part lies within that room and 256 bytes becomes in a call
   pub answered :
       {P : A → Type 0} {Q : Refusal → Type 0} {Number : ℕ → Type 0} {room : ℕ} {w : Answer A} {array array' : L} {k : ℕ} →
-      ((r : Refusal) → Q r → Bounded 1 23 (min room 256) r × Number r.number) → Holds P Q w → Says d.after w array k array' →
+      ((r : Refusal) → Q r → Bounded 1 23 (min room 256) r × Number (number_of r.reason)) → Holds P Q w → Says d.after w array k array' →
       Answers d.after P Number room array k array'
   answered bounds (of_given v) c = rw (c.number_is, c.array'_is) (moment v)
   answered {array = array} {k = k} bounds (of_refusal {r} q) c =

@@ -8,7 +8,7 @@ use lib.Dec.{ltb}
 use lib.ListN.{length, replicate}
 use lib.Seq.{sets}
 use borrow.Author.Tests.{lt-ltb}
-use Rattle.refusals.specs.Table.{InvalidMoment, EmptySlot}
+use Rattle.refusals.specs.declared.Reason.TheVariants.{InvalidMoment, EmptySlot}
 use Rattle.refusals.specs.Answers.{Answer, given, refused, refuse, and_then}
 use Rattle.calendar.specs.Moments.{is_moment}
 use Rattle.calendar.specs.declared.moments.Moment.{Moment}

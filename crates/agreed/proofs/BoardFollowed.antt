@@ -6,7 +6,7 @@ use mathlib.Core.Bool.{Bool, true, false, cond, not}
 use mathlib.Core.List.{List}
 use lib.Dec.{eqb, ltb}
 use borrow.Author.Tests.{eqb-true, eqb-false}
-use Rattle.refusals.specs.Table.{NothingDue}
+use Rattle.refusals.specs.declared.Reason.TheVariants.{NothingDue}
 use Rattle.refusals.specs.Answers.{Answer, given, refused, refuse}
 use Rattle.refusals.proofs.Holds.{refusal_holds}
 use Rattle.calendar.specs.Moments.{Outcome, moment, refused as unreached, instant_of, moment_in}
@@ -14,8 +14,9 @@ use Rattle.calendar.specs.declared.moments.Moment.{Moment}
 use Rattle.answer.specs.Answer.{placed}
 use Rattle.steps.specs.Running.{run_of}
 use Rattle.records.specs.Records.{decode_of}
-use Rattle.board.specs.Boards.{Memory, Due, is_filled, outcome_at}
+use Rattle.board.specs.Boards.{Memory, is_filled, outcome_at}
 use Rattle.board.specs.Scans.{Others, earlier, scan_from, scan_of}
+use Rattle.board.specs.declared.Due.{Due}
 use Rattle.fuzzydate.specs.Called.{answer_in, head_code, head_after}
 use Rattle.fuzzydate.proofs.Readings.{made_in}
 use Rattle.agreed.specs.Calls.{number, size}

@@ -10,7 +10,7 @@ use lib.ListN.{length, get_or, take, replicate, get_or-eq_default}
 use lib.Seq.{sets}
 use borrow.Author.Tests.{ne_eqb, ltb-true, ltb-false}
 use Rattle.digits.proofs.Stores.{sets-taken}
-use Rattle.refusals.specs.Table.{InvalidMoment}
+use Rattle.refusals.specs.declared.Reason.TheVariants.{InvalidMoment}
 use Rattle.refusals.specs.Answers.{Answer, given, refused, refuse, and_then}
 use Rattle.calendar.specs.Moments.{is_moment}
 use Rattle.calendar.specs.declared.moments.Moment.{Moment}

@@ -5,6 +5,7 @@ use mathlib.Core.Path.{◌≡◌, refl}
 use mathlib.Core.List.{List}
 use mathlib.Core.Logic.{inl, inr, ⊎_elim}
 use lib.ListN.{length}
+use Rattle.refusals.specs.Table.{number_of}
 use Rattle.refusals.specs.Answers.{Answer}
 use Rattle.refusals.specs.declared.Refusal.{Refusal}
 use Rattle.refusals.proofs.Holds.{Bounded, refusal_holds}
@@ -60,7 +61,7 @@ pub zone_read_alike :
 zone_read_alike = reads_alike in_zones
 
 -- the numbers of a refusal there
-stops : {low m : ℕ} → 1 ≤ low → (r : Refusal) → Stops low m r → Bounded 1 23 m r × UsualInZone low r.number
+stops : {low m : ℕ} → 1 ≤ low → (r : Refusal) → Stops low m r → Bounded 1 23 m r × UsualInZone low (number_of r.reason)
 stops h r q = ⊎_elim (λ b. (omega arith, inl (b.least, b.most))) (λ b. (omega arith, inr (b.least, b.most))) q
 
 -- what every answer to a phrase in a reading is: 0 and what the clocks show; or a refusal of 1 to 13 or of 21 to 23 whose part lies within the

@@ -10,7 +10,8 @@ use lib.Dec.{leb}
 use lib.ListN.{length, get_or, take, drop, length-take}
 use lib.Seq.{sets}
 use Rattle.digits.proofs.Order.{le-or_lt}
-use Rattle.refusals.specs.Table.{InvalidMoment, NoRule, NoStart, NoNext}
+use Rattle.refusals.specs.Table.{number_of}
+use Rattle.refusals.specs.declared.Reason.TheVariants.{InvalidMoment, NoRule, NoStart, NoNext}
 use Rattle.refusals.specs.Answers.{Answer, given, refuse, and_then}
 use Rattle.refusals.proofs.Holds.{Holds, of_given, of_refusal, Bounded}
 use Rattle.calendar.specs.Gregorian.{days}
@@ -152,7 +153,7 @@ list_answers s t {lent} {left} {k} c = by_start (is_moment t) refl (read_rule s)
     by_days : (r : Rule) → read_rule s ≡ given r → IsRule r → IsMoment t → (b : Bool) → start_fits r t ≡ b →
         Tells-rows (and_then (cond b (given (occurrences r t)) (refuse NoStart 0 0)) (λ l. given (take (length lent / 7) l))) t lent k left → Lists s t lent k left
     by_days r e v w true f m = rw (m.number_is, m.array'_is) (listed (take (length lent / 7) (occurrences r t)) e (rows_listed r t v w f lent))
-    by_days r e v w false f m = rw (m.number_is, m.array'_is) (unlisted {k = NoStart} (inr (inr (inl refl))))
+    by_days r e v w false f m = rw (m.number_is, m.array'_is) (unlisted {k = number_of NoStart} (inr (inr (inl refl))))
 
     by_rule : (w : Answer Rule) → read_rule s ≡ w → Holds IsRule (Bounded 18 18 0) w → IsMoment t →
         Tells-rows (and_then w (λ r. and_then (days_of r t) (λ l. given (take (length lent / 7) l)))) t lent k left → Lists s t lent k left
@@ -162,7 +163,7 @@ list_answers s t {lent} {left} {k} c = by_start (is_moment t) refl (read_rule s)
     by_start : (b : Bool) → is_moment t ≡ b → (w : Answer Rule) → read_rule s ≡ w → Holds IsRule (Bounded 18 18 0) w →
         Tells-rows (cond b (and_then w (λ r. and_then (days_of r t) (λ l. given (take (length lent / 7) l)))) (refuse InvalidMoment 0 0)) t lent k left → Lists s t lent k left
     by_start true f w e h m = by_rule w e h (test_moment t f) m
-    by_start false f w e h m = rw (m.number_is, m.array'_is) (unlisted {k = InvalidMoment} (inl refl))
+    by_start false f w e h m = rw (m.number_is, m.array'_is) (unlisted {k = number_of InvalidMoment} (inl refl))
 
 -- what asking which comes next may answer
 abbrev NextAnswers : List ℕ → ℕ → List ℕ → Type 0
@@ -172,7 +173,7 @@ module _ (t asked : Moment) (w : IsMoment t) {array array' : List ℕ} {k : ℕ}
   -- the first of some days of the calendar
   first_answers : (l : List ℕ) → Each (λ n. n < days) l → Nexts (first_after t asked l) array k array' → NextAnswers array k array'
   unfolding first_after
-  first_answers [] e m = rw (m.number_is, m.array'_is) (refusal {k = NoNext} (inr (inr (inr (inl refl)))) (omega arith))
+  first_answers [] e m = rw (m.number_is, m.array'_is) (refusal {k = number_of NoNext} (inr (inr (inr (inl refl)))) (omega arith))
   first_answers (n ∷ l) e m = go (leb (instant_of asked) (instant_of (at_day n t))) (first_answers l e.1) m
     where
       go : (b : Bool) → (Nexts (first_after t asked l) array k array' → NextAnswers array k array') →
@@ -190,7 +191,7 @@ next_answers s t asked {array} {array'} {k} c = by_start (is_moment t) refl (is_
     by_days r v w true m =
         first_answers t asked w (occurrences r t)
         (each_map (Occurs r t) (λ n. n < days) (occurrences r t) (λ n o. omega (arith, o.high, limit_in r.bound t v.bound)) (all_occur r t v)) m
-    by_days r v w false m = rw (m.number_is, m.array'_is) (refusal {k = NoStart} (inr (inr (inl refl))) (omega arith))
+    by_days r v w false m = rw (m.number_is, m.array'_is) (refusal {k = number_of NoStart} (inr (inr (inl refl))) (omega arith))
 
     by_rule : (w : Answer Rule) → Holds IsRule (Bounded 18 18 0) w → IsMoment t →
         Nexts (and_then w (λ r. and_then (days_of r t) (λ l. first_after t asked l))) array k array' → NextAnswers array k array'
@@ -202,5 +203,5 @@ next_answers s t asked {array} {array'} {k} c = by_start (is_moment t) refl (is_
         Nexts (cond (a && b) (and_then w (λ r. and_then (days_of r t) (λ l. first_after t asked l))) (refuse InvalidMoment 0 0)) array k array' →
         NextAnswers array k array'
     by_start true f true w h m = by_rule w h (test_moment t f) m
-    by_start true f false w h m = rw (m.number_is, m.array'_is) (refusal {k = InvalidMoment} (inl refl) (omega arith))
-    by_start false f b w h m = rw (m.number_is, m.array'_is) (refusal {k = InvalidMoment} (inl refl) (omega arith))
+    by_start true f false w h m = rw (m.number_is, m.array'_is) (refusal {k = number_of InvalidMoment} (inl refl) (omega arith))
+    by_start false f b w h m = rw (m.number_is, m.array'_is) (refusal {k = number_of InvalidMoment} (inl refl) (omega arith))

@@ -8,7 +8,7 @@ use lib.Dec.{leb}
 use lib.ListN.{length, drop, take, length-take}
 use lib.Seq.{take_all}
 use borrow.Author.Tests.{leb-true, leb-false}
-use Rattle.refusals.specs.Table.{InvalidMoment}
+use Rattle.refusals.specs.declared.Reason.TheVariants.{InvalidMoment}
 use Rattle.refusals.specs.Answers.{Answer, given, refused, refusal_at, refuse, and_then}
 use Rattle.refusals.specs.declared.Refusal.{Refusal}
 use Rattle.refusals.proofs.Holds.{Holds, Bounded, refusal_holds, given_holds}

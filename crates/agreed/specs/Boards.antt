@@ -1,6 +1,7 @@
 -- What the contracts of a board's calls allow: of the memory m before a call, the answer k, and the memory m' behind it.
 use Rattle.std.specs.Prelude.{ℕ, ◌<◌, ◌≡◌, true, false, cond, List, eqb, length}
-use Rattle.refusals.specs.Table.{InvalidMoment, FullBoard, EmptySlot}
+use Rattle.refusals.specs.Table.{number_of}
+use Rattle.refusals.specs.declared.Reason.TheVariants.{InvalidMoment, FullBoard, EmptySlot}
 use Rattle.refusals.specs.Answers.{given, refused}
 use Rattle.refusals.specs.declared.Refusal.{Refusal}
 use Rattle.calendar.specs.Moments.{is_moment, moment_in}
@@ -81,23 +82,23 @@ pub record Order (m : Memory) (slots : List ℕ) (k : ℕ) (slots' : List ℕ) :
 -- what making a board may answer and leave: 0 and an empty one, or 8
 pub data Makes (n : Moment) (m : Memory) : ℕ → Memory → Type 0 where
   empty : {m' : Memory} → is_moment n ≡ true → Empty n m' → Makes n m 0 m'
-  unmade : is_moment n ≡ false → Makes n m InvalidMoment m
+  unmade : is_moment n ≡ false → Makes n m (number_of InvalidMoment) m
 
 -- what adding may: the phrase in the lowest free slot, 24 where every slot is filled, or what making ready refuses, before 24
 pub data Adds (reading : ℕ) (phrase : List ℕ) (m : Memory) : ℕ → Memory → Type 0 where
   put : {k : ℕ} {m' : Memory} → number k ≡ 0 → Put (answer_in reading phrase) (size k) m m' → Adds reading phrase m k m'
-  full : {ss : List Step} → ready_in reading phrase ≡ given ss → ((s : ℕ) → s < board_slots → is_filled m s ≡ true) → Adds reading phrase m FullBoard m
+  full : {ss : List Step} → ready_in reading phrase ≡ given ss → ((s : ℕ) → s < board_slots → is_filled m s ≡ true) → Adds reading phrase m (number_of FullBoard) m
   unready : {r : Refusal} → ready_in reading phrase ≡ refused r → Adds reading phrase m (code r) m
 
 -- what removing may: the slot is free, or 25 where it held nothing
 pub data Removes (s : ℕ) (m : Memory) : ℕ → Memory → Type 0 where
   out : {m' : Memory} → TakenOut s m m' → Removes s m 0 m'
-  nothing : (s < board_slots → is_filled m s ≡ false) → Removes s m EmptySlot m
+  nothing : (s < board_slots → is_filled m s ≡ false) → Removes s m (number_of EmptySlot) m
 
 -- what running again may: the same reminders at the now, or 8
 pub data Moves (n : Moment) (m : Memory) : ℕ → Memory → Type 0 where
   moved : {m' : Memory} → is_moment n ≡ true → MovedTo n m m' → Moves n m 0 m'
-  unmoved : is_moment n ≡ false → Moves n m InvalidMoment m
+  unmoved : is_moment n ≡ false → Moves n m (number_of InvalidMoment) m
 
 -- what an app knows of a slot: nothing lies there, or the phrase that it added there in the reading of a number
 pub data Known : Type 0 where

@@ -3,7 +3,9 @@ use Rattle.std.specs.Prelude.{ℕ, suc, ◌+◌, ◌*◌, ◌/◌, ◌%◌, ◌�
 use Rattle.std.proofs.lemmas.List.Edits.{sets}
 use Rattle.calendar.specs.Moments.{IsMoment, seven, instant_of, NotAfter, moment_numbers, moment_in, at_day, day_of_moment}
 use Rattle.calendar.specs.declared.moments.Moment.{Moment}
-use Rattle.refusals.specs.Table.{InvalidMoment, NoRule, NoStart}
+use Rattle.refusals.specs.Table.{number_of}
+use Rattle.refusals.specs.declared.Reason.TheVariants.{InvalidMoment, NoRule, NoStart}
+use Rattle.refusals.specs.declared.Reason.{Reason}
 use Rattle.refusals.specs.Answers.{Answer, given}
 use Rattle.rules.specs.Rules.{read_rule}
 use Rattle.rules.specs.declared.Rule.{Rule}
@@ -203,10 +205,10 @@ pub data FirstRow (rows : List ℕ) (count : ℕ) (asked : Moment) (array : List
   row : (i : ℕ) → i < count → NotAfter asked (row_at rows i) → Earlier rows asked i → FirstRow rows count asked array 0 (seven (row_at rows i))
   none : Earlier rows asked count → FirstRow rows count asked array 20 array
 
--- one of some numbers
-abbrev pub OneOf : List ℕ → ℕ → Type 0
+-- the number of one of some reasons
+abbrev pub OneOf : List Reason → ℕ → Type 0
 OneOf [] n = ⊥
-OneOf (x ∷ xs) n = (n ≡ x) ⊎ OneOf xs n
+OneOf (x ∷ xs) n = (n ≡ number_of x) ⊎ OneOf xs n
 
 -- a stamp that exists
 pub record IsStamp (st : Stamp) : Type 0 where
@@ -215,9 +217,9 @@ pub record IsStamp (st : Stamp) : Type 0 where
 
 -- what a call that writes a text may answer and leave: the length of a text with a property, and the text in front of what was there; or one
 -- of some refusals, and nothing written
-pub data Wrote (P : List ℕ → Type 0) (numbers text : List ℕ) : ℕ → List ℕ → Type 0 where
-  wrote : {bytes : List ℕ} → P bytes → Wrote P numbers text (4294967296 * length bytes) (sets text 0 bytes)
-  unwritten : {k : ℕ} → OneOf numbers k → Wrote P numbers text k text
+pub data Wrote (P : List ℕ → Type 0) (reasons : List Reason) (text : List ℕ) : ℕ → List ℕ → Type 0 where
+  wrote : {bytes : List ℕ} → P bytes → Wrote P reasons text (4294967296 * length bytes) (sets text 0 bytes)
+  unwritten : {k : ℕ} → OneOf reasons k → Wrote P reasons text k text
 
 -- where an occurrence on a day stands among the rows that a listing left: it is one of them; or they are as many as the room or COUNT allows, and
 -- all before it

@@ -6,6 +6,9 @@ use mathlib.Core.Logic.{◌⊎◌, inl, inr, ⊎_elim}
 use mathlib.Core.Bool.{Bool, true, false, false≢true, cond, ◌&&◌, ◌||◌, and-eq-true_iff}
 use lib.Dec.{leb, ltb}
 use borrow.Author.Tests.{leb-true, ltb-true}
+use Rattle.refusals.specs.Table.{number_of}
+use Rattle.refusals.specs.declared.Reason.{Reason}
+use Rattle.refusals.specs.declared.Reason.TheVariants.{NoSense}
 use Rattle.calendar.specs.Gregorian.{leap_year, month_length, IsDate, days}
 use Rattle.calendar.specs.Moments.{IsMoment, Outcome, moment, refused, and_then, with_date, is_date, is_time, in_range}
 use Rattle.calendar.specs.Moments.{on_day, moved, has_room, minute_number, minutes, at_minute, minutes_step, month_number, months, months_step}
@@ -38,7 +41,7 @@ use Rattle.evaluation.specs.Evaluate.{by_year, is_year, is_week, is_month_and_da
 -- a moment with a property, or a refusal of 9 to 13
 pub data Leads (M : Moment → Type 0) : Outcome → Type 0 where
   leads : {t : Moment} → M t → Leads M (moment t)
-  refuses : {k : ℕ} → in_range k 9 13 ≡ true → Leads M (refused k)
+  refuses : {k : Reason} → in_range (number_of k) 9 13 ≡ true → Leads M (refused k)
 
 -- by a test
 tested : {M : Moment → Type 0} (b : Bool) (o p : Outcome) → (b ≡ true → Leads M o) → Leads M p → Leads M (cond b o p)
@@ -169,7 +172,7 @@ module _ (t : Moment) (v : IsMoment t) where
   by_unit_leads : (s : RelativeSpecifier) (u : Unit) → Leads IsMoment (by_unit s u t)
   by_unit_leads Next u = unit_leads kept_moment false 1 u t (λ e. refl) v
   by_unit_leads Last u = unit_leads kept_moment true 1 u t (λ e. refl) v
-  by_unit_leads This u = refuses {k = 9} refl
+  by_unit_leads This u = refuses {k = NoSense} refl
 
 lasts : (back : Bool) (d : Duration) (t : Moment) → IsMoment t → Leads IsMoment (duration_step back d t)
 lasts back d t v = duration_leads kept_moment back d t (λ e. refl) v

@@ -1,11 +1,12 @@
 -- A phrase at a now: where it is read and where not, and what every answer is.
 use Prim.Native.Nat.{ℕ, ◌≤◌, min}
 use native.Mathlib.Omega.{arith}
-use mathlib.Core.Path.{◌≡◌, refl, sym, ◌∙◌}
+use mathlib.Core.Path.{◌≡◌, refl, sym, ap, ◌∙◌}
 use mathlib.Core.Bool.{Bool, true, false, cond}
 use mathlib.Core.List.{List}
 use lib.ListN.{length}
-use Rattle.refusals.specs.Table.{InvalidMoment}
+use Rattle.refusals.specs.Table.{number_of}
+use Rattle.refusals.specs.declared.Reason.TheVariants.{InvalidMoment}
 use Rattle.refusals.specs.Answers.{Answer, given, refused, refusal_at, refuse, and_then}
 use Rattle.refusals.specs.declared.Refusal.{Refusal}
 use Rattle.refusals.proofs.Holds.{Holds, of_given, of_refusal, Bounded, given_holds, refusal_holds}
@@ -44,7 +45,7 @@ refused_reading reading s h n = rw h
 -- where a step leads
 pub placed_holds : {M : Moment → Type 0} {o : Outcome} {m : ℕ} → Leads M o → Holds M (Bounded 9 13 m) (placed o)
 placed_holds (leads v) = of_given v
-placed_holds (refuses {k} e) = let b = test_range k 9 13 e in of_refusal {r = refusal_at k 0 0} (omega arith)
+placed_holds (refuses {k} e) = let b = test_range (number_of k) 9 13 e in of_refusal {r = refusal_at k 0 0} (omega arith)
 
 -- from a lower number on
 pub lowered :
@@ -78,7 +79,7 @@ settled reading s n = go (read_holds reading s)
 
 -- a refusal of 1 to 7 does not depend on now
 pub whatever_now :
-    (reading : Reading) (s : List ℕ) (n m : Moment) {r : Refusal} → answer_of reading (words_in reading) s n ≡ refused r → r.number ≤ 7 → answer_of reading (words_in reading) s m ≡ refused r
+    (reading : Reading) (s : List ℕ) (n m : Moment) {r : Refusal} → answer_of reading (words_in reading) s n ≡ refused r → number_of r.reason ≤ 7 → answer_of reading (words_in reading) s m ≡ refused r
 whatever_now reading s n m {r} answer few = go (read_of reading (words_in reading) s) refl
   where
     go : (w : ReadPhrase) → read_of reading (words_in reading) s ≡ w → answer_of reading (words_in reading) s m ≡ refused r
@@ -94,19 +95,21 @@ pub record ReadAtNoNow (reading : Reading) (s : List ℕ) (n : Moment) : Type 0 
   pub read : read_of reading (words_in reading) s ≡ given tree_read
 
 -- refusal 8 is given only there; `at_no_now` says that it is given wherever that holds
-pub eight_only : (reading : Reading) (s : List ℕ) (n : Moment) {r : Refusal} → answer_of reading (words_in reading) s n ≡ refused r → r.number ≡ InvalidMoment → ReadAtNoNow reading s n
+pub eight_only : (reading : Reading) (s : List ℕ) (n : Moment) {r : Refusal} → answer_of reading (words_in reading) s n ≡ refused r → r.reason ≡ InvalidMoment → ReadAtNoNow reading s n
 eight_only reading s n {r} answer eight = go (read_of reading (words_in reading) s) (is_moment n) refl refl
   where
     go : (w : ReadPhrase) (b : Bool) → read_of reading (words_in reading) s ≡ w → is_moment n ≡ b → ReadAtNoNow reading s n
     go (given x) true h i =
         let led = placed_holds {m = 0} (valid_leads x.tree n (test_moment n i)) in
         let high = (refusal_holds led (sym (at_now reading s h n i) ∙ answer)).least in
+        let number = ap number_of eight in
         absurd (omega arith)
     go (given x) false h i = record { no-now = i; tree_read = x; read = h }
     go (refused q) b h i =
         let few = (refusal_holds (read_holds reading s) h).most in
         let refusal = sym (refused_reading reading s h n) ∙ answer in
-        let same : q.number ≡ r.number = cc in
+        let same : number_of q.reason ≡ number_of r.reason = cc in
+        let number = ap number_of eight in
         absurd (omega arith)
 
 module _ (reading : Reading) (s : List ℕ) {x : TreeRead} (read : read_of reading (words_in reading) s ≡ given x) where

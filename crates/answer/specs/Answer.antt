@@ -11,12 +11,10 @@ use Rattle.dates.specs.declared.time.Time.TheVariants.{Empty}
 use Rattle.expressions.specs.Tree.{unit_relative}
 use Rattle.phrase.specs.Tree.{date_time, now}
 use Rattle.phrase.specs.Read.{TreeRead, ReadPhrase, reads, read_of}
-use Rattle.refusals.specs.Table.{InvalidMoment}
-use Rattle.refusals.specs.Answers.{Answer, given, refused, refuse, and_then}
+use Rattle.refusals.specs.declared.Reason.TheVariants.{LeftOver, InvalidMoment, NoSense}
+use Rattle.refusals.specs.Answers.{Answer, given, refuse, and_then}
 use Rattle.evaluation.specs.Evaluate.{evaluate_in, evaluate}
 use Rattle.evaluation.specs.Cases.{A}
-use Rattle.answer.specs.declared.Answered.{Answered}
-use Rattle.answer.specs.declared.Answered.TheVariants.{At, Refused}
 
 -- 8 to 13 have place 0 and an empty part
 abbrev pub placed : {A : Type 0} → Reach A → Answer A
@@ -26,11 +24,6 @@ placed (unreached k) = refuse k 0 0
 -- a reading at a now; 8: "now is no date and time in years 1 to 9999"
 abbrev pub reading_at : Moment → TreeRead → Answer Moment
 reading_at n x = placed (cond (is_moment n) (evaluate x.tree n) (unreached InvalidMoment))
-
--- the code's answer
-abbrev pub answer_from : Answered → Answer Moment
-answer_from (At t) = given t
-answer_from (Refused r) = refused r
 
 -- the one definition that everything is measured by
 unfoldable pub answer_of : Reading → List Word → List ℕ → Moment → Answer Moment
@@ -52,12 +45,12 @@ no_now = with_date 2026 2 29 A
 -- worked answers: 8 behind 1 to 7, and before 9 to 13
 unfoldable pub cases : List Case
 cases =
-    row (refuse 7 1 3) A (refuse 7 1 3)
-    ∷ row (refuse 7 1 3) no_now (refuse 7 1 3)
+    row (refuse LeftOver 1 3) A (refuse LeftOver 1 3)
+    ∷ row (refuse LeftOver 1 3) no_now (refuse LeftOver 1 3)
     ∷ row (reads now 1) A (given A)
-    ∷ row (reads now 1) no_now (refuse 8 0 0)
-    ∷ row (reads (date_time (unit_relative This Month) Empty) 2) A (refuse 9 0 0)
-    ∷ row (reads (date_time (unit_relative This Month) Empty) 2) no_now (refuse 8 0 0)
+    ∷ row (reads now 1) no_now (refuse InvalidMoment 0 0)
+    ∷ row (reads (date_time (unit_relative This Month) Empty) 2) A (refuse NoSense 0 0)
+    ∷ row (reads (date_time (unit_relative This Month) Empty) 2) no_now (refuse InvalidMoment 0 0)
     ∷ []
 
 -- each is answered as listed

@@ -1,4 +1,5 @@
 -- "The starred cases form a single table, proved by a single statement about the definitions": phrases of bytes at the paper's A and B.
+use Rattle.refusals.specs.declared.Reason.TheVariants.{Unknown, LargeSum, LeftOver, NoTime, Outside, NoLeapDay}
 use Rattle.std.specs.Prelude.{◌≡◌, refl, List, [], ◌∷◌, map, ℕ}
 use Prim.Native.String.{String}
 use Rattle.digits.specs.Bytes.{bytes_of}
@@ -59,14 +60,14 @@ starred =
     ∷ row A "friday next 5:00" (clock 2026 2 13 5)
     ∷ row A "5/2/2022" (day 2022 5 2)
     ∷ row A "5.2.2022" (day 2022 2 5)
-    ∷ row A "5/2" (refuse 7 1 3)
+    ∷ row A "5/2" (refuse LeftOver 1 3)
     ∷ row A "5/2 at noon" (clock 2026 5 2 12)
     ∷ row A "march 4th" (day 2026 3 4)
-    ∷ row A "march 24th" (refuse 7 8 10)
-    ∷ row A "january 1, 2010" (refuse 11 0 0)
-    ∷ row A "four billion days ago" (refuse 12 0 0)
-    ∷ row A "five billion days ago" (refuse 6 0 0)
-    ∷ row B "a year from now" (refuse 13 0 0)
+    ∷ row A "march 24th" (refuse LeftOver 8 10)
+    ∷ row A "january 1, 2010" (refuse NoTime 0 0)
+    ∷ row A "four billion days ago" (refuse Outside 0 0)
+    ∷ row A "five billion days ago" (refuse LargeSum 0 0)
+    ∷ row B "a year from now" (refuse NoLeapDay 0 0)
     ∷ row B "12 months from now" (given (with_date 2025 2 28 B))
     ∷ []
 
@@ -88,22 +89,22 @@ both =
     ∷ under Second "wednesday in two weeks" (day 2026 2 25)
     ∷ under First "tuesday two weeks ago" (day 2026 1 27)
     ∷ under Second "tuesday two weeks ago" (day 2026 1 27)
-    ∷ under First "march 3 5 pm" (refuse 7 10 12)
+    ∷ under First "march 3 5 pm" (refuse LeftOver 10 12)
     ∷ under Second "march 3 5 pm" (clock 2026 3 3 17)
     ∷ under Second "march 3 2027 5 pm" (clock 2027 3 3 17)
     ∷ under Second "march 3 0027" (day 27 3 3)
     ∷ under Second "march 3 twenty" (clock 2026 3 3 20)
-    ∷ under First "march 3, 2027" (refuse 11 0 0)
+    ∷ under First "march 3, 2027" (refuse NoTime 0 0)
     ∷ under Second "march 3, 2027" (day 2027 3 3)
     ∷ under Second "march 3, 5 pm" (clock 2026 3 3 17)
     ∷ under Second "march 24th" (day 2026 3 24)
     ∷ under Second "march 24th, 2027" (day 2027 3 24)
     ∷ under Second "january 1, 2010 5:00" (clock 2010 1 1 5)
     ∷ under Second "january 1, 5:00" (clock 2026 1 1 5)
-    ∷ under Second "1 january, 2010" (refuse 7 2 15)
-    ∷ under Second "eighth of march" (refuse 2 7 9)
+    ∷ under Second "1 january, 2010" (refuse LeftOver 2 15)
+    ∷ under Second "eighth of march" (refuse Unknown 7 9)
     ∷ under Second "1001st day from now" (day 2028 11 8)
-    ∷ under First "forty days ago" (refuse 2 0 5)
+    ∷ under First "forty days ago" (refuse Unknown 0 5)
     ∷ under Second "forty days ago" (day 2026 1 2)
     ∷ []
 

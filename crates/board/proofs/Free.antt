@@ -1,32 +1,52 @@
 -- The lowest free slot, place by place, and of a board.
 use Prim.Native.Nat.{ℕ, zero, suc, ◌+◌, ◌≤◌, ◌<◌}
-use native.Mathlib.Numerals.{add-one}
-use native.Mathlib.Nat.{add-zero, add-suc, suc-add, not-suc-le-zero, le_of_suc-le-suc}
+use native.Mathlib.Nat.{not-suc-le-zero, le_of_suc-le-suc}
 use native.Mathlib.Omega.{arith}
-use mathlib.Core.Path.{◌≡◌, refl, ◌∙◌}
+use mathlib.Core.Path.{◌≡◌, refl, ap}
 use mathlib.Core.Bool.{Bool, true, false, cond}
 use mathlib.Core.List.{List, [], ◌∷◌}
 use lib.Dec.{eqb, ltb}
-use lib.ListN.{length, get_or, drop, drop_of_length-le}
-use lib.Seq.{drop-cons}
-use borrow.Author.Tests.{eq-eqb, ne_eqb, eqb-true, ltb-true, ltb-false}
+use lib.ListN.{length, get_or}
+use borrow.Author.Tests.{eq-eqb, ne_eqb, eqb-true, ltb-true, ltb-false, lt-ltb, le-ltb}
+use Rattle.std.specs.Prelude.{position, Option, Some, None}
+use Rattle.std.specs.List.{position_or_len}
+use Rattle.std.proofs.lemmas.List.Recursion.{is_position_or_len}
+use Rattle.refusals.specs.declared.Reason.TheVariants.{FullBoard}
+use Rattle.refusals.specs.Answers.{given, refuse}
 use Rattle.calendar.specs.Moments.{moment_in}
-use Rattle.board.specs.Boards.{Memory, count_in, is_filled, lowest_free, free_slot}
+use Rattle.board.specs.Boards.{Memory, count_in, is_filled, lowest_free, free_slot, slot_for, slot_from}
 use Rattle.board.specs.Scans.{Sized, IsBoard}
 use Rattle.board.proofs.Orders.{order_full}
 
-module _ (l : List ℕ) (i : ℕ) (before : lowest_free l ≡ i + lowest_free (drop i l)) where
-  -- a free one
-  pub free_here : i < length l → get_or l i 0 ≡ 0 → i ≡ lowest_free l
-  free_here h e = rw (before, drop-cons l i 0 h, eq-eqb (get_or l i 0) 0 e, add-zero)
+-- the lowest free one is the first that is free
+pub lowest_place : (l : List ℕ) → lowest_free l ≡ position_or_len (λ n. eqb n 0) l
+lowest_place l = is_position_or_len lowest_free (λ n. eqb n 0) refl step l
+  where
+    step : (x : ℕ) (xs : List ℕ) → lowest_free (x ∷ xs) ≡ cond (eqb x 0) 0 (1 + lowest_free xs)
+    step x xs = let one : suc (lowest_free xs) ≡ 1 + lowest_free xs = omega arith in ap (λ (k : ℕ). cond (eqb x 0) 0 k) one
 
-  -- any other
-  pub free_next : i < length l → (get_or l i 0 ≡ 0 → ⊥) → lowest_free l ≡ i + 1 + lowest_free (drop (i + 1) l)
-  free_next h e = before ∙ rw (drop-cons l i 0 h, ne_eqb (get_or l i 0) 0 e, add-one, add-suc, suc-add)
+-- a place that is found is one of the list
+pub found_within : (l : List ℕ) (s : ℕ) → position (λ n. eqb n 0) l ≡ Some s → s < length l
+found_within l s e = go (ltb (position_or_len (λ n. eqb n 0) l) (length l)) refl e
+  where
+    go : (b : Bool) → let k = position_or_len (λ n. eqb n 0) l in
+        ltb k (length l) ≡ b → ◌≡◌ {A = Option ℕ} (cond b (Some k) None) (Some s) → s < length l
+    go true t h = let same : position_or_len (λ n. eqb n 0) l ≡ s = cc in omega (arith, ltb-true _ _ t)
+    go false t h = let z : ◌≡◌ {A = ℕ} 0 1 = cc in absurd (omega arith)
 
-  -- none
-  pub none_free : length l ≤ i → i ≡ lowest_free l
-  none_free h = rw (before, drop_of_length-le l h, add-zero)
+-- the slot that a board with room has
+pub slot_found : (m : Memory) → length m.lengths ≡ 256 → count_in m.state < 256 → slot_from (position (λ n. eqb n 0) m.lengths) ≡ slot_for m
+unfolding slot_for
+slot_found m sized few = rw (lt-ltb _ _ few, sized, lowest_place m.lengths) (go (ltb (position_or_len (λ n. eqb n 0) m.lengths) 256))
+  where
+    go : (b : Bool) → let k = position_or_len (λ n. eqb n 0) m.lengths in slot_from (cond b (Some k) None) ≡ cond b (given k) (refuse FullBoard 0 0)
+    go true = refl
+    go false = refl
+
+-- and a full one
+pub none_found : (m : Memory) → 256 ≤ count_in m.state → slot_from None ≡ slot_for m
+unfolding slot_for
+none_found m full = rw (le-ltb _ _ full)
 
 -- the lowest free slot is free
 free_is : (l : List ℕ) → lowest_free l < length l → get_or l (lowest_free l) 0 ≡ 0

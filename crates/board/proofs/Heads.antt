@@ -8,7 +8,7 @@ use mathlib.Core.List.{List, [], ◌∷◌}
 use lib.Dec.{ltb, eqb}
 use lib.ListN.{length, take, get_or}
 use borrow.Author.Tests.{ltb-true, ltb-false, lt-ltb, le-ltb, ne_eqb}
-use Rattle.refusals.specs.Table as refusal
+use Rattle.refusals.specs.declared.Reason.TheVariants as refusal
 use Rattle.refusals.specs.Answers.{Answer, given, refuse}
 use Rattle.refusals.proofs.Holds.{given_holds}
 use Rattle.calendar.specs.Gregorian.{days}
@@ -22,7 +22,8 @@ use Rattle.steps.specs.declared.plan.Step.{Step}
 use Rattle.ready.proofs.Settles.{run_settled}
 use Rattle.records.specs.Records.{decode_of}
 use Rattle.board.specs.Rows.{insert, sorted, slot_of}
-use Rattle.board.specs.Boards.{Memory, Due, count_in, is_filled, phrase_at, outcome_at, instants, key_of, at_instant, key_at, keys_from, order_at, due_at, head_of}
+use Rattle.board.specs.declared.Due.{Due}
+use Rattle.board.specs.Boards.{Memory, count_in, is_filled, phrase_at, outcome_at, instants, key_of, at_instant, key_at, keys_from, order_at, due_at, head_of}
 use Rattle.board.specs.Scans.{earlier, scan_from, scan_of, IsBoard}
 
 -- every moment has an instant

@@ -8,7 +8,7 @@ use lib.Dec.{ltb}
 use lib.ListN.{length, get_or, take, set, replicate, length-replicate, length-set}
 use lib.Seq.{sets, length-sets, length-take-le, get_or-set_same, get_or-set_other}
 use borrow.Author.Tests.{eq-eqb, ne_eqb, ltb-true, ltb-false}
-use Rattle.refusals.specs.Table.{FullBoard}
+use Rattle.refusals.specs.declared.Reason.TheVariants.{FullBoard}
 use Rattle.refusals.specs.Answers.{given, refused, refusal_at, refuse, and_then}
 use Rattle.refusals.specs.declared.Refusal.{Refusal}
 use Rattle.refusals.proofs.Holds.{given_holds}

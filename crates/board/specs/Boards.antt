@@ -1,19 +1,19 @@
 -- A board in the caller's own memory, and what each call makes of it and answers, whatever the memory holds.
-use Rattle.std.specs.Prelude.{ℕ, zero, suc, ◌+◌, ◌*◌, ◌/◌, ◌%◌, min, Bool, cond, not, ◌&&◌, List, [], ◌∷◌, map, eqb, ltb, length, get_or, take, drop, set, replicate}
+use Rattle.std.specs.Prelude.{ℕ, zero, suc, ◌+◌, ◌*◌, ◌/◌, ◌%◌, min, Bool, cond, not, ◌&&◌, List, [], ◌∷◌, map, eqb, ltb, length, get_or, take, drop, set, replicate, Option, Some, None, Result, Ok, Err}
 use Rattle.std.proofs.lemmas.List.Edits.{sets}
 use Rattle.std.specs.Borrow.{MutBor}
 use denote.Triple.Both.{Both}
-use Rattle.refusals.specs.Table.{InvalidMoment, FullBoard, EmptySlot, NothingDue}
-use Rattle.refusals.specs.Answers.{Answer, given, refused, refuse, and_then, refusal_of}
+use Rattle.refusals.specs.declared.Reason.{Reason}
+use Rattle.refusals.specs.declared.Reason.TheVariants.{InvalidMoment, FullBoard, EmptySlot, NothingDue}
+use Rattle.refusals.specs.declared.Refusal.{Refusal}
+use Rattle.refusals.specs.Answers.{Answer, given, refused, refuse, and_then}
 use Rattle.calendar.specs.Gregorian.{days}
 use Rattle.calendar.specs.Moments.{Outcome, moment, refused as unreached, moment_in, first_moment, with_time, is_moment, on_day, instant_of}
 use Rattle.calendar.specs.declared.moments.Moment.{Moment}
 use Rattle.steps.specs.Running.{run_of}
 use Rattle.ready.specs.Ready.{ReadyPhrase}
 use Rattle.records.specs.Records.{ready_size, encode_of, decode_of}
-use Rattle.board.specs.declared.Earliest.{Earliest}
-use Rattle.board.specs.declared.Earliest.TheVariants.{Next, Nothing}
-use Rattle.board.specs.declared.Added.{Added}
+use Rattle.board.specs.declared.Due.{Due}
 use Rattle.board.specs.Rows.{insert, sorted, slot_of, without}
 
 -- "up to 256"
@@ -155,11 +155,6 @@ again_of m n =
     cond (is_moment n) (done 0 (memory m.ready m.lengths (sets m.keys 0 (order_at m n)) (state_of n (length (order_at m n)))))
     (refuse InvalidMoment 0 0)
 
--- a slot and its moment
-pub record Due : Type 0 where
-  pub slot : ℕ
-  pub moment : Moment
-
 -- "26 when no entry has a moment"
 abbrev pub due_at : ℕ → Outcome → Answer Due
 due_at s (moment t) = given (record { slot = s; moment = t })
@@ -175,13 +170,18 @@ unfoldable pub order_of : Memory → List ℕ
 order_of m = map slot_of (row_in m)
 
 -- the code's answers
-abbrev pub head_from : Earliest → Answer Due
-head_from (Next s t) = given (record { slot = s; moment = t })
-head_from Nothing = refuse NothingDue 0 0
+abbrev pub done_of : Answer Done → Result (Unit {0}) Reason
+done_of (given d) = Ok tt
+done_of (refused r) = Err r.reason
 
-abbrev pub number_of : Answer Done → ℕ
-number_of (given d) = d.number
-number_of (refused r) = 0
+abbrev pub added_of : Answer Done → Result ℕ Refusal
+added_of (given d) = Ok d.number
+added_of (refused r) = Err r
 
-abbrev pub added_of : Answer Done → Added
-added_of w = record { refusal = refusal_of w; slot = number_of w }
+abbrev pub slot_from : Option ℕ → Answer ℕ
+slot_from (Some s) = given s
+slot_from None = refuse FullBoard 0 0
+
+abbrev pub head_from : Option Due → Answer Due
+head_from (Some d) = given d
+head_from None = refuse NothingDue 0 0

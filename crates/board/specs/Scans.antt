@@ -1,6 +1,6 @@
 -- What a scan of all reminders gives, and what a board that was made by the calls is.
 use Rattle.std.specs.Prelude.{ℕ, zero, suc, ◌+◌, ◌<◌, ◌≡◌, true, false, cond, List, [], ◌∷◌, eqb, ltb, length, get_or}
-use Rattle.refusals.specs.Table.{NothingDue}
+use Rattle.refusals.specs.declared.Reason.TheVariants.{NothingDue}
 use Rattle.refusals.specs.Answers.{Answer, given, refused, refuse}
 use Rattle.calendar.specs.Moments.{Outcome, moment, refused as unreached, is_moment, instant_of, moment_in}
 use Rattle.calendar.specs.declared.moments.Moment.{Moment}
@@ -11,7 +11,8 @@ use Rattle.answer.specs.Answer.{placed}
 use Rattle.ready.specs.Ready.{ready_of}
 use Rattle.records.specs.Records.{encode_of}
 use Rattle.steps.specs.declared.plan.Step.{Step}
-use Rattle.board.specs.Boards.{board_slots, board_ready_size, Memory, Due, row_in, is_filled, phrase_at, outcome_at, due_of, order_at}
+use Rattle.board.specs.declared.Due.{Due}
+use Rattle.board.specs.Boards.{board_slots, board_ready_size, Memory, row_in, is_filled, phrase_at, outcome_at, due_of, order_at}
 
 -- what a slot's reminder gives, or the earliest of the slots behind it: "ties by lower slot"
 abbrev pub earlier : ℕ → Outcome → Answer Due → Answer Due

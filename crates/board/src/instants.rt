@@ -3,7 +3,8 @@ ghost use Rattle.std.specs.Prelude.{◌≡◌, ◌≤◌, ◌<◌};
 ghost use Rattle.calendar.specs.Moments.{IsMoment, Valid, reached_of, instant_of};
 ghost use Rattle.board.specs.Boards.{instants, due_of, at_instant};
 
-use calendar::moments::{Moment, Reached};
+use calendar::moments::Moment;
+use refusals::Reason;
 
 // The milliseconds of the years 1 to 9999.
 const INSTANTS: u64 = 315537897600000;
@@ -18,18 +19,18 @@ fn instant(t: Moment) -> u64
 }
 
 // When a reminder is due; behind all instants where it refuses.
-pub(crate) fn due(reached: Reached) -> u64
+pub(crate) fn due(reached: Result<Moment, Reason>) -> u64
     requires { Valid (reached_of reached) }
     ensures { (result ≡ due_of (reached_of reached)) × (result ≤ instants) }
 {
     match reached {
-        Reached::At(t) => instant(t),
-        Reached::Refused(_) => INSTANTS,
+        Ok(t) => instant(t),
+        Err(_) => INSTANTS,
     }
 }
 
 // The moment of an instant.
-pub(crate) fn at_instant(i: u64) -> Reached
+pub(crate) fn at_instant(i: u64) -> Result<Moment, Reason>
     requires { i < 72057594037927936 }
     ensures { reached_of result ≡ at_instant i }
 {

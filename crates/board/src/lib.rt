@@ -3,7 +3,6 @@
 
 use calendar::moments::Moment;
 use records::record::READY_SIZE;
-use refusals::Refusal;
 
 pub mod calls;
 mod holding;
@@ -17,16 +16,9 @@ pub const BOARD_SLOTS: usize = 256;
 // The bytes of their ready phrases.
 pub const BOARD_READY_SIZE: usize = BOARD_SLOTS * READY_SIZE;
 
-// The slot that is due first and its moment, or none.
+// A slot and its moment.
 #[derive(Clone, Copy)]
-pub enum Earliest {
-    Nothing,
-    Next(u32, Moment),
-}
-
-// Number 0: the slot. Else a refusal.
-#[derive(Clone, Copy)]
-pub struct Added {
-    pub refusal: Refusal,
-    pub slot: usize,
+pub struct Due {
+    pub slot: u32,
+    pub moment: Moment,
 }

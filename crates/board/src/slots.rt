@@ -1,7 +1,7 @@
 // The slots, the now and the count in the caller's memory.
-ghost use Rattle.std.specs.Prelude.{◌≡◌, List, ℕ, ◌≤◌, ◌<◌, min};
+ghost use Rattle.std.specs.Prelude.{◌≡◌, List, ℕ, ◌≤◌, ◌<◌, Some, eqb, position};
 ghost use Rattle.calendar.specs.Moments.{moment_in};
-ghost use Rattle.board.specs.Boards.{board_slots, memory, count_in, state_of, key_at, lowest_free, free_slot};
+ghost use Rattle.board.specs.Boards.{board_slots, memory, count_in, state_of, key_at, slot_from, slot_for};
 
 use super::instants::due;
 use super::{BOARD_READY_SIZE, BOARD_SLOTS};
@@ -24,19 +24,11 @@ pub(crate) fn now_of(state: &[u32; 8]) -> Moment
     }
 }
 
-// A number, at most a limit.
-fn at_most(n: u32, limit: usize) -> usize
-    ensures { (result ≡ min n limit) × (result ≤ limit) }
-{
-    let k = n as usize;
-    if k < limit { k } else { limit }
-}
-
 // How many keys there are.
 pub(crate) fn count(state: &[u32; 8]) -> usize
     ensures { (result ≡ count_in state.now) × (result ≤ board_slots) }
 {
-    at_most(state[7], BOARD_SLOTS)
+    (state[7] as usize).min(BOARD_SLOTS)
 }
 
 // A now and a count.
@@ -55,29 +47,22 @@ pub(crate) fn put_state(state: &mut [u32; 8], at: Moment, count: u32)
     ];
 }
 
-// The lowest place of a 0, or the length where there is none.
-fn lowest_free(lengths: &[u32]) -> usize
-    ensures { result ≡ lowest_free lengths.now }
+// The lowest place of a 0.
+fn lowest_free(lengths: &[u32]) -> Option<usize>
+    ensures { result ≡ position (λ n. eqb n 0) lengths.now }
 {
-    let mut i = 0;
-    while i < lengths.len() {
-        if lengths[i] == 0 {
-            return i;
-        }
-        i += 1;
-    }
-    i
+    lengths.iter().position(|n| *n == 0)
 }
 
-// The slot for one reminder more, 256 for a full board.
-pub(crate) fn free_slot(lengths: &[u32; BOARD_SLOTS], state: &[u32; 8]) -> usize
-    ensures by_index { (ready keys : List ℕ) → result ≡ free_slot (memory ready lengths.now keys state.now) }
-    ensures state_bound { result < board_slots → count_in state.now < board_slots }
+// The slot for one reminder more, none for a full board.
+pub(crate) fn free_slot(lengths: &[u32; BOARD_SLOTS], state: &[u32; 8]) -> Option<usize>
+    ensures value { (ready keys : List ℕ) → slot_from result ≡ slot_for (memory ready lengths.now keys state.now) }
+    ensures bounds { (s : ℕ) → result ≡ Some s → (s < board_slots) × (count_in state.now < board_slots) }
 {
-    if count(state) < BOARD_SLOTS {
-        return lowest_free(lengths);
+    if count(state) == BOARD_SLOTS {
+        return None;
     }
-    BOARD_SLOTS
+    lowest_free(lengths)
 }
 
 // The key of a slot at a now.
@@ -91,7 +76,6 @@ pub(crate) fn key_at(
     ensures { (keys state : List ℕ) → result ≡ key_at (memory ready.now lengths.now keys state) at slot }
 {
     let start = READY_SIZE * slot;
-    let end = start + at_most(lengths[slot], READY_SIZE);
-    let all = &ready[..];
-    256 * due(run_ready(&all[start..end], at)) + (slot as u64)
+    let size = (lengths[slot] as usize).min(READY_SIZE);
+    256 * due(run_ready(&ready[start..start + size], at)) + (slot as u64)
 }

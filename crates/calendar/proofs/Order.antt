@@ -8,6 +8,7 @@ use native.Mathlib.Nat.{eq-or-lt_of_le}
 use lib.Dec.{leb}
 use borrow.Author.Tests.{leb-true}
 use Rattle.calendar.specs.Gregorian.{leap_year, month_length, day_number, IsDate}
+use Rattle.refusals.specs.declared.Reason.{Reason}
 use Rattle.calendar.specs.Moments.{IsMoment, Outcome, moment, refused, with_date, moved, has_room, instant_of, NotAfter}
 use Rattle.calendar.specs.Moments.{minute_number, minutes, at_minute, minutes_step, month_number, months, in_month, months_step}
 use Rattle.calendar.specs.Moments.{year_number, years, in_year, years_step}
@@ -30,7 +31,7 @@ Ordered true t u = NotAfter u t
 Ordered false t u = NotAfter t u
 
 -- a step that leads somewhere has passed its test
-taken : (c : Bool) (o : Outcome) (r : ℕ) {u : Moment} → cond c o (refused r) ≡ moment u → (c ≡ true) × (o ≡ moment u)
+taken : (c : Bool) (o : Outcome) (r : Reason) {u : Moment} → cond c o (refused r) ≡ moment u → (c ≡ true) × (o ≡ moment u)
 taken true o r e = (refl, e)
 taken false o r e = let z : ◌≡◌ {A = ℕ} 0 1 = cc in absurd (omega arith)
 

@@ -5,8 +5,8 @@ use native.Mathlib.Omega.{arith}
 use Rattle.calendar.specs.Gregorian.{IsDate}
 use Rattle.calendar.specs.Moments.{IsTime, IsMoment, Reach, moment, refused, reached_of, Valid, and_then, with_date, with_time}
 use Rattle.calendar.specs.declared.moments.Moment.{Moment}
-use Rattle.calendar.specs.declared.moments.Reached.{Reached}
-use Rattle.calendar.specs.declared.moments.Reached.TheVariants.{At}
+use Rattle.refusals.specs.declared.Reason.{Reason}
+use Rattle.std.specs.Prelude.{Result, Ok}
 
 -- a moment of the calendar
 pub moment_valid : {t : Moment} → IsMoment t → Valid (moment t)
@@ -21,11 +21,11 @@ pub time_valid : {t : Moment} {h m s ms : ℕ} → IsMoment t → IsTime h m s m
 time_valid v w = moment_valid (record { date = v.date; time = w })
 
 -- a refusal
-pub refused_valid : (k : ℕ) → Valid (refused k)
+pub refused_valid : (k : Reason) → Valid (refused k)
 refused_valid k = record { valid = λ u e. let z : ◌≡◌ {A = ℕ} 0 1 = cc in absurd (omega arith) }
 
 -- a moment that code takes out of a valid answer is one of the calendar
-pub at_moment : {r : Reached} {t : Moment} → Valid (reached_of r) → r ≡ At t → IsMoment t
+pub at_moment : {r : Result Moment Reason} {t : Moment} → Valid (reached_of r) → r ≡ Ok t → IsMoment t
 at_moment v e = v.valid _ (ap reached_of e)
 
 -- what follows is the same where it is the same from what was reached

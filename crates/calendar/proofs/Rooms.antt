@@ -7,6 +7,7 @@ use native.Mathlib.Omega.{arith}
 use native.Mathlib.Nat.{add_assoc, sub-add-eq}
 use borrow.Author.Tests.{leb-true, leb-false, ltb-true, ltb-false, le-leb, lt-leb, le-ltb}
 use Rattle.digits.proofs.Order.{le-or_lt}
+use Rattle.std.specs.Prelude.{Some, None}
 use Rattle.calendar.specs.Moments.{moved, has_room, moved_within}
 
 -- k is more than the places behind n, or reaches past those in front of it
@@ -39,21 +40,21 @@ module _ (back : Bool) (k n limit : ℕ) where
       go true e = omega arith
       go false e = ltb-true _ _ e
 
-  -- a number that code got is a place of the row, to which there is room
-  pub landed : {r : ℕ} → r ≡ moved_within back k n limit → r < limit → (has_room back k n limit ≡ true) × (r ≡ moved back k n)
-  landed {r} e l = go (has_room back k n limit) e
+  -- a place that code got is one to which there is room
+  pub landed : {r : ℕ} → moved_within back k n limit ≡ Some r → (has_room back k n limit ≡ true) × (r ≡ moved back k n)
+  landed {r} e = go (has_room back k n limit) e
     where
-      go : (c : Bool) → r ≡ cond c (moved back k n) limit → (c ≡ true) × (r ≡ moved back k n)
-      go true e = (refl, e)
-      go false e = absurd (omega arith)
+      go : (c : Bool) → cond c (Some (moved back k n)) None ≡ Some r → (c ≡ true) × (r ≡ moved back k n)
+      go true e = (refl, cc)
+      go false e = absurd (cc)
 
-  -- or the number past it, and there is none
-  pub left_row : {r : ℕ} → n < limit → r ≡ moved_within back k n limit → limit ≤ r → has_room back k n limit ≡ false
-  left_row {r} h e l = go (has_room back k n limit) refl e
+  -- and where it got none there is none
+  pub left_row : moved_within back k n limit ≡ None → has_room back k n limit ≡ false
+  left_row e = go (has_room back k n limit) e
     where
-      go : (c : Bool) → has_room back k n limit ≡ c → r ≡ cond c (moved back k n) limit → c ≡ false
-      go true p e = absurd (omega (arith, below_limit h p))
-      go false p e = refl
+      go : (c : Bool) → cond c (Some (moved back k n)) None ≡ None → c ≡ false
+      go true e = absurd (cc)
+      go false e = refl
 
 -- two places moved alike stay as far apart, where there is room for the first
 pub moved_apart : (back : Bool) (k n m limit : ℕ) → has_room back k n limit ≡ true → n ≤ m → moved back k m ≡ moved back k n + (m - n)

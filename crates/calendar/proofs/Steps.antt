@@ -6,7 +6,9 @@ use Prim.Native.Nat.{ℕ, ◌+◌, ◌≤◌, ◌<◌}
 use native.Mathlib.Omega.{arith}
 use lib.Dec.{leb, ltb, lit<}
 use borrow.Author.Tests.{leb-true, leb-false, ltb-true, ltb-false}
-use Rattle.refusals.specs.Table as refusal
+use Rattle.std.specs.Prelude.{Some, None}
+use Rattle.refusals.specs.declared.Reason.{Reason}
+use Rattle.refusals.specs.declared.Reason.TheVariants as refusal
 use Rattle.calendar.specs.Gregorian.{leap_year, month_length, days}
 use Rattle.calendar.specs.Moments.{IsMoment, Outcome, moment, refused, Valid, and_then, on_day, moved, has_room}
 use Rattle.calendar.specs.Moments.{step_along, moved_within, minute_number, minutes, at_minute, minutes_step, month_number, months, in_month}
@@ -19,27 +21,27 @@ use Rattle.calendar.proofs.Places.{in_year_date}
 use Rattle.calendar.proofs.Outcomes.{moment_valid, refused_valid}
 
 -- exactly what is due: a moment of the calendar where no refusal is, or a refusal that is
-pub data Exact (Due : ℕ → Type 0) : Outcome → Type 0 where
-  reached : {u : Moment} → IsMoment u → ((n : ℕ) → Due n → ⊥) → Exact Due (moment u)
-  refuses : {n : ℕ} → Due n → Exact Due (refused n)
+pub data Exact (Due : Reason → Type 0) : Outcome → Type 0 where
+  reached : {u : Moment} → IsMoment u → ((n : Reason) → Due n → ⊥) → Exact Due (moment u)
+  refuses : {n : Reason} → Due n → Exact Due (refused n)
 
 -- so it is valid
-exact_valid : {Due : ℕ → Type 0} {o : Outcome} → Exact Due o → Valid o
+exact_valid : {Due : Reason → Type 0} {o : Outcome} → Exact Due o → Valid o
 exact_valid (reached v free) = moment_valid v
 exact_valid (refuses due) = refused_valid _
 
 -- and so is what code answers with it
-pub told : {Due : ℕ → Type 0} {r o : Outcome} → Exact Due o → r ≡ o → (r ≡ o) × Valid r
+pub told : {Due : Reason → Type 0} {r o : Outcome} → Exact Due o → r ≡ o → (r ≡ o) × Valid r
 told a e = (e, rw e (exact_valid a))
 
 -- by a test
-either : (Due : ℕ → Type 0) (b : Bool) (p q : Outcome) → (b ≡ true → Exact Due p) → (b ≡ false → Exact Due q) →
+either : (Due : Reason → Type 0) (b : Bool) (p q : Outcome) → (b ≡ true → Exact Due p) → (b ≡ false → Exact Due q) →
     Exact Due (cond b p q)
 either Due true p q f g = f refl
 either Due false p q f g = g refl
 
 -- refusal k is due where C holds, and no other
-abbrev pub Only : ℕ → Type 0 → ℕ → Type 0
+abbrev pub Only : Reason → Type 0 → Reason → Type 0
 Only k C n = (n ≡ k) × C
 
 -- a day: 12 exactly where it is past the last
@@ -78,7 +80,7 @@ pub record LostDay (t : Moment) (y : ℕ) : Type 0 where
   pub common : leap_year y ≡ false
 
 -- what a year step is refused for: 12 where the year is outside, else 13 where the day is lost
-abbrev pub ForYear : Type 0 → Moment → ℕ → ℕ → Type 0
+abbrev pub ForYear : Type 0 → Moment → ℕ → Reason → Type 0
 ForYear C t y n = Only refusal.Outside C n ⊎ Only refusal.NoLeapDay ((C → ⊥) × LostDay t y) n
 
 -- a lost day is past its month's end
@@ -107,44 +109,42 @@ years_exact back k t v =
     (λ e. in_year_exact _ _ t v (below_limit back k _ _ (omega (arith, v.date)) e) (not-past back k _ _ e))
     (λ e. refuses (inl (refl, no_room back k _ _ e)))
 
--- what code answers, from the number that it got: what is at that place of the row, or 12 for the number past it
-module _ {Due : ℕ → Type 0} (back : Bool) (k n limit : ℕ) (at : ℕ → Outcome) (a : Exact Due (step_along back k n limit at)) {r : ℕ} where
-  at_place : r ≡ moved_within back k n limit → r < limit → (at r ≡ step_along back k n limit at) × Valid (at r)
-  at_place e l = let w = landed back k n limit e l in told a (rw (w.0, w.1))
+-- what code answers, from the place that it got: what is there, or 12 where it got none
+module _ {Due : Reason → Type 0} (back : Bool) (k n limit : ℕ) (at : ℕ → Outcome) (a : Exact Due (step_along back k n limit at)) where
+  at_place : {r : ℕ} → moved_within back k n limit ≡ Some r → (at r ≡ step_along back k n limit at) × Valid (at r)
+  at_place e = let w = landed back k n limit e in told a (rw (w.0, w.1))
 
-  past_row : n < limit → r ≡ moved_within back k n limit → limit ≤ r →
-      (refused refusal.Outside ≡ step_along back k n limit at) × Valid (refused refusal.Outside)
-  past_row h e l = told a (rw (left_row back k n limit h e l))
+  past_row : moved_within back k n limit ≡ None → (refused refusal.Outside ≡ step_along back k n limit at) × Valid (refused refusal.Outside)
+  past_row e = told a (rw (left_row back k n limit e))
 
-module _ (back : Bool) (k : ℕ) (t : Moment) (v : IsMoment t) {r : ℕ} where
-  pub minutes_in_lem : r ≡ moved_within back k (minute_number t) minutes → r < minutes →
+module _ (back : Bool) (k : ℕ) (t : Moment) (v : IsMoment t) where
+  pub minutes_in_lem : (r : ℕ) → moved_within back k (minute_number t) minutes ≡ Some r →
       (moment (at_minute r t) ≡ minutes_step back k t) × Valid (moment (at_minute r t))
   unfolding minutes_step
-  minutes_in_lem = at_place back k (minute_number t) minutes (λ m. moment (at_minute m t)) (minutes_exact back k t v)
+  minutes_in_lem r = at_place back k (minute_number t) minutes (λ m. moment (at_minute m t)) (minutes_exact back k t v)
 
-  pub minutes_out : r ≡ moved_within back k (minute_number t) minutes → minutes ≤ r →
+  pub minutes_out : moved_within back k (minute_number t) minutes ≡ None →
       (refused refusal.Outside ≡ minutes_step back k t) × Valid (refused refusal.Outside)
   unfolding minutes_step
-  minutes_out = past_row back k (minute_number t) minutes (λ m. moment (at_minute m t)) (minutes_exact back k t v) (minute_below t v)
+  minutes_out = past_row back k (minute_number t) minutes (λ m. moment (at_minute m t)) (minutes_exact back k t v)
 
-  pub months_in : r ≡ moved_within back k (month_number t) months → r < months →
+  pub months_in : (r : ℕ) → moved_within back k (month_number t) months ≡ Some r →
       (moment (in_month r t) ≡ months_step back k t) × Valid (moment (in_month r t))
   unfolding months_step
-  months_in = at_place back k (month_number t) months (λ m. moment (in_month m t)) (months_exact back k t v)
+  months_in r = at_place back k (month_number t) months (λ m. moment (in_month m t)) (months_exact back k t v)
 
-  pub months_out : r ≡ moved_within back k (month_number t) months → months ≤ r →
+  pub months_out : moved_within back k (month_number t) months ≡ None →
       (refused refusal.Outside ≡ months_step back k t) × Valid (refused refusal.Outside)
   unfolding months_step
-  months_out = past_row back k (month_number t) months (λ m. moment (in_month m t)) (months_exact back k t v) (month_below t v)
+  months_out = past_row back k (month_number t) months (λ m. moment (in_month m t)) (months_exact back k t v)
 
-  pub years_in : r ≡ moved_within back k (year_number t) years → r < years → (in_year r t ≡ years_step back k t) × Valid (in_year r t)
+  pub years_in : (r : ℕ) → moved_within back k (year_number t) years ≡ Some r → (in_year r t ≡ years_step back k t) × Valid (in_year r t)
   unfolding years_step
-  years_in = at_place back k (year_number t) years (λ m. in_year m t) (years_exact back k t v)
+  years_in r = at_place back k (year_number t) years (λ m. in_year m t) (years_exact back k t v)
 
-  pub years_out : r ≡ moved_within back k (year_number t) years → years ≤ r →
-      (refused refusal.Outside ≡ years_step back k t) × Valid (refused refusal.Outside)
+  pub years_out : moved_within back k (year_number t) years ≡ None → (refused refusal.Outside ≡ years_step back k t) × Valid (refused refusal.Outside)
   unfolding years_step
-  years_out = past_row back k (year_number t) years (λ m. in_year m t) (years_exact back k t v) (omega (arith, v.date))
+  years_out = past_row back k (year_number t) years (λ m. in_year m t) (years_exact back k t v)
 
 -- a minutes and then b of one direction are a + b minutes, with the same refusal
 pub minutes_twice : (back : Bool) (a b : ℕ) (t : Moment) → minutes_step back (a + b) t ≡ and_then (minutes_step back a t) (minutes_step back b)

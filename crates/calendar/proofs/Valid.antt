@@ -15,12 +15,10 @@ pub test_range : (n low high : ℕ) → in_range n low high ≡ true → (low �
 test_range n low high e = let b = (and-eq-true_iff (leb low n) (leb n high)).0 e in (leb-true _ _ b.0, leb-true _ _ b.1)
 
 -- every month has the days up to its 28th
-pub early_day : (y m d : ℕ) → in_range m 1 12 ≡ true → in_range d 1 28 ≡ true → is_day_of_month y m d ≡ true
-early_day y m d e f =
-    let in_year_lem = test_range m 1 12 e in
-    let in_all = test_range d 1 28 f in
-    let least = (month (leap_year y) m in_year_lem.0 in_year_lem.1).least in
-    rw (e, le-leb 1 d in_all.0, le-leb d (month_length (leap_year y) m) (omega (arith, least, in_all.1)))
+pub early_day : (y m d : ℕ) → 1 ≤ m → m ≤ 12 → 1 ≤ d → d ≤ 28 → is_day_of_month y m d ≡ true
+early_day y m d a b f g =
+    let least = (month (leap_year y) m a b).least in
+    rw (le-leb 1 m a, le-leb m 12 b, le-leb 1 d f, le-leb d (month_length (leap_year y) m) (omega (arith, least, g)))
 
 -- what passes as a date is one
 pub test_date : (y m d : ℕ) → is_date y m d ≡ true → IsDate y m d

@@ -1,81 +1,19 @@
--- The table of year starts as a list: one computed test says that it is the formula, and a law says so at each entry.
-use mathlib.Core.Path.{◌≡◌, refl, sym}
+-- The table of year starts: one computed test says that it is the formula, and a law says so at each entry.
+use mathlib.Core.Path.{◌≡◌, refl}
 use mathlib.Core.Bool.{true}
-use mathlib.Core.List.{List, [], ◌∷◌}
-use mathlib.Core.Logic.{⊎_elim}
-use Prim.Native.Nat.{ℕ, zero, suc, ◌≤◌, ◌<◌}
-use native.Mathlib.Omega.{arith}
-use native.Mathlib.Nat.{eq-or-lt_of_le}
+use Prim.Native.Nat.{ℕ, ◌<◌}
 use borrow.Author.Tests.{eqb-true}
 use lib.Dec.{eqb}
 use lib.ListN.{get_or}
-use types.Run.{OneOf}
 use Rattle.digits.proofs.Tabled.{all_below, each_below}
 use Rattle.calendar.specs.Gregorian.{days_of_years}
-
--- the days before each year of the cycle, ten years a line
-unfoldable pub starts : List ℕ
-starts =
-    0 ∷ 365 ∷ 730 ∷ 1095 ∷ 1461 ∷ 1826 ∷ 2191 ∷ 2556 ∷ 2922 ∷ 3287 ∷
-    3652 ∷ 4017 ∷ 4383 ∷ 4748 ∷ 5113 ∷ 5478 ∷ 5844 ∷ 6209 ∷ 6574 ∷ 6939 ∷
-    7305 ∷ 7670 ∷ 8035 ∷ 8400 ∷ 8766 ∷ 9131 ∷ 9496 ∷ 9861 ∷ 10227 ∷ 10592 ∷
-    10957 ∷ 11322 ∷ 11688 ∷ 12053 ∷ 12418 ∷ 12783 ∷ 13149 ∷ 13514 ∷ 13879 ∷ 14244 ∷
-    14610 ∷ 14975 ∷ 15340 ∷ 15705 ∷ 16071 ∷ 16436 ∷ 16801 ∷ 17166 ∷ 17532 ∷ 17897 ∷
-    18262 ∷ 18627 ∷ 18993 ∷ 19358 ∷ 19723 ∷ 20088 ∷ 20454 ∷ 20819 ∷ 21184 ∷ 21549 ∷
-    21915 ∷ 22280 ∷ 22645 ∷ 23010 ∷ 23376 ∷ 23741 ∷ 24106 ∷ 24471 ∷ 24837 ∷ 25202 ∷
-    25567 ∷ 25932 ∷ 26298 ∷ 26663 ∷ 27028 ∷ 27393 ∷ 27759 ∷ 28124 ∷ 28489 ∷ 28854 ∷
-    29220 ∷ 29585 ∷ 29950 ∷ 30315 ∷ 30681 ∷ 31046 ∷ 31411 ∷ 31776 ∷ 32142 ∷ 32507 ∷
-    32872 ∷ 33237 ∷ 33603 ∷ 33968 ∷ 34333 ∷ 34698 ∷ 35064 ∷ 35429 ∷ 35794 ∷ 36159 ∷
-    36524 ∷ 36889 ∷ 37254 ∷ 37619 ∷ 37985 ∷ 38350 ∷ 38715 ∷ 39080 ∷ 39446 ∷ 39811 ∷
-    40176 ∷ 40541 ∷ 40907 ∷ 41272 ∷ 41637 ∷ 42002 ∷ 42368 ∷ 42733 ∷ 43098 ∷ 43463 ∷
-    43829 ∷ 44194 ∷ 44559 ∷ 44924 ∷ 45290 ∷ 45655 ∷ 46020 ∷ 46385 ∷ 46751 ∷ 47116 ∷
-    47481 ∷ 47846 ∷ 48212 ∷ 48577 ∷ 48942 ∷ 49307 ∷ 49673 ∷ 50038 ∷ 50403 ∷ 50768 ∷
-    51134 ∷ 51499 ∷ 51864 ∷ 52229 ∷ 52595 ∷ 52960 ∷ 53325 ∷ 53690 ∷ 54056 ∷ 54421 ∷
-    54786 ∷ 55151 ∷ 55517 ∷ 55882 ∷ 56247 ∷ 56612 ∷ 56978 ∷ 57343 ∷ 57708 ∷ 58073 ∷
-    58439 ∷ 58804 ∷ 59169 ∷ 59534 ∷ 59900 ∷ 60265 ∷ 60630 ∷ 60995 ∷ 61361 ∷ 61726 ∷
-    62091 ∷ 62456 ∷ 62822 ∷ 63187 ∷ 63552 ∷ 63917 ∷ 64283 ∷ 64648 ∷ 65013 ∷ 65378 ∷
-    65744 ∷ 66109 ∷ 66474 ∷ 66839 ∷ 67205 ∷ 67570 ∷ 67935 ∷ 68300 ∷ 68666 ∷ 69031 ∷
-    69396 ∷ 69761 ∷ 70127 ∷ 70492 ∷ 70857 ∷ 71222 ∷ 71588 ∷ 71953 ∷ 72318 ∷ 72683 ∷
-    73048 ∷ 73413 ∷ 73778 ∷ 74143 ∷ 74509 ∷ 74874 ∷ 75239 ∷ 75604 ∷ 75970 ∷ 76335 ∷
-    76700 ∷ 77065 ∷ 77431 ∷ 77796 ∷ 78161 ∷ 78526 ∷ 78892 ∷ 79257 ∷ 79622 ∷ 79987 ∷
-    80353 ∷ 80718 ∷ 81083 ∷ 81448 ∷ 81814 ∷ 82179 ∷ 82544 ∷ 82909 ∷ 83275 ∷ 83640 ∷
-    84005 ∷ 84370 ∷ 84736 ∷ 85101 ∷ 85466 ∷ 85831 ∷ 86197 ∷ 86562 ∷ 86927 ∷ 87292 ∷
-    87658 ∷ 88023 ∷ 88388 ∷ 88753 ∷ 89119 ∷ 89484 ∷ 89849 ∷ 90214 ∷ 90580 ∷ 90945 ∷
-    91310 ∷ 91675 ∷ 92041 ∷ 92406 ∷ 92771 ∷ 93136 ∷ 93502 ∷ 93867 ∷ 94232 ∷ 94597 ∷
-    94963 ∷ 95328 ∷ 95693 ∷ 96058 ∷ 96424 ∷ 96789 ∷ 97154 ∷ 97519 ∷ 97885 ∷ 98250 ∷
-    98615 ∷ 98980 ∷ 99346 ∷ 99711 ∷ 100076 ∷ 100441 ∷ 100807 ∷ 101172 ∷ 101537 ∷ 101902 ∷
-    102268 ∷ 102633 ∷ 102998 ∷ 103363 ∷ 103729 ∷ 104094 ∷ 104459 ∷ 104824 ∷ 105190 ∷ 105555 ∷
-    105920 ∷ 106285 ∷ 106651 ∷ 107016 ∷ 107381 ∷ 107746 ∷ 108112 ∷ 108477 ∷ 108842 ∷ 109207 ∷
-    109572 ∷ 109937 ∷ 110302 ∷ 110667 ∷ 111033 ∷ 111398 ∷ 111763 ∷ 112128 ∷ 112494 ∷ 112859 ∷
-    113224 ∷ 113589 ∷ 113955 ∷ 114320 ∷ 114685 ∷ 115050 ∷ 115416 ∷ 115781 ∷ 116146 ∷ 116511 ∷
-    116877 ∷ 117242 ∷ 117607 ∷ 117972 ∷ 118338 ∷ 118703 ∷ 119068 ∷ 119433 ∷ 119799 ∷ 120164 ∷
-    120529 ∷ 120894 ∷ 121260 ∷ 121625 ∷ 121990 ∷ 122355 ∷ 122721 ∷ 123086 ∷ 123451 ∷ 123816 ∷
-    124182 ∷ 124547 ∷ 124912 ∷ 125277 ∷ 125643 ∷ 126008 ∷ 126373 ∷ 126738 ∷ 127104 ∷ 127469 ∷
-    127834 ∷ 128199 ∷ 128565 ∷ 128930 ∷ 129295 ∷ 129660 ∷ 130026 ∷ 130391 ∷ 130756 ∷ 131121 ∷
-    131487 ∷ 131852 ∷ 132217 ∷ 132582 ∷ 132948 ∷ 133313 ∷ 133678 ∷ 134043 ∷ 134409 ∷ 134774 ∷
-    135139 ∷ 135504 ∷ 135870 ∷ 136235 ∷ 136600 ∷ 136965 ∷ 137331 ∷ 137696 ∷ 138061 ∷ 138426 ∷
-    138792 ∷ 139157 ∷ 139522 ∷ 139887 ∷ 140253 ∷ 140618 ∷ 140983 ∷ 141348 ∷ 141714 ∷ 142079 ∷
-    142444 ∷ 142809 ∷ 143175 ∷ 143540 ∷ 143905 ∷ 144270 ∷ 144636 ∷ 145001 ∷ 145366 ∷ 145731 ∷ []
+use Rattle.calendar.specs.declared.starts.TheConstants.{STARTS}
 
 -- each number of the table is the formula's
-starts_tested : all_below (λ k. eqb (get_or starts k 0) (days_of_years k)) 400 ≡ true
-unfolding starts days_of_years
+starts_tested : all_below (λ k. eqb (get_or STARTS k 0) (days_of_years k)) 400 ≡ true
+unfolding days_of_years
 starts_tested = refl
 
 -- so each year of the cycle begins where the table says
-pub start_at_lem : (k : ℕ) → k < 400 → get_or starts k 0 ≡ days_of_years k
-start_at_lem k h = eqb-true _ _ (each_below (λ k. eqb (get_or starts k 0) (days_of_years k)) 400 starts_tested k h)
-
--- and so does the arm of year j
-pub arm : {k : ℕ} → k < 400 → (j : ℕ) → k ≡ j → get_or starts j 0 ≡ days_of_years k
-arm {k} h j e = rw (← e) (start_at_lem k h)
-
--- k is none of the numbers below m, as the last arm has it
-abbrev Other : ℕ → ℕ → Type 0
-Other k zero = Unit {0}
-Other k (suc m) = Other k m × (OneOf (m ∷ []) k → ⊥)
-
--- so it is not below m
-pub other : (k m : ℕ) → Other k m → m ≤ k
-other k zero o = omega arith
-other k (suc m) o = ⊎_elim (λ e. absurd (o.1 (sym e))) (λ l. l) (eq-or-lt_of_le (other k m o.0))
+pub start_at_lem : (k : ℕ) → k < 400 → get_or STARTS k 0 ≡ days_of_years k
+start_at_lem k h = eqb-true _ _ (each_below (λ k. eqb (get_or STARTS k 0) (days_of_years k)) 400 starts_tested k h)

@@ -1,5 +1,5 @@
 // Dates and day numbers: proleptic Gregorian, years 1 to 9999. Day 0 is 0001-01-01, a Monday.
-ghost use Rattle.std.specs.Prelude.{◌≡◌, ◌≤◌, ◌<◌, ◌+◌, min};
+ghost use Rattle.std.specs.Prelude.{◌≡◌, ◌≤◌, ◌<◌, ◌+◌};
 ghost use Rattle.calendar.specs.Gregorian.{leap_year, leap_day, month_length, days_before_month, days_of_years, day_number, days, IsDate};
 ghost use Rattle.calendar.specs.Gregorian.{years_before, month_of, InYear, InMonth};
 
@@ -11,16 +11,17 @@ pub(crate) fn leap_year(y: u32) -> bool
     ensures { result ≡ leap_year y }
 {
     if y % 100 == 0 {
-        return y % 16 == 0;
+        y % 16 == 0
+    } else {
+        y % 4 == 0
     }
-    y % 4 == 0
 }
 
 // The days that a leap year has more than a common one.
 fn leap_day(leap: bool) -> u32
     ensures { (result ≡ leap_day leap) × (result ≤ 1) }
 {
-    if leap { 1 } else { 0 }
+    u32::from(leap)
 }
 
 // The days of month m.
@@ -64,13 +65,6 @@ pub(crate) fn day_number(y: u32, m: u32, d: u32) -> u32
     days_of_years(y - 1) + days_before_month(leap_year(y), m) + (d - 1)
 }
 
-// The smaller of two numbers.
-pub(crate) fn least(a: u32, b: u32) -> u32
-    ensures { result ≡ min a b }
-{
-    if a < b { a } else { b }
-}
-
 // The whole years before day n. 22967 / 8388608 is a little less than a day's part of a year, so x is that number or one less, and the
 // start of the next year says which.
 pub(crate) fn years_before(n: u32) -> u32
@@ -87,9 +81,6 @@ pub(crate) fn month_of(leap: bool, k: u32) -> u32
     ensures { (result ≡ month_of leap k) × InMonth leap k result }
 {
     let l = leap_day(leap);
-    if k < 59 + l {
-        (12 * k + 373) / 367
-    } else {
-        (12 * (k + (2 - l)) + 373) / 367
-    }
+    let shift = if k < 59 + l { 0 } else { 2 - l };
+    (12 * (k + shift) + 373) / 367
 }

@@ -1,23 +1,22 @@
 // Moments of the calendar, and the steps from one to another with their refusals.
 ghost use Rattle.std.specs.Prelude.{◌≡◌, ◌<◌};
 ghost use Rattle.calendar.specs.Gregorian.{days, weekday};
-ghost use Rattle.calendar.specs.Moments.{IsMoment, in_range, is_day_of_month, is_date, is_time, is_moment, first_moment, last_moment};
+ghost use Rattle.calendar.specs.Moments.{IsMoment, moment_in, seven, is_day_of_month, is_date, is_time, is_moment, first_moment, last_moment};
 ghost use Rattle.calendar.specs.Moments.{with_date, with_time, with_minute, reached_of, Valid, day_of_moment, at_day, on_day};
 ghost use Rattle.calendar.specs.Moments.{moved_within, minute_number, minutes, at_minute, minutes_step};
 ghost use Rattle.calendar.specs.Moments.{second_number, seconds, moment_at};
 ghost use Rattle.calendar.specs.Moments.{month_number, months, in_month, months_step, years, in_year, years_step};
 
 use super::gregorian::{
-    day_number, days_before_month, days_of_years, leap_year, least, month_length, month_of,
-    years_before,
+    day_number, days_before_month, days_of_years, leap_year, month_length, month_of, years_before,
 };
-use refusals::{NO_LEAP_DAY, OUTSIDE};
+use refusals::Reason;
 
 // How many numbers a moment has, in the array of a caller.
 pub const MOMENT_NUMBERS: usize = 7;
 
 // A date and a time of day.
-#[derive(Clone, Copy)]
+#[derive(Clone, Copy, PartialEq, Eq)]
 pub struct Moment {
     pub year: u32,
     pub month: u32,
@@ -28,11 +27,39 @@ pub struct Moment {
     pub millisecond: u32,
 }
 
-// Where a step or a whole reading leads: to a moment, or to a refusal's number.
-#[derive(Clone, Copy)]
-pub enum Reached {
-    At(Moment),
-    Refused(u32),
+impl From<[u32; MOMENT_NUMBERS]> for Moment {
+    ghost from_gives = { λ numbers t. t ≡ moment_in numbers };
+
+    // The seven numbers of an array, in the order of the fields.
+    fn from(numbers: [u32; MOMENT_NUMBERS]) -> Moment {
+        let [year, month, day, hour, minute, second, millisecond] = numbers;
+        Moment {
+            year,
+            month,
+            day,
+            hour,
+            minute,
+            second,
+            millisecond,
+        }
+    }
+}
+
+impl From<Moment> for [u32; MOMENT_NUMBERS] {
+    ghost from_gives = { λ t numbers. numbers ≡ seven t };
+
+    // The seven numbers in the order of the fields.
+    fn from(t: Moment) -> [u32; MOMENT_NUMBERS] {
+        [
+            t.year,
+            t.month,
+            t.day,
+            t.hour,
+            t.minute,
+            t.second,
+            t.millisecond,
+        ]
+    }
 }
 
 // The weekday of day n, 0 for Monday to 6 for Sunday.
@@ -42,71 +69,38 @@ pub fn weekday_of(n: u32) -> u32
     n % 7
 }
 
-// True where n is one of low to high.
-fn in_range(n: u32, low: u32, high: u32) -> bool
-    ensures { result ≡ in_range n low high }
-{
-    if n < low {
-        return false;
-    }
-    n <= high
-}
-
-// True where the year's month m has day d, whatever the year.
+// True where the year's month m has day d, whatever the year. Every month has the days up to its 28th.
 pub fn valid_day(y: u32, m: u32, d: u32) -> bool
     ensures { result ≡ is_day_of_month y m d }
 {
-    if in_range(m, 1, 12) {
-        if in_range(d, 1, 28) {
-            return true;
-        }
-        return in_range(d, 1, month_length(leap_year(y), m));
-    }
-    false
+    (1..=12).contains(&m) && d >= 1 && (d <= 28 || d <= month_length(leap_year(y), m))
 }
 
 // True where the numbers are a date of the calendar.
 pub fn valid_date(y: u32, m: u32, d: u32) -> bool
     ensures { result ≡ is_date y m d }
 {
-    if in_range(y, 1, Moment::YEARS) {
-        return valid_day(y, m, d);
-    }
-    false
+    (1..=Moment::YEARS).contains(&y) && valid_day(y, m, d)
 }
 
 // True where the numbers are a time of day.
 pub fn valid_time(h: u32, m: u32, s: u32, ms: u32) -> bool
     ensures { result ≡ is_time h m s ms }
 {
-    if h >= 24 {
-        return false;
-    }
-    if m >= 60 {
-        return false;
-    }
-    if s >= 60 {
-        return false;
-    }
-    ms < 1000
+    h < 24 && m < 60 && s < 60 && ms < 1000
 }
 
-// Place n of those below a limit, moved by k back or on; the limit itself where that leaves them. The room left is compared, since a
-// sum could pass 64 bits.
-fn moved(back: bool, k: u64, n: u64, limit: u64) -> u64
+// Place n of those below a limit, moved by k back or on, if that is one of them. The room left is compared, since a sum could pass
+// 64 bits.
+fn moved(back: bool, k: u64, n: u64, limit: u64) -> Option<u64>
     requires { n < limit }
     ensures { result ≡ moved_within back k n limit }
 {
     if back {
-        if k <= n {
-            return n - k;
-        }
-        return limit;
+        n.checked_sub(k)
+    } else {
+        (k < limit - n).then(|| n + k)
     }
-    if k < limit - n {
-        return n + k;
-    }
-    limit
 }
 
 impl Moment {
@@ -161,10 +155,8 @@ impl Moment {
     pub fn valid(self) -> bool
         ensures { result ≡ is_moment self }
     {
-        if valid_date(self.year, self.month, self.day) {
-            return valid_time(self.hour, self.minute, self.second, self.millisecond);
-        }
-        false
+        valid_date(self.year, self.month, self.day)
+            && valid_time(self.hour, self.minute, self.second, self.millisecond)
     }
 
     // The same time of day on another date.
@@ -217,13 +209,13 @@ impl Moment {
     }
 
     // The same time of day on day n, if the calendar has that day.
-    pub fn on_day(self, n: u32) -> Reached
+    pub fn on_day(self, n: u32) -> Result<Moment, Reason>
         ensures { reached_of result ≡ on_day n self }
     {
         if n < Self::DAYS {
-            Reached::At(self.at_day(n))
+            Ok(self.at_day(n))
         } else {
-            Reached::Refused(OUTSIDE)
+            Err(Reason::Outside)
         }
     }
 
@@ -245,16 +237,13 @@ impl Moment {
     }
 
     // So many minutes, back or on.
-    pub fn minutes_step(self, back: bool, k: u64) -> Reached
+    pub fn minutes_step(self, back: bool, k: u64) -> Result<Moment, Reason>
         requires { IsMoment self }
         ensures result_value { reached_of result ≡ minutes_step back k self }
         ensures valid { Valid (reached_of result) }
     {
-        let n = moved(back, k, self.minute_number(), Self::MINUTES);
-        if n < Self::MINUTES {
-            return Reached::At(self.at_minute(n));
-        }
-        Reached::Refused(OUTSIDE)
+        let n = moved(back, k, self.minute_number(), Self::MINUTES).ok_or(Reason::Outside)?;
+        Ok(self.at_minute(n))
     }
 
     // The whole seconds from the first moment on.
@@ -290,46 +279,40 @@ impl Moment {
     {
         let y = n / 12 + 1;
         let m = n % 12 + 1;
-        let d = least(self.day, month_length(leap_year(y), m));
+        let d = self.day.min(month_length(leap_year(y), m));
         self.with_date(y, m, d)
     }
 
     // So many months, back or on.
-    pub fn months_step(self, back: bool, k: u64) -> Reached
+    pub fn months_step(self, back: bool, k: u64) -> Result<Moment, Reason>
         requires { IsMoment self }
         ensures result_value { reached_of result ≡ months_step back k self }
         ensures valid { Valid (reached_of result) }
     {
-        let n = moved(back, k, self.month_number() as u64, Self::MONTHS);
-        if n < Self::MONTHS {
-            return Reached::At(self.in_month(n as u32));
-        }
-        Reached::Refused(OUTSIDE)
+        let n = moved(back, k, self.month_number() as u64, Self::MONTHS).ok_or(Reason::Outside)?;
+        Ok(self.in_month(n as u32))
     }
 
     // The same month, day and time in year n of the calendar, counted from 0, if that year has the day.
-    fn in_year(self, n: u32) -> Reached
+    fn in_year(self, n: u32) -> Result<Moment, Reason>
         requires { IsMoment self × (n < years) }
         ensures { reached_of result ≡ in_year n self }
     {
         let y = n + 1;
         if self.day <= month_length(leap_year(y), self.month) {
-            Reached::At(self.with_date(y, self.month, self.day))
+            Ok(self.with_date(y, self.month, self.day))
         } else {
-            Reached::Refused(NO_LEAP_DAY)
+            Err(Reason::NoLeapDay)
         }
     }
 
     // So many years, back or on. The year's range is tested before its days.
-    pub fn years_step(self, back: bool, k: u64) -> Reached
+    pub fn years_step(self, back: bool, k: u64) -> Result<Moment, Reason>
         requires { IsMoment self }
         ensures result_value { reached_of result ≡ years_step back k self }
         ensures valid { Valid (reached_of result) }
     {
-        let n = moved(back, k, (self.year - 1) as u64, Self::YEARS as u64);
-        if n < Self::YEARS as u64 {
-            return self.in_year(n as u32);
-        }
-        Reached::Refused(OUTSIDE)
+        let n = moved(back, k, (self.year - 1) as u64, Self::YEARS as u64).ok_or(Reason::Outside)?;
+        self.in_year(n as u32)
     }
 }

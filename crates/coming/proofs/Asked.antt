@@ -3,7 +3,7 @@ use mathlib.Core.Path.{◌≡◌, refl, ◌∙◌}
 use mathlib.Core.Bool.{Bool, true, false, cond, ◌&&◌}
 use mathlib.Core.Logic.{⊎_elim}
 use mathlib.Core.List.{List, ◌∷◌, ◌++◌, append-nil, []}
-use mathlib.Core.Option.{none, some}
+use Rattle.std.proofs.Common.{Some, None}
 use lib.ListN.{length, take}
 use lib.Dec.{ltb}
 use Prim.Native.Nat.{ℕ, zero, suc, ◌+◌, ◌-◌, ◌≤◌, ◌<◌}
@@ -34,7 +34,7 @@ take_none : (c : ℕ) → take {A = ℕ} c [] ≡ []
 take_none zero = refl
 take_none (suc c) = refl
 
-pub nothing : (b k : ℕ) → first_at b (take k []) ≡ none
+pub nothing : (b k : ℕ) → first_at b (take k []) ≡ None
 unfolding first_at
 nothing b k = rw (take_none k)
 
@@ -50,7 +50,7 @@ skip b (n ∷ l) r (suc c) h =
 -- E12: what the full list has first at or after b, COUNT and limit counted in, is the least day from b on that holds,
 -- if it lies below the limit and fewer than COUNT hold before b
 pub asked : (P : ℕ → Bool) (s b n c limit : ℕ) → s ≤ b → FirstBelow P b n limit →
-    first_at b (take c (between P s limit)) ≡ cond (ltb n limit && ltb (length (between P s b)) c) (some n) none
+    first_at b (take c (between P s limit)) ≡ cond (ltb n limit && ltb (length (between P s b)) c) (Some n) None
 asked P s b n c limit h f = ⊎_elim
     (λ (p : b ≤ limit). rw (between_append P s b limit h p)
     (skip b (between P s b) (between P b limit) c (held_below P s (b - s) b (omega arith)) ∙ here))
@@ -65,11 +65,11 @@ asked P s b n c limit h f = ⊎_elim
     first : n < limit → First P b n
     first p = record { reached = low; holds = f.holds p; none = λ k x y. f.none_before k x y (omega arith) }
 
-    taken : (k : ℕ) → n < limit → 1 ≤ k → first_at b (take k (n ∷ between P (suc n) limit)) ≡ some n
+    taken : (k : ℕ) → n < limit → 1 ≤ k → first_at b (take k (n ∷ between P (suc n) limit)) ≡ Some n
     taken zero l g = absurd (omega arith)
     taken (suc k) l g = unfold first_at in rw (le-leb b n low)
 
-    here : first_at b (take (c - length (between P s b)) (between P b limit)) ≡ cond (ltb n limit && ltb (length (between P s b)) c) (some n) none
+    here : first_at b (take (c - length (between P s b)) (between P b limit)) ≡ cond (ltb n limit && ltb (length (between P s b)) c) (Some n) None
     here = ⊎_elim
         (λ (p : limit ≤ n). rw (held_none P b (limit - b) (λ k x y. f.none_before k x (omega arith) (omega arith)), le-ltb n limit p) (nothing b (c - length (between P s b))))
         (λ (p : n < limit). rw (first_head P b n limit (first p) p, lt-ltb n limit p) (⊎_elim

@@ -3,7 +3,7 @@ use mathlib.Core.Path.{◌≡◌, refl}
 use mathlib.Core.Bool.{true}
 use Prim.Native.Nat.{ℕ, ◌≤◌}
 use native.Mathlib.Omega.{arith}
-use Rattle.refusals.specs.Table.{NoNext}
+use Rattle.refusals.specs.declared.Reason.TheVariants.{NoNext}
 use Rattle.refusals.specs.Answers.{given, refuse}
 use Rattle.calendar.specs.Gregorian.{leap_year, month_length, days_before_month, days_of_years, day_number, years_before, year_of, day_of_year, month_of, month_of_day, day_of}
 use Rattle.calendar.specs.Moments.{is_moment, is_date, is_time, moment_of}
@@ -17,7 +17,7 @@ use Rattle.rules.specs.declared.Rule.{Rule}
 use Rattle.repeats.specs.Held.{seek}
 use Rattle.repeats.specs.Occurrences.{month_at, holds, start_fits}
 use Rattle.repeats.specs.Courses.{course_of, repeat_in}
-use Rattle.repeats.specs.declared.courses.Begun.TheVariants.{From}
+use Rattle.std.proofs.Common.{Ok}
 use Rattle.repeats.specs.Firsts.{up, has_day, day_in, month_from, first_monthly, first_from}
 use Rattle.coming.specs.Counts.{count_before, count_monthly, months_with, leaps, sum}
 use Rattle.coming.specs.Next.{next_of, asked_day, next_day, moment_or}
@@ -31,7 +31,7 @@ monthly_rule i b h g v = record { least = h; most = g; bound = v }
 -- the law `next_closed`, where the moments are tested
 asks : (r : Rule) (t asked : Moment) → IsRule r → is_moment t ≡ true → is_moment asked ≡ true → start_fits r t ≡ true →
     let c = course_of r t in next_of r t asked ≡ moment_or t (next_day (repeat_in c) c.interval c.start c.limit c.count (asked_day t asked))
-asks r t asked v m w e = (next_closed r t (From (course_of r t)) (rw e) (course_of r t) refl v (test_moment t m)).closed asked (test_moment asked w)
+asks r t asked v m w e = (next_closed r t (Ok (course_of r t)) (rw e) (course_of r t) refl v (test_moment t m)).closed asked (test_moment asked w)
 
 -- FREQ=MONTHLY from 2026-01-31 has 01, 03, 05 and 07: months that are passed over are not counted
 fourth : next_of (plain Monthly 1 (Count 4)) (on 2026 1 31) (on 2026 7 31) ≡ given (on 2026 7 31)

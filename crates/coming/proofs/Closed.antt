@@ -2,38 +2,27 @@
 use mathlib.Core.Path.{◌≡◌, refl, ap, ◌∙◌}
 use mathlib.Core.Bool.{Bool, true, false, cond, ◌&&◌}
 use lib.Dec.{ltb}
-use mathlib.Core.Option.{none, some}
+use Rattle.std.proofs.Common.{Some, None, Result, Ok, Err}
+use Rattle.refusals.specs.declared.Reason.{Reason}
 use Prim.Native.Nat.{ℕ, ◌-◌, ◌≤◌, ◌<◌, min}
 use native.Mathlib.Omega.{arith}
 use borrow.Author.Tests.{le-leb, lt-leb, le-ltb, lt-ltb}
-use Rattle.refusals.specs.Table.{NoStart}
-use Rattle.refusals.specs.Answers.{refuse}
 use Rattle.calendar.specs.Gregorian.{days}
 use Rattle.calendar.specs.Moments.{IsMoment}
 use Rattle.calendar.specs.declared.moments.Moment.{Moment}
-use Rattle.rules.specs.Rule.{IsBound, IsRule}
-use Rattle.rules.specs.declared.Bound.{Bound}
-use Rattle.rules.specs.declared.Bound.TheVariants.{Endless, Count, UntilDay, UntilMoment}
+use Rattle.rules.specs.Rule.{IsRule}
 use Rattle.rules.specs.declared.Rule.{Rule}
 use Rattle.repeats.specs.Firsts.{first_from}
 use Rattle.repeats.specs.Occurrences.{Repeat, holds}
-use Rattle.repeats.specs.Courses.{count_of, repeat_in, days_in, IsCourse, begun_of}
+use Rattle.repeats.specs.Courses.{repeat_in, days_in, IsCourse, begun_of}
 use Rattle.repeats.specs.declared.courses.Course.{Course}
-use Rattle.repeats.specs.declared.courses.Begun.{Begun}
-use Rattle.repeats.specs.declared.courses.Begun.TheVariants.{Refused, From}
 use Rattle.repeats.proofs.Begins.{from_fits, not-begun, begun_course, begun_days}
 use Rattle.repeats.proofs.Held.{held_short}
+use Rattle.repeats.proofs.Laws.{count_least}
 use Rattle.coming.specs.Counts.{count_before}
-use Rattle.coming.specs.Next.{next_of, asked_day, next_day, moment_or, day_below}
+use Rattle.coming.specs.Next.{next_of, asked_day, next_day, moment_or, answered}
 use Rattle.coming.proofs.Moments.{first_day}
 use Rattle.coming.proofs.NextDay.{counted, next_day_lem}
-
--- COUNT is at least 1, and the calendar has a day
-count_least : (b : Bound) → IsBound b → 1 ≤ count_of b
-count_least Endless v = omega arith
-count_least (Count n) v = v
-count_least (UntilDay y m d) v = omega arith
-count_least (UntilMoment u) v = omega arith
 
 -- what is known of the course of a start that fits: the first occurrence at or after the asked moment, by its closed forms
 pub record Fits (r : Rule) (t : Moment) (c : Course) : Type 0 where
@@ -42,8 +31,8 @@ pub record Fits (r : Rule) (t : Moment) (c : Course) : Type 0 where
   pub closed : (asked : Moment) → IsMoment asked →
       next_of r t asked ≡ moment_or t (next_day (repeat_in c) c.interval c.start c.limit c.count (asked_day t asked))
 
-module _ (r : Rule) (t : Moment) (b : Begun) (e : b ≡ begun_of r t) where
-  pub next_closed : (c : Course) → b ≡ From c → IsRule r → IsMoment t → Fits r t c
+module _ (r : Rule) (t : Moment) (b : Result Course Reason) (e : b ≡ begun_of r t) where
+  pub next_closed : (c : Course) → b ≡ Ok c → IsRule r → IsMoment t → Fits r t c
   next_closed c h v m = record { course = is; count = some_day; closed = next }
     where
       is : IsCourse c
@@ -59,39 +48,39 @@ module _ (r : Rule) (t : Moment) (b : Begun) (e : b ≡ begun_of r t) where
           unfold next_of in rw (begun_days r t b e c h v) (first_day t asked (days_in c) m w ∙ ap (moment_or t) day)
 
   -- 19 where the start does not fit
-  pub next_off : (asked : Moment) → b ≡ Refused → next_of r t asked ≡ refuse NoStart 0 0
+  pub next_off : (k : Reason) (asked : Moment) → b ≡ Err k → Err k ≡ answered (next_of r t asked)
   unfolding next_of
-  next_off asked h = rw (not-begun r t b e h)
+  next_off k asked h = let off = not-begun r t b e k h in rw (off.0, off.1)
 
 -- the code's ways to the day, one after the other; n is what is found from b on
 module _ (r : Repeat) (i s limit c b : ℕ) where
-  pub day_start : b ≤ s → s < days → next_day r i s limit c b ≡ day_below s
+  pub day_start : b ≤ s → Some s ≡ next_day r i s limit c b
   unfolding next_day
-  day_start h g = rw (le-leb b s h, lt-ltb s days g)
+  day_start h = rw (le-leb b s h)
 
-  pub day_past : s < b → days ≤ b → next_day r i s limit c b ≡ none
+  pub day_past : s < b → days ≤ b → None ≡ next_day r i s limit c b
   unfolding next_day
   day_past h g = rw (lt-leb b s h, le-ltb b days g)
 
-  pub day_late : (n : ℕ) → s < b → b < days → n ≡ min (first_from r i s b) days → limit ≤ n → next_day r i s limit c b ≡ none
+  pub day_late : (n : ℕ) → s < b → b < days → n ≡ min (first_from r i s b) days → limit ≤ n → None ≡ next_day r i s limit c b
   unfolding next_day
   day_late n h g e l = rw (lt-leb b s h, lt-ltb b days g, le-ltb (first_from r i s b) limit (omega arith))
 
-  pub day_counted : s < b → c ≤ count_before r i s b → next_day r i s limit c b ≡ none
+  pub day_counted : s < b → c ≤ count_before r i s b → None ≡ next_day r i s limit c b
   unfolding next_day
   day_counted h l = rw (lt-leb b s h, le-ltb (count_before r i s b) c l) (go (ltb b days) (ltb (first_from r i s b) limit))
     where
-      go : (x y : Bool) → cond (x && (y && false)) (some (first_from r i s b)) none ≡ none
+      go : (x y : Bool) → None ≡ cond (x && (y && false)) (Some (first_from r i s b)) None
       go true true = refl
       go true false = refl
       go false y = refl
 
   pub day_found : (n : ℕ) → s < b → b < days → n ≡ min (first_from r i s b) days → n < limit → limit ≤ days → count_before r i s b < c →
-      next_day r i s limit c b ≡ day_below n
+      Some n ≡ next_day r i s limit c b
   unfolding next_day
   day_found n h g e l z k =
       let same : n ≡ first_from r i s b = omega arith in
-      rw (lt-leb b s h, lt-ltb b days g, ← same, lt-ltb n limit l, lt-ltb (count_before r i s b) c k, lt-ltb n days (omega arith))
+      rw (lt-leb b s h, lt-ltb b days g, ← same, lt-ltb n limit l, lt-ltb (count_before r i s b) c k)
 
   -- fewer days lie before b than the calendar has
   pub count_short : 1 ≤ i → holds r i s s ≡ true → s ≤ b → b < days → days ≤ c → count_before r i s b < c

@@ -8,8 +8,8 @@ use lib.Seq.{take_all}
 use Prim.Native.Nat.{ℕ, ◌*◌, ◌/◌, ◌≤◌, ◌<◌}
 use native.Mathlib.Omega.{arith}
 use borrow.Author.Tests.{leb-true, leb-false, lt-leb}
-use Rattle.refusals.specs.Table.{NoStart, NoNext}
-use Rattle.refusals.specs.Answers.{Answer, given, refused, refuse, and_then, refusal_of}
+use Rattle.refusals.specs.declared.Reason.TheVariants.{NoStart, NoNext}
+use Rattle.refusals.specs.Answers.{Answer, given, refused, refuse, and_then, number_in}
 use Rattle.refusals.proofs.Holds.{Given}
 use Rattle.calendar.specs.Moments.{at_day, instant_of, NotAfter}
 use Rattle.calendar.specs.declared.moments.Moment.{Moment}
@@ -36,7 +36,7 @@ pub record Entry (t asked u : Moment) (l : List ℕ) : Type 0 where
 -- what is answered is that entry
 pub first_entry : (t asked u : Moment) (l : List ℕ) → first_after t asked l ≡ given u → Entry t asked u l
 unfolding first_after
-first_entry t asked u [] e = absurd (let z : ◌≡◌ {A = ℕ} 0 1 = cc in omega arith)
+first_entry t asked u [] e = cc
 first_entry t asked u (n ∷ l) e = go (λ q. first_entry t asked u l q) (leb (instant_of asked) (instant_of (at_day n t))) refl e
   where
     more : Early t asked n → Entry t asked u l → Entry t asked u (n ∷ l)
@@ -65,7 +65,7 @@ none_early t asked (n ∷ l) e = go (λ q. none_early t asked l q) (leb (instant
   where
     go : (first_after t asked l ≡ refuse NoNext 0 0 → Each (Early t asked) l) → (c : Bool) → leb (instant_of asked) (instant_of (at_day n t)) ≡ c →
         cond c (given (at_day n t)) (first_after t asked l) ≡ refuse NoNext 0 0 → Each (Early t asked) (n ∷ l)
-    go rest true p q = absurd (let z : ◌≡◌ {A = ℕ} 0 1 = cc in omega arith)
+    go rest true p q = cc
     go rest false p q = (leb-false _ _ p, rest q)
 
 -- and the other way round
@@ -81,7 +81,7 @@ next_entry r t asked u e = go (days_of r t) refl e
   where
     go : (w : Answer (List ℕ)) → days_of r t ≡ w → and_then w (λ l. first_after t asked l) ≡ given u → Given (Entry t asked u) (days_of r t)
     go (given l) p q = record { value = l; is = p; holds = first_entry t asked u l q }
-    go (refused z) p q = absurd (let z : ◌≡◌ {A = ℕ} 0 1 = cc in omega arith)
+    go (refused z) p q = cc
 
 -- it is 20 only if the list is there and has none
 pub next_none : (r : Rule) (t asked : Moment) → next_of r t asked ≡ refuse NoNext 0 0 → Given (Each (Early t asked)) (days_of r t)
@@ -91,7 +91,7 @@ next_none r t asked e = go (start_fits r t) (occurrences r t) e
     go : (c : Bool) (l : List ℕ) → and_then (cond c (given l) (refuse NoStart 0 0)) (λ l. first_after t asked l) ≡ refuse NoNext 0 0 →
         Given (Each (Early t asked)) (cond c (given l) (refuse NoStart 0 0))
     go true l q = record { value = l; is = refl; holds = none_early t asked l q }
-    go false l q = absurd (let z : NoStart ≡ NoNext = ap (λ w. (refusal_of w).number) q in omega arith)
+    go false l q = absurd (let z : ◌≡◌ {A = ℕ} 19 20 = ap number_in q in omega arith)
 
 -- and if so
 pub none_next : (r : Rule) (t asked : Moment) (l : List ℕ) → days_of r t ≡ given l → Each (Early t asked) l → next_of r t asked ≡ refuse NoNext 0 0

@@ -4,7 +4,7 @@ use mathlib.Core.Bool.{Bool, true, false, cond}
 use mathlib.Core.Logic.{⊎_elim}
 use mathlib.Core.List.{List, ◌∷◌, []}
 use lib.Dec.{leb, ltb}
-use mathlib.Core.Option.{some}
+use Rattle.std.proofs.Common.{Some}
 use Prim.Native.Nat.{ℕ, ◌+◌, ◌*◌, ◌≤◌, ◌<◌}
 use native.Mathlib.Omega.{arith}
 use borrow.Author.Tests.{le-leb, lt-leb, le-ltb, lt-ltb}
@@ -53,6 +53,6 @@ unfolding first_after first_at
 first_day t asked [] v w = refl
 first_day t asked (n ∷ l) v w = rw (reached t asked n v w, first_day t asked l v w) (go (leb (asked_day t asked) n))
   where
-    go : (c : Bool) → cond c (given (at_day n t)) (moment_or t (first_at (asked_day t asked) l)) ≡ moment_or t (cond c (some n) (first_at (asked_day t asked) l))
+    go : (c : Bool) → cond c (given (at_day n t)) (moment_or t (first_at (asked_day t asked) l)) ≡ moment_or t (cond c (Some n) (first_at (asked_day t asked) l))
     go true = refl
     go false = refl

@@ -3,7 +3,7 @@ use mathlib.Core.Path.{◌≡◌, ◌∙◌}
 use mathlib.Core.Bool.{Bool, true, cond, ◌&&◌}
 use mathlib.Core.Logic.{⊎_elim}
 use mathlib.Core.List.{append-nil, []}
-use mathlib.Core.Option.{none, some}
+use Rattle.std.proofs.Common.{Some, None}
 use lib.ListN.{length, take}
 use lib.Dec.{ltb}
 use Prim.Native.Nat.{ℕ, zero, suc, ◌-◌, ◌≤◌, ◌<◌}
@@ -36,12 +36,12 @@ counted (monthly d) i s b h e g t =
 
 -- E12: the first entry of the full list at or after day b, by the closed forms
 pub comes_next : (r : Repeat) (i s b limit c : ℕ) → 1 ≤ i → holds r i s s ≡ true → s ≤ b → b < days → limit ≤ days →
-    first_at b (take c (between (holds r i s) s limit)) ≡ cond (ltb (first_from r i s b) limit && ltb (count_before r i s b) c) (some (first_from r i s b)) none
+    first_at b (take c (between (holds r i s) s limit)) ≡ cond (ltb (first_from r i s b) limit && ltb (count_before r i s b) c) (Some (first_from r i s b)) None
 comes_next r i s b limit c h e g t z =
     rw (← counted r i s b h e g t) (asked (holds r i s) s b (first_from r i s b) c limit g (found r i s b limit h e g t z))
 
 -- a day at or past the limit has none at or after it
-pub past_limit : (P : ℕ → Bool) (s b limit c : ℕ) → limit ≤ b → s ≤ limit → first_at b (take c (between P s limit)) ≡ none
+pub past_limit : (P : ℕ → Bool) (s b limit c : ℕ) → limit ≤ b → s ≤ limit → first_at b (take c (between P s limit)) ≡ None
 past_limit P s b limit c h g =
     rw (← append-nil (between P s limit))
     (skip b (between P s limit) [] c (held_below P s (limit - s) b (omega arith)) ∙ nothing b (c - length (between P s limit)))

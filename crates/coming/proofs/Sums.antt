@@ -3,7 +3,7 @@ use mathlib.Core.Path.{◌≡◌, refl, ◌∙◌}
 use mathlib.Core.Bool.{Bool, true, false, cond}
 use mathlib.Core.Logic.{⊎_elim}
 use lib.Dec.{leb}
-use Prim.Native.Nat.{ℕ, zero, suc, ◌+◌, ◌-◌, ◌*◌, ◌/◌, ◌%◌, ◌≤◌, ◌<◌}
+use Prim.Native.Nat.{ℕ, zero, suc, ◌+◌, ◌-◌, ◌*◌, ◌/◌, ◌%◌, ◌≤◌, ◌<◌, min}
 use native.Mathlib.Nat.{eq-or-lt_of_le}
 use native.Mathlib.Numerals.{add-one}
 use native.Mathlib.Omega.{arith}
@@ -44,11 +44,11 @@ unfolding sum
 sum-zero f = refl
 
 -- terms that are nothing from k on can be left out
-sum-stop : (f : ℕ → ℕ) (k n : ℕ) → k ≤ n → ((r : ℕ) → k ≤ r → f r ≡ 0) → sum f n ≡ sum f k
+sum-stop : (f : ℕ → ℕ) (k n : ℕ) → k ≤ n → ((r : ℕ) → k ≤ r → r < n → f r ≡ 0) → sum f n ≡ sum f k
 sum-stop f k zero h z = let e : k ≡ 0 = omega arith in rw e
 sum-stop f k (suc n) h z = ⊎_elim
     (λ (e : k ≡ suc n). rw e)
-    (λ (l : k < suc n). let a = z n (omega arith) in let b = sum-stop f k n (omega arith) z in rw (sum_step f n) (omega arith))
+    (λ (l : k < suc n). let a = z n (omega arith) (omega arith) in let b = sum-stop f k n (omega arith) (λ r p q. z r p (omega arith)) in rw (sum_step f n) (omega arith))
     (eq-or-lt_of_le h)
 
 -- no turn is left for a remainder at or past their number
@@ -68,20 +68,16 @@ unfolding leaps_below
 leaps_more y i u v = rw (add-one v) (sum_step _ v)
 
 -- those are all, where no turn is left
-pub leaps_stop : (y i u v : ℕ) → u ≤ v → v ≤ 400 → leaps y i u ≡ leaps_below y i u v
+pub leaps_all : (y i u v : ℕ) → v ≡ min u 400 → leaps y i u ≡ leaps_below y i u v
 unfolding leaps leaps_below
-leaps_stop y i u v h g = sum-stop _ v 400 g (λ r l. rw (up_none 400 u r (omega arith) (omega arith)) (omega arith))
-
-pub leaps_all : (y i u : ℕ) → leaps y i u ≡ leaps_below y i u 400
-unfolding leaps leaps_below
-leaps_all y i u = refl
+leaps_all y i u v e = sum-stop _ v 400 (omega arith) (λ r l h. rw (up_none 400 u r (omega arith) (omega arith)) (omega arith))
 
 -- without turns no month has the day
 no_turns : (d i n : ℕ) → turns_with d i n 0 ≡ 0
 no_turns d i n = rw none (go (leb d (month_length false (n % 12 + 1))) (leb d (month_length true (n % 12 + 1))))
   where
     none : leaps (n / 12 + 1) i 0 ≡ 0
-    none = leaps_stop (n / 12 + 1) i 0 0 (omega arith) (omega arith) ∙ leaps_none (n / 12 + 1) i 0
+    none = leaps_all (n / 12 + 1) i 0 0 (omega arith) ∙ leaps_none (n / 12 + 1) i 0
 
     go : (a b : Bool) → ◌≡◌ {A = ℕ} (cond a 0 (cond b 0 0)) 0
     go true b = refl
@@ -100,10 +96,6 @@ pub months_more : (d i m t r : ℕ) → months_below d i m t (r + 1) ≡ months_
 unfolding months_below
 months_more d i m t r = rw (add-one r) (sum_step _ r)
 
-pub months_stop : (d i m t r : ℕ) → t ≤ r → r ≤ 12 → months_with d i m t ≡ months_below d i m t r
+pub months_all : (d i m t r : ℕ) → r ≡ min t 12 → months_with d i m t ≡ months_below d i m t r
 unfolding months_with months_below
-months_stop d i m t r h g = sum-stop _ r 12 g (λ k l. rw (up_none 12 t k (omega arith) (omega arith)) (no_turns d i (m + i * k)))
-
-pub months_all : (d i m t : ℕ) → months_with d i m t ≡ months_below d i m t 12
-unfolding months_with months_below
-months_all d i m t = refl
+months_all d i m t r e = sum-stop _ r 12 (omega arith) (λ k l h. rw (up_none 12 t k (omega arith) (omega arith)) (no_turns d i (m + i * k)))

@@ -1,6 +1,6 @@
 -- Worked cases, computed on the list: the start is Tuesday 2026-02-10 09:30:15.250 unless another is named.
 use Rattle.std.specs.Prelude.{ℕ, ◌≡◌, refl}
-use Rattle.refusals.specs.Table.{NoNext, NoStart}
+use Rattle.refusals.specs.declared.Reason.TheVariants.{NoNext, NoStart}
 use Rattle.refusals.specs.Answers.{given, refuse}
 use Rattle.calendar.specs.Gregorian.{leap_year, month_length, days_before_month, days_of_years, day_number, years_before, year_of, day_of_year, month_of, month_of_day, day_of}
 use Rattle.calendar.specs.Moments.{moment_of}

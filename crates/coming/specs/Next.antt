@@ -1,13 +1,11 @@
 -- Which occurrence comes next: "the first occurrence at or after a moment".
-use Rattle.std.specs.Prelude.{ℕ, ◌+◌, cond, ◌&&◌, List, ◌∷◌, [], leb, ltb}
-use Rattle.std.proofs.Math.Option.{Option, none, some}
-use Rattle.refusals.specs.Table.{NoNext}
+use Rattle.std.specs.Prelude.{ℕ, ◌+◌, cond, ◌&&◌, List, ◌∷◌, [], leb, ltb, Option, Some, None, Result, Ok, Err}
+use Rattle.refusals.specs.declared.Reason.{Reason}
+use Rattle.refusals.specs.declared.Reason.TheVariants.{NoNext}
 use Rattle.refusals.specs.Answers.{Answer, given, refused, refuse, and_then}
 use Rattle.calendar.specs.Gregorian.{days}
 use Rattle.calendar.specs.Moments.{day_of_moment, at_day, instant_of}
 use Rattle.calendar.specs.declared.moments.Moment.{Moment}
-use Rattle.calendar.specs.declared.moments.Reached.{Reached}
-use Rattle.calendar.specs.declared.moments.Reached.TheVariants.{At, Refused}
 use Rattle.rules.specs.declared.Rule.{Rule}
 use Rattle.repeats.specs.Firsts.{first_from}
 use Rattle.repeats.specs.Held.{one}
@@ -31,25 +29,21 @@ asked_day t asked = day_of_moment asked + one (ltb (time_of_day t) (time_of_day 
 
 -- the first entry of a list at or after day b
 unfoldable pub first_at : ℕ → List ℕ → Option ℕ
-first_at b [] = none
-first_at b (n ∷ l) = cond (leb b n) (some n) (first_at b l)
+first_at b [] = None
+first_at b (n ∷ l) = cond (leb b n) (Some n) (first_at b l)
 
 -- which one comes first at or after day b, where the start s matches and lies below the limit, and COUNT c is at least 1
 unfoldable pub next_day : Repeat → ℕ → ℕ → ℕ → ℕ → ℕ → Option ℕ
 next_day r i s limit c b =
-    cond (leb b s) (some s)
-    (cond (ltb b days && (ltb (first_from r i s b) limit && ltb (count_before r i s b) c)) (some (first_from r i s b)) none)
+    cond (leb b s) (Some s)
+    (cond (ltb b days && (ltb (first_from r i s b) limit && ltb (count_before r i s b) c)) (Some (first_from r i s b)) None)
 
 -- the moment of that day, or 20
 abbrev pub moment_or : Moment → Option ℕ → Answer Moment
-moment_or t (some n) = given (at_day n t)
-moment_or t none = refuse NoNext 0 0
+moment_or t (Some n) = given (at_day n t)
+moment_or t None = refuse NoNext 0 0
 
--- the code's day: the calendar's end where there is none
-abbrev pub day_below : ℕ → Option ℕ
-day_below n = cond (ltb n days) (some n) none
-
--- the code's answer: the moment, or the refusal's number
-abbrev pub answered : Answer Moment → Reached
-answered (given t) = At t
-answered (refused r) = Refused r.number
+-- the code's answer: the moment, or the reason of the refusal
+abbrev pub answered : Answer Moment → Result Moment Reason
+answered (given t) = Ok t
+answered (refused r) = Err r.reason

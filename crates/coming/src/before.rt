@@ -23,9 +23,10 @@ fn leap_turns(y: u32, left: u32) -> u32
     ensures { (result ≡ one (leap_year y) * up 400 left) × (result ≤ 25) }
 {
     if valid_day(y, 2, 29) {
-        return (left + 399) / 400;
+        rounded_up(400, left)
+    } else {
+        0
     }
-    0
 }
 
 // The leap years among the u years y, y + i, .., by their remainders by 400 as far as there are any.
@@ -33,14 +34,9 @@ fn leap_years(y: u32, i: u32, u: u32) -> u32
     requires { (y ≤ 20000) × (i ≤ 999) × (u ≤ 10000) }
     ensures { (result ≡ leaps y i u) × (result ≤ 10000) }
 {
-    let mut sum = 0u32;
-    let mut v = 0u32;
-    while v < 400 {
-        if u <= v {
-            return sum;
-        }
+    let mut sum = 0;
+    for v in 0..u.min(400) {
         sum += leap_turns(y + i * v, u - v);
-        v += 1;
     }
     sum
 }
@@ -52,12 +48,12 @@ fn turns_with(day: u32, i: u32, n: u32, u: u32) -> u32
 {
     let m = n % 12 + 1;
     if valid_day(COMMON, m, day) {
-        return u;
+        u
+    } else if valid_day(LEAP, m, day) {
+        leap_years(n / 12 + 1, i, u)
+    } else {
+        0
     }
-    if valid_day(LEAP, m, day) {
-        return leap_years(n / 12 + 1, i, u);
-    }
-    0
 }
 
 // Of the first turns from a month on those whose month has the day, by their remainders by 12 as far as there are any.
@@ -65,23 +61,11 @@ fn months_with(day: u32, i: u32, month: u32, turns: u32) -> u32
     requires { (1 ≤ day) × (i ≤ 999) × (month ≤ 120000) × (turns ≤ 120000) }
     ensures { result ≡ months_with day i month turns }
 {
-    let mut sum = 0u32;
-    let mut r = 0u32;
-    while r < 12 {
-        if turns <= r {
-            return sum;
-        }
-        sum += turns_with(day, i, month + i * r, (turns - r + 11) / 12);
-        r += 1;
+    let mut sum = 0;
+    for r in 0..turns.min(12) {
+        sum += turns_with(day, i, month + i * r, rounded_up(12, turns - r));
     }
     sum
-}
-
-// 1 where a test holds.
-fn one_if(test: bool) -> u32
-    ensures { (result ≡ one test) × (result ≤ 1) }
-{
-    if test { 1 } else { 0 }
 }
 
 // How many weekdays below w are of the set.
@@ -89,11 +73,9 @@ fn weekdays_below(bits: u32, start: u32, w: u32) -> u32
     requires { w ≤ 7 }
     ensures { (result ≡ count (weekdays_of bits start) w) × (result ≤ w) }
 {
-    let mut sum = 0u32;
-    let mut k = 0u32;
-    while k < w {
-        sum += one_if(has_weekday(bits, start, k));
-        k += 1;
+    let mut sum = 0;
+    for k in 0..w {
+        sum += u32::from(has_weekday(bits, start, k));
     }
     sum
 }
@@ -106,9 +88,10 @@ fn weekly_rank(c: Course, b: u32) -> u32
     let weeks = b / 7 - c.start / 7;
     let whole = weekdays_below(c.days, c.start, 7) * rounded_up(c.interval, weeks);
     if weeks % c.interval == 0 {
-        return whole + weekdays_below(c.days, c.start, b % 7);
+        whole + weekdays_below(c.days, c.start, b % 7)
+    } else {
+        whole
     }
-    whole
 }
 
 // Those from the start on.
@@ -133,8 +116,7 @@ pub(crate) fn count_before(c: Course, b: u32) -> u32
     requires { IsCourse c × (c.start ≤ b) × (b < days) }
     ensures { result ≡ count_before (repeat_in c) c.interval c.start b }
 {
-    let freq = c.freq;
-    match freq {
+    match c.freq {
         Freq::Daily => rounded_up(c.interval, b - c.start),
         Freq::Weekly => count_weekly(c, b),
         Freq::Monthly => count_monthly(c, b),

@@ -6,11 +6,11 @@ use mathlib.Core.Bool.{Bool}
 use mathlib.Core.List.{List, [], ◌∷◌, ◌++◌, append-nil, append_assoc}
 use lib.ListN.{length, take, drop}
 use lib.Seq.{sets, take-add, length-take-le}
+use Rattle.std.proofs.Common.{Option, None}
 use Rattle.digits.proofs.Stores.{sets-taken}
+use Rattle.calendar.specs.declared.moments.Moment.{Moment}
 use Rattle.text.specs.Lines.{rest_of}
 use Rattle.text.specs.Output.{passed_text, kept, piece_of, Held, last_text, output, in_pieces, joined}
-use Rattle.text.specs.declared.stream.Known.{Known}
-use Rattle.text.specs.declared.stream.Known.TheVariants.{Nothing}
 use Rattle.text.specs.declared.stream.Piece.{Piece}
 use Rattle.text.proofs.Pieces.{in_pieces_lem}
 use Rattle.console.specs.Turns.{ReadBehind, MoreTo, Reached, start, behind, Stands}
@@ -22,7 +22,7 @@ in_two {held} {n} {s₀} {s₁} read = take-add held n s₁ ∙ rw read.front
 
 -- the piece that was read is the one that was answered
 pub turned :
-    (k : Known) {held n : ℕ} {s₀ s₁ s₂ out out' : List ℕ} {r : Piece} →
+    (k : Option Moment) {held n : ℕ} {s₀ s₁ s₂ out out' : List ℕ} {r : Piece} →
     let s = take (held + n) s₁ in
     ReadBehind held n s₀ s₁ → length s₁ ≡ length s₀ → r ≡ piece_of k s → Held (held + n) r → s₂ ≡ sets s₁ 0 (kept (rest_of s))
     → out' ≡ sets out 0 (passed_text k s) → MoreTo k (take held s₀) r.known r.held s₂ out out'
@@ -40,16 +40,16 @@ turned k {held} {n} {s₀} {s₁} {s₂} {out} {out'} {r} read len told bounds k
     }
 
 -- the loop: what is reached, and buffers as long as before
-pub record Going (s₀ out₀ s out : List ℕ) (k : Known) (held : ℕ) : Type 0 where
+pub record Going (s₀ out₀ s out : List ℕ) (k : Option Moment) (held : ℕ) : Type 0 where
   pub reached : Reached k (take held s)
   pub few : held ≤ 257
   pub input : length s ≡ length s₀
   pub output : length out ≡ length out₀
 
-module _ {s₀ out₀ s out : List ℕ} {k : Known} {held : ℕ} (was : Going s₀ out₀ s out k held) {s' : List ℕ} where
+module _ {s₀ out₀ s out : List ℕ} {k : Option Moment} {held : ℕ} (was : Going s₀ out₀ s out k held) {s' : List ℕ} where
   -- one piece more
   pub going_on :
-      {out' : List ℕ} {k' : Known} {h : ℕ} → MoreTo k (take held s) k' h s' out out' → length s' ≡ length s → length out' ≡ length out
+      {out' : List ℕ} {k' : Option Moment} {h : ℕ} → MoreTo k (take held s) k' h s' out out' → length s' ≡ length s → length out' ≡ length out
       → Going s₀ out₀ s' out' k' h
   going_on m i o =
       record {
@@ -72,17 +72,17 @@ module _ {s₀ out₀ s out : List ℕ} {k : Known} {held : ℕ} (was : Going s�
 
 -- the loop leaves off where it is
 pub left_off :
-    {s₀ out₀ s out : List ℕ} {k : Known} {held : ℕ} → Going s₀ out₀ s out k held → (b : Bool) → 257 < length s₀
+    {s₀ out₀ s out : List ℕ} {k : Option Moment} {held : ℕ} → Going s₀ out₀ s out k held → (b : Bool) → 257 < length s₀
     → Stands (record { known = k; held = held; ended = b }) s
 left_off was b h = let few = was.few in let input = was.input in record { reached = was.reached; within = omega arith }
 
 -- what was reached: some pieces, and what was written for them
-pub record Behind (k : Known) (l : List ℕ) : Type 0 where
+pub record Behind (k : Option Moment) (l : List ℕ) : Type 0 where
   pub pieces : List (List ℕ)
   pub text : List ℕ
-  pub on : (ps : List (List ℕ)) → in_pieces Nothing [] (pieces ++ ps) ≡ text ++ in_pieces k l ps
+  pub on : (ps : List (List ℕ)) → in_pieces None [] (pieces ++ ps) ≡ text ++ in_pieces k l ps
 
-all_behind : {k : Known} {l : List ℕ} → Reached k l → Behind k l
+all_behind : {k : Option Moment} {l : List ℕ} → Reached k l → Behind k l
 all_behind start = record { pieces = []; text = []; on = λ ps. refl }
 all_behind (behind {k} {l} p r) =
     let was = all_behind r in
@@ -93,12 +93,12 @@ all_behind (behind {k} {l} p r) =
     }
 
 -- where the loop stands, the output of all that was read is what was written and the last line's answer, if any
-pub record Standing (k : Known) (l : List ℕ) : Type 0 where
+pub record Standing (k : Option Moment) (l : List ℕ) : Type 0 where
   pub input : List ℕ
   pub text : List ℕ
   pub whole : output input ≡ text ++ last_text k l
 
-pub stands : {k : Known} {l : List ℕ} → Reached k l → Standing k l
+pub stands : {k : Option Moment} {l : List ℕ} → Reached k l → Standing k l
 stands r =
     let b = all_behind r in
     record {

@@ -6,22 +6,23 @@ ghost use Rattle.std.proofs.lemmas.List.Edits.{sets};
 ghost use Rattle.text.specs.Output.{last_text};
 ghost use Rattle.console.specs.Turns.{ReadBehind, Turned, Stands};
 
+use calendar::moments::Moment;
 use std::io;
 use std::io::{Read, Write};
-use text::stream::{Known, answer_piece, write_last};
+use text::stream::{answer_piece, write_last};
 
 // A piece of the input, behind which this is known and that many bytes are kept: more may come, or writing failed; or the input has ended.
 #[derive(Clone, Copy)]
 pub enum Turn {
-    More { known: Known, held: usize },
-    Failed { known: Known, held: usize },
+    More { known: Option<Moment>, held: usize },
+    Failed { known: Option<Moment>, held: usize },
     Ended,
 }
 
 // Where the loop stands: what is known, how many bytes of a line that goes on are kept, and whether the input has ended.
 #[derive(Clone, Copy)]
 pub struct Stand {
-    pub known: Known,
+    pub known: Option<Moment>,
     pub held: usize,
     pub ended: bool,
 }
@@ -31,17 +32,14 @@ fn read_behind(input: &mut impl Read, s: &mut [u8], held: usize) -> usize
     requires { held < length s.old }
     ensures { ReadBehind held result s.old s.new }
 {
-    match input.read(&mut s[held..]) {
-        Ok(n) => n,
-        Err(_) => 0,
-    }
+    input.read(&mut s[held..]).unwrap_or(0)
 }
 
 // Reads the next piece of the input, and answers the lines that end in it.
 fn answer_next(
     input: &mut impl Read,
     output: &mut impl Write,
-    known: Known,
+    known: Option<Moment>,
     held: usize,
     s: &mut [u8],
     out: &mut [u8],
@@ -56,15 +54,14 @@ fn answer_next(
     let p = answer_piece(known, s, held + n, out);
     let known = p.known;
     let held = p.held;
-    let count = p.count;
-    if output.write_all(&out[..count]).is_ok() {
+    if output.write_all(&out[..p.count]).is_ok() {
         return Turn::More { known, held };
     }
     Turn::Failed { known, held }
 }
 
 // Answers the bytes behind the last line feed, if any.
-fn answer_last(output: &mut impl Write, known: Known, rest: &[u8], out: &mut [u8])
+fn answer_last(output: &mut impl Write, known: Option<Moment>, rest: &[u8], out: &mut [u8])
     requires { 53 ≤ length out.old }
     ensures { out.new ≡ sets out.old 0 (last_text known rest.now) }
 {
@@ -78,7 +75,7 @@ fn answer_all(input: &mut impl Read, output: &mut impl Write, s: &mut [u8], out:
     requires { (257 < length s.old) × (53 * length s.old ≤ length out.old) }
     ensures { Stands result s.new }
 {
-    let mut known = Known::Nothing;
+    let mut known = None;
     let mut held: usize = 0;
     for _ in 0..u64::MAX {
         match answer_next(input, output, known, held, s, out) {
@@ -117,8 +114,6 @@ pub fn run(rt: &(impl Input + Print)) {
     let mut out = [0u8; 65536];
     let stand = answer_all(&mut input, &mut output, &mut s, &mut out);
     if stand.ended {
-        let known = stand.known;
-        let held = stand.held;
-        answer_last(&mut output, known, &s[..held], &mut out);
+        answer_last(&mut output, stand.known, &s[..stand.held], &mut out);
     }
 }

@@ -2,41 +2,32 @@
 use mathlib.Core.Path.{◌≡◌, refl, sym, ◌∙◌}
 use mathlib.Core.Bool.{Bool, true, false, cond, ◌||◌}
 use mathlib.Core.List.{List}
+use Rattle.std.specs.Prelude.{Option, Some, None, Result, Ok, Err}
 use Prim.Native.Nat.{ℕ, ◌+◌, ◌*◌, ◌≤◌, ◌<◌}
 use native.Mathlib.Omega.{arith}
 use lib.Dec.{ltb}
 use lib.ListN.{length, drop, length-drop}
 use lib.Seq.{get_or-drop, drop-drop}
 use borrow.Author.Tests.{ltb-true, ltb-false, lt-ltb, le-ltb}
-use types.Run.{OneOf}
-use denote.Enum.Declared.{tag_of}
 use Rattle.lexer.specs.Lexemes as lexeme
 use Rattle.lexer.specs.declared.reading.Reading.{Reading}
+use Rattle.numbers.specs.declared.Overflow.{Overflow}
+use Rattle.numbers.specs.Answers.{overflow as large}
 use Rattle.numbers.specs.Slices.{is_at}
 use Rattle.numbers.proofs.Again.{again_is, again_keeps}
 use Rattle.numbers.proofs.LexemeAt.{at_most, there}
-use Rattle.dates.specs.Parsed.{Parsed, is, nothing, overflow, pick, if_let, and_then, Took}
+use Rattle.dates.specs.Parsed.{Parsed, is, nothing, overflow, pick, if_let, and_then, parsed, Took}
 use Rattle.dates.specs.Units.{is_article}
 use Rattle.dates.specs.declared.duration.Part.{Part}
-use Rattle.dates.specs.declared.duration.PartFound.{PartFound}
-use Rattle.dates.specs.declared.duration.PartFound.TheVariants.{Is as IsPart, Nothing as NoPart, Overflow as PartOverflow}
 use Rattle.dates.specs.declared.duration.Parts.{Parts}
-use Rattle.dates.specs.declared.duration.Taken.{Taken}
-use Rattle.dates.specs.declared.duration.Taken.TheVariants.{Is, Nothing, Overflow}
+use Rattle.dates.specs.declared.duration.Span.{Span}
 use Rattle.dates.specs.declared.duration.Rowed.{Rowed}
 use Rattle.dates.specs.Durations.{Duration, part, concat, is_sub_daily, is_sub_daily_part, taken_answer, TakenCounted}
-use Rattle.dates.specs.Durations.{specific_of, article_of, concrete_of, parsed_part}
+use Rattle.dates.specs.Durations.{specific_of, article_of, concrete_of}
 use Rattle.dates.specs.Durations.{duration_turn, duration_of, pushed, into, size, rowed}
-use Rattle.dates.specs.contracts.duration.PartFound.{the_type as part_type}
 use Rattle.dates.proofs.Each.{Each, pick_each, then_each, if_let_each}
-use Rattle.dates.proofs.Parsed.{Arm, found, nothing_took, pick_took, or-took, then_took}
+use Rattle.dates.proofs.Parsed.{found, nothing_took, pick_took, or-took, then_took}
 use Rattle.dates.proofs.LexemesTaken.{num_took, unit_took, tested_article}
-
--- the arm of a part's answer
-pub part_arm : {ks : List ℕ} (w : PartFound) → OneOf ks (tag_of part_type w) → Arm ks (parsed_part w)
-part_arm (IsPart p t) k = record { tags = k }
-part_arm NoPart k = record { tags = k }
-part_arm PartOverflow k = record { tags = k }
 
 module _ {A B : Type 0} where
   -- what follows a reading is the same where it is the same within the reading's bounds
@@ -112,24 +103,24 @@ taken_counted nothing n h = record { bounds = omega arith }
 taken_counted overflow n h = record { bounds = omega arith }
 
 -- the lexemes of a duration, once the answer is known
-pub taken_found : {r : Taken} {t n : ℕ} {b : Bool} → r ≡ Is t b → TakenCounted r n → (2 ≤ t) × (t ≤ n)
+pub taken_found : {r : Result (Option Span) Overflow} {s : Span} {n : ℕ} → r ≡ Ok (Some s) → TakenCounted r n → (2 ≤ s.taken) × (s.taken ≤ n)
 taken_found e h = (rw e at h).bounds
 
 -- what `read_duration` promises
-pub taken_promised : (reading : Reading) {r : Taken} (l : List ℕ) → r ≡ taken_answer (duration_of reading l)
+pub taken_promised : (reading : Reading) {r : Result (Option Span) Overflow} (l : List ℕ) → r ≡ taken_answer (duration_of reading l)
     → (r ≡ taken_answer (duration_of reading l)) × TakenCounted r (length l)
 taken_promised reading l e = (e, rw e (taken_counted (duration_of reading l) (length l) (duration_sized reading l)))
 
 -- the duration of which an answer says the lexemes taken
-pub record TakenRead (w : Parsed Duration) (t : ℕ) (b : Bool) : Type 0 where
+pub record TakenRead (w : Parsed Duration) (s : Span) : Type 0 where
   pub duration : Duration
-  pub reading : w ≡ is duration t
-  pub sub-daily : is_sub_daily duration ≡ b
+  pub reading : w ≡ is duration s.taken
+  pub sub-daily : is_sub_daily duration ≡ s.sub_daily
 
-abbrev TakenSays : Taken → Parsed Duration → Type 0
-TakenSays (Is t b) w = TakenRead w t b
-TakenSays Nothing w = w ≡ nothing
-TakenSays Overflow w = w ≡ overflow
+abbrev TakenSays : Result (Option Span) Overflow → Parsed Duration → Type 0
+TakenSays (Ok (Some s)) w = TakenRead w s
+TakenSays (Ok None) w = w ≡ nothing
+TakenSays (Err e) w = w ≡ overflow
 
 taken_answer_says : (w : Parsed Duration) → TakenSays (taken_answer w) w
 taken_answer_says (is d t) = record { duration = d; reading = refl; sub-daily = refl }
@@ -137,17 +128,17 @@ taken_answer_says nothing = refl
 taken_answer_says overflow = refl
 
 -- what a caller learns of the reading w from the answer that it took apart
-module _ {r : Taken} (w : Parsed Duration) (answer : r ≡ taken_answer w) where
+module _ {r : Result (Option Span) Overflow} (w : Parsed Duration) (answer : r ≡ taken_answer w) where
   taken_says : TakenSays r w
   taken_says = rw answer (taken_answer_says w)
 
-  pub taken_read : {t : ℕ} {b : Bool} → r ≡ Is t b → TakenRead w t b
+  pub taken_read : {s : Span} → r ≡ Ok (Some s) → TakenRead w s
   taken_read e = rw e at taken_says
 
-  pub taken_none : r ≡ Nothing → w ≡ nothing
+  pub taken_none : r ≡ Ok None → w ≡ nothing
   taken_none e = rw e at taken_says
 
-  pub taken_overflow : r ≡ Overflow → w ≡ overflow
+  pub taken_overflow : {o : Overflow} → r ≡ Err o → w ≡ overflow
   taken_overflow e = rw e at taken_says
 
 -- what a test finds behind the place a
@@ -205,21 +196,22 @@ module _ {A R : Type 0} (k : Passing A R) (reading : Reading) where
   pub record Joined (r : R) (l : List ℕ) (e : ℕ) (a : A) : Type 0 where
     pub same : r ≡ joined l e a
 
-  -- what the code's answer for the part at the place at says
-  abbrev Said : R → List ℕ → ℕ → A → R → PartFound → Type 0
-  Said r l at a none (IsPart p t) = Joined r l (at + t) (k.add a p)
-  Said r l at a none NoPart = r ≡ none
-  Said r l at a none PartOverflow = r ≡ k.over
+  -- the code's answer w for the part at the place at: a part, none, or an overflow
+  module _ {r none : R} {l m : List ℕ} {at : ℕ} {a : A} {w : Result (Option (Part × ℕ)) Overflow}
+      (g : Looking r l at a none) (here : m ≡ drop at l) (answer : parsed w ≡ concrete_of reading m) where
+    answered : {z : Result (Option (Part × ℕ)) Overflow} → w ≡ z → concrete_of reading (drop at l) ≡ parsed z
+    answered e = rw (← here, ← answer, e)
 
-  pub part_learnt : {r none : R} {l m : List ℕ} {at : ℕ} {a : A} {w z : PartFound} → Looking r l at a none →
-      m ≡ drop at l → parsed_part w ≡ concrete_of reading m → w ≡ z → Said r l at a none z
-  unfolding duration_turn
-  part_learnt {r} {none} {l} {m} {at} {a} {w} {z} g here answer e = go z (rw (← here, ← answer, e))
-    where
-      go : (z : PartFound) → concrete_of reading (drop at l) ≡ parsed_part z → Said r l at a none z
-      go (IsPart p t) f = record { same = g.same ∙ part_passed l at a none f }
-      go NoPart f = g.same ∙ rw (duration_is reading (drop at l), f)
-      go PartOverflow f = g.same ∙ rw (duration_is reading (drop at l), f)
+    pub part_there : {p : Part} {t e : ℕ} {b : A} → w ≡ Ok (Some (p, t)) → at + t ≡ e → k.add a p ≡ b → Joined r l e b
+    part_there found_part ends adds = rw (← ends, ← adds) (record { same = g.same ∙ part_passed l at a none (answered found_part) })
+
+    pub part_none : w ≡ Ok None → r ≡ none
+    unfolding duration_turn
+    part_none found_none = g.same ∙ rw (duration_is reading (drop at l), answered found_none)
+
+    pub part_over : {o : Overflow} → w ≡ Err o → r ≡ k.over
+    unfolding duration_turn
+    part_over found_over = g.same ∙ rw (duration_is reading (drop at l), answered found_over)
 
   -- an "and" behind it, or none
   module _ {r : R} {l : List ℕ} {e : ℕ} {a : A} {b : Bool} (g : Joined r l e a) (test : b ≡ is_at l e lexeme.And) where
@@ -237,15 +229,15 @@ or_assoc true b c = refl
 or_assoc false b c = refl
 
 -- `read_duration` keeps whether there were hours or minutes
-abbrev pub sub_daily_kept : Passing Bool Taken
+abbrev pub sub_daily_kept : Passing Bool (Result (Option Span) Overflow)
 sub_daily_kept =
     record {
       add = λ b p. b || is_sub_daily_part p;
       all = λ d b. b || is_sub_daily d;
       one = λ p b. refl;
       more = λ p d b. or_assoc b (is_sub_daily_part p) (is_sub_daily d);
-      ends = λ b e. Is e b;
-      over = Overflow;
+      ends = λ b e. Ok (Some (record { taken = e; sub_daily = b }));
+      over = Err large;
     }
 
 -- `with_parts` keeps the row
@@ -261,10 +253,10 @@ row_kept ps =
     }
 
 -- from the front on
-pub taken_looking : (reading : Reading) (l : List ℕ) → Looking sub_daily_kept reading (taken_answer (duration_of reading l)) l 0 false Nothing
+pub taken_looking : (reading : Reading) (l : List ℕ) → Looking sub_daily_kept reading (taken_answer (duration_of reading l)) l 0 false (Ok None)
 taken_looking reading l = record { same = go (duration_of reading l); within = omega arith }
   where
-    go : (w : Parsed Duration) → taken_answer w ≡ onward sub_daily_kept w 0 false Nothing
+    go : (w : Parsed Duration) → taken_answer w ≡ onward sub_daily_kept w 0 false (Ok None)
     go (is d t) = let e : 0 + t ≡ t = omega arith in rw e
     go nothing = refl
     go overflow = refl

@@ -1,69 +1,15 @@
--- Laws of what a reader gives: how bounds pass through the combinators, and what an arm says of the answer that it took apart.
+-- Laws of what a reader gives: how bounds pass through the combinators.
 use mathlib.Core.Path.{◌≡◌, refl}
 use mathlib.Core.Bool.{Bool, true, false}
-use mathlib.Core.List.{List, [], ◌∷◌}
+use Rattle.std.specs.Prelude.{Some, None, Ok, Err}
 use Prim.Native.Nat.{ℕ, ◌≤◌, ◌<◌}
 use native.Mathlib.Omega.{arith}
-use types.Run.{OneOf}
-use denote.Enum.Declared.{tag_of}
-use borrow.Author.Tests.{eqb-false}
 use Rattle.lexer.specs.declared.reading.Reading.{Reading}
-use Rattle.numbers.specs.contracts.NumberFound.{the_type as number-type}
-use Rattle.numbers.proofs.NumberAnswers.{neither}
-use Rattle.numbers.specs.declared.NumberFound.{NumberFound}
-use Rattle.numbers.specs.declared.NumberFound.TheVariants.{Is, Nothing, Overflow}
-use Rattle.numbers.specs.Answers.{Read}
-use Rattle.dates.specs.Parsed.{Parsed, is, nothing, overflow, pick, or_else, if_let, and_then, stopped, parsed_number, Took}
-use Rattle.dates.specs.contracts.date.DateFound.{the_type as date-type}
-use Rattle.dates.specs.declared.date.DateFound.{DateFound}
-use Rattle.dates.specs.declared.date.DateFound.TheVariants.{Is as IsDate, Nothing as NoDate, Overflow as DateOverflow}
-use Rattle.dates.specs.Dates.{is_year_in, year_of, parsed_date}
-
--- the variants of every answer are numbered so
-abbrev pub tag : {A : Type 0} → Parsed A → ℕ
-tag (is v t) = 0
-tag nothing = 1
-tag overflow = 2
-
--- which arms of a `let .. else` or a `match` an answer may have come by
-pub record Arm {A : Type 0} (ks : List ℕ) (p : Parsed A) : Type 0 where
-  pub tags : OneOf ks (tag p)
-
-module _ {ks : List ℕ} where
-  -- the arm of a number reader's answer
-  pub number_arm : (w : NumberFound) → OneOf ks (tag_of number-type w) → Arm ks (parsed_number w)
-  number_arm (Is a) k = record { tags = k }
-  number_arm Nothing k = record { tags = k }
-  number_arm Overflow k = record { tags = k }
-
-  -- of a date's answer
-  pub date_arm : (w : DateFound) → OneOf ks (tag_of date-type w) → Arm ks (parsed_date w)
-  date_arm (IsDate d t) k = record { tags = k }
-  date_arm NoDate k = record { tags = k }
-  date_arm DateOverflow k = record { tags = k }
+use Rattle.numbers.specs.Answers.{NumberFound, Read}
+use Rattle.dates.specs.Parsed.{Parsed, is, nothing, overflow, pick, or_else, if_let, and_then, parsed_number, Took}
+use Rattle.dates.specs.Dates.{is_year_in, year_of}
 
 module _ {A : Type 0} where
-  -- not nothing: the first alternative stays
-  pub kept : (p b : Parsed A) → Arm (0 ∷ 2 ∷ []) p → p ≡ or_else p b
-  kept (is v t) b k = refl
-  kept nothing b k = neither 1 0 2 (eqb-false 1 0 refl) (eqb-false 1 2 refl) k.tags
-  kept overflow b k = refl
-
-  -- not found: what would follow is not read
-  pub unread : {B : Type 0} (p : Parsed A) (f : A → ℕ → Parsed B) {r : Parsed B} → Arm (1 ∷ 2 ∷ []) p → r ≡ stopped p → r ≡ and_then p f
-  unread (is v t) f k e = neither 0 1 2 (eqb-false 0 1 refl) (eqb-false 0 2 refl) k.tags
-  unread nothing f k e = e
-  unread overflow f k e = e
-
-  dropped' : {B : Type 0} (p : Parsed A) → Arm (0 ∷ 1 ∷ []) p → stopped {B = B} p ≡ nothing
-  dropped' (is v t) k = refl
-  dropped' nothing k = refl
-  dropped' overflow k = neither 2 0 1 (eqb-false 2 0 refl) (eqb-false 2 1 refl) k.tags
-
-  -- no overflow: where it stops, nothing is left to say
-  pub dropped : {B : Type 0} {p : Parsed A} → Arm (0 ∷ 1 ∷ []) p → stopped {B = B} p ≡ nothing
-  dropped {B} {p} k = dropped' p k
-
   -- the lexemes taken, once the answer is known
   pub found : {p : Parsed A} {v : A} {t k n : ℕ} → p ≡ is v t → Took p k n → (k ≤ t) × (t ≤ n)
   found e h = (rw e at h).bounds
@@ -107,9 +53,9 @@ module _ {A : Type 0} where
 
 -- the bounds of a number reader
 pub number_took : (w : NumberFound) {k n : ℕ} → Read w k n → Took (parsed_number w) k n
-number_took (Is a) h = record { bounds = let b = h.bounds in omega arith }
-number_took Nothing h = nothing_took
-number_took Overflow h = record { bounds = tt }
+number_took (Ok (Some a)) h = record { bounds = let b = h.bounds in omega arith }
+number_took (Ok None) h = nothing_took
+number_took (Err o) h = record { bounds = tt }
 
 pick_keeps : (P : Parsed ℕ → Type 0) (b : Bool) {x y : Parsed ℕ} → P x → P y → P (pick b x y)
 pick_keeps P true g h = g
@@ -117,6 +63,6 @@ pick_keeps P false g h = h
 
 -- what holds of a number and of nothing holds of a year
 pub year_keeps : (P : Parsed ℕ → Type 0) → P nothing → (reading : Reading) (w : NumberFound) → P (parsed_number w) → P (year_of reading w)
-year_keeps P z reading (Is a) h = pick_keeps P (is_year_in reading a) h z
-year_keeps P z reading Nothing h = h
-year_keeps P z reading Overflow h = h
+year_keeps P z reading (Ok (Some a)) h = pick_keeps P (is_year_in reading a) h z
+year_keeps P z reading (Ok None) h = h
+year_keeps P z reading (Err o) h = h

@@ -2,6 +2,7 @@
 use mathlib.Core.Path.{refl}
 use mathlib.Core.Bool.{Bool, true, false}
 use mathlib.Core.List.{List}
+use Rattle.std.specs.Prelude.{Some, None, Ok, Err}
 use Prim.Native.Nat.{ℕ, ◌+◌, ◌<◌, ◌≤◌}
 use native.Mathlib.Omega.{arith}
 use lib.Dec.{eqb, leb, ltb}
@@ -10,9 +11,7 @@ use Rattle.lexer.specs.Lexemes as lexeme
 use Rattle.lexer.specs.declared.reading.Reading.{Reading}
 use Rattle.numbers.specs.Slices.{get, is_at, within}
 use Rattle.numbers.specs.Numbers.{num_of}
-use Rattle.numbers.specs.Answers.{Read}
-use Rattle.numbers.specs.declared.NumberFound.{NumberFound}
-use Rattle.numbers.specs.declared.NumberFound.TheVariants as number
+use Rattle.numbers.specs.Answers.{NumberFound, Read}
 use Rattle.numbers.proofs.Again.{again_keeps}
 use Rattle.numbers.proofs.NumberBounds.{num_read}
 use Rattle.numbers.proofs.LexemeAt.{within_bounds}
@@ -67,9 +66,9 @@ SmallDuration (part p) = SmallPart p
 SmallDuration (concat p d) = SmallPart p × SmallDuration d
 
 small_number : (w : NumberFound) (k n : ℕ) → Read w k n → Gives Small (parsed_number w)
-small_number (number.Is a) k n h = is_gives (let b = h.bounds in omega arith)
-small_number number.Nothing k n h = nothing_gives
-small_number number.Overflow k n h = record { bounds = tt }
+small_number (Ok (Some a)) k n h = is_gives (let b = h.bounds in omega arith)
+small_number (Ok None) k n h = nothing_gives
+small_number (Err e) k n h = record { bounds = tt }
 
 -- a number
 num_small : (reading : Reading) (l : List ℕ) → Gives Small (parsed_number (num_of reading l))

@@ -1,19 +1,16 @@
 -- `Date::parse`, alternatives in the text's order, under either reading: the first is the Rust's.
-use Rattle.std.specs.Prelude.{ℕ, ◌+◌, Bool, true, false, ◌||◌, List, eqb, leb, ltb, length, drop}
+use Rattle.std.specs.Prelude.{ℕ, ◌+◌, Bool, true, false, ◌||◌, Some, None, Ok, Err, List, eqb, leb, ltb, length, drop}
 use Rattle.lexer.specs.Lexemes as lexeme
 use Rattle.lexer.specs.declared.reading.Reading.{Reading}
 use Rattle.lexer.specs.declared.reading.Reading.TheVariants.{First, Second}
 use Rattle.numbers.specs.declared.Number.{Number}
-use Rattle.numbers.specs.declared.NumberFound.{NumberFound}
-use Rattle.numbers.specs.declared.NumberFound.TheVariants.{Is as IsNumber, Nothing as NoNumber, Overflow as LargeNumber}
+use Rattle.numbers.specs.Answers.{NumberFound}
 use Rattle.numbers.specs.Slices.{get, is_at, one_if}
 use Rattle.numbers.specs.Numbers.{num_of}
 use Rattle.dates.specs.Parsed.{Parsed, is, nothing, overflow, pick, or_else, if_let, and_then, parsed_number}
 use Rattle.dates.specs.Units.{month_of}
 use Rattle.dates.specs.declared.date.Date.{Date}
 use Rattle.dates.specs.declared.date.Date.TheVariants.{YearMonthNumDay, MonthNumDayYear, DayMonthYear, MonthDayYear, MonthNumDay, MonthDay, Today, Tomorrow, Yesterday}
-use Rattle.dates.specs.declared.date.DateFound.{DateFound}
-use Rattle.dates.specs.declared.date.DateFound.TheVariants.{Is, Nothing, Overflow}
 
 -- today, tomorrow, yesterday
 unfoldable pub named_day_of : List ℕ → Parsed Date
@@ -38,9 +35,9 @@ is_year_in Second n = eqb n.digits 4
 
 -- a number behind month and day as their year; any other is left to what follows
 abbrev pub year_of : Reading → NumberFound → Parsed ℕ
-year_of reading (IsNumber n) = pick (is_year_in reading n) (is n.value n.taken) nothing
-year_of reading NoNumber = nothing
-year_of reading LargeNumber = overflow
+year_of reading (Ok (Some n)) = pick (is_year_in reading n) (is n.value n.taken) nothing
+year_of reading (Ok None) = nothing
+year_of reading (Err e) = overflow
 
 -- 1 for a comma at t, behind which the second reading looks for a year, and else 0
 abbrev pub comma_in : Reading → List ℕ → ℕ → ℕ
@@ -100,9 +97,3 @@ date_of reading l =
     (or_else (day_month_year_of reading l)
     (if_let (month_of l) (λ month t. month_day_of reading month l)
     (delimited_of reading l)))
-
--- the code's answer
-abbrev pub parsed_date : DateFound → Parsed Date
-parsed_date (Is d t) = is d t
-parsed_date Nothing = nothing
-parsed_date Overflow = overflow

@@ -1,7 +1,9 @@
 -- `enum Duration` and its parsers. The code keeps a duration as the row of its parts.
-use Rattle.std.specs.Prelude.{ℕ, suc, ◌+◌, ◌≤◌, Bool, true, false, ◌||◌, List, drop, set}
+use Rattle.std.specs.Prelude.{ℕ, suc, ◌+◌, ◌≤◌, Bool, true, false, ◌||◌, Option, Some, None, Result, Ok, Err, List, drop, set}
 use Rattle.lexer.specs.Lexemes as lexeme
 use Rattle.lexer.specs.declared.reading.Reading.{Reading}
+use Rattle.numbers.specs.declared.Overflow.{Overflow}
+use Rattle.numbers.specs.Answers.{overflow as large}
 use Rattle.numbers.specs.Again.{again}
 use Rattle.numbers.specs.Slices.{is_at}
 use Rattle.numbers.specs.Numbers.{num_of}
@@ -11,11 +13,8 @@ use Rattle.dates.specs.declared.units.Unit.{Unit}
 use Rattle.dates.specs.declared.units.Unit.TheVariants.{Day, Week, Hour, Minute, Month, Year}
 use Rattle.dates.specs.declared.duration.Part.{Part}
 use Rattle.dates.specs.declared.duration.Part.TheVariants.{Article, Specific}
-use Rattle.dates.specs.declared.duration.PartFound.{PartFound}
-use Rattle.dates.specs.declared.duration.PartFound.TheVariants.{Is as IsPart, Nothing as NoPart, Overflow as PartOverflow}
 use Rattle.dates.specs.declared.duration.Parts.{Parts}
-use Rattle.dates.specs.declared.duration.Taken.{Taken}
-use Rattle.dates.specs.declared.duration.Taken.TheVariants.{Is, Nothing, Overflow}
+use Rattle.dates.specs.declared.duration.Span.{Span}
 use Rattle.dates.specs.declared.duration.Rowed.{Rowed}
 
 -- `enum Duration`: `Article` and `Specific` are parts, and the first of a `Concat` is always one, since `parse_concrete` reads it
@@ -66,12 +65,6 @@ duration_turn reading D l =
 unfoldable pub duration_of : Reading → List ℕ → Parsed Duration
 duration_of reading l = again nothing (duration_turn reading) l
 
--- the code's answer for one part
-abbrev pub parsed_part : PartFound → Parsed Part
-parsed_part (IsPart p t) = is p t
-parsed_part NoPart = nothing
-parsed_part PartOverflow = overflow
-
 -- one part more in a row of parts
 abbrev pub pushed : Parts → Part → Parts
 pushed ps p = record { n = ps.n + 1; items = set ps.items ps.n (record { part = p }) }
@@ -87,19 +80,19 @@ size (part p) = 1
 size (concat p d) = suc (size d)
 
 -- the code's answer without the parts: the lexemes taken, and whether the duration is sub-daily
-abbrev pub taken_answer : Parsed Duration → Taken
-taken_answer (is d t) = Is t (is_sub_daily d)
-taken_answer nothing = Nothing
-taken_answer overflow = Overflow
+abbrev pub taken_answer : Parsed Duration → Result (Option Span) Overflow
+taken_answer (is d t) = Ok (Some (record { taken = t; sub_daily = is_sub_daily d }))
+taken_answer nothing = Ok None
+taken_answer overflow = Err large
 
 -- the bounds of `TakenCounted`
-abbrev pub TakenBounds : Taken → ℕ → Type 0
-TakenBounds (Is t b) n = (2 ≤ t) × (t ≤ n)
-TakenBounds Nothing n = 0 ≤ n
-TakenBounds Overflow n = 0 ≤ n
+abbrev pub TakenBounds : Result (Option Span) Overflow → ℕ → Type 0
+TakenBounds (Ok (Some s)) n = (2 ≤ s.taken) × (s.taken ≤ n)
+TakenBounds (Ok None) n = 0 ≤ n
+TakenBounds (Err e) n = 0 ≤ n
 
 -- at least two and at most n lexemes
-pub record TakenCounted (r : Taken) (n : ℕ) : Type 0 where
+pub record TakenCounted (r : Result (Option Span) Overflow) (n : ℕ) : Type 0 where
   pub bounds : TakenBounds r n
 
 -- the code's answer with the parts: a row with those of the duration, and where that ends; with none, the row

@@ -1,8 +1,8 @@
 -- What a reader gives: `Some((value, taken))`, `None`, or refusal 6, "a sum or product in a number passes 4,294,967,295", which stops
 -- the reading at once.
-use Rattle.std.specs.Prelude.{ℕ, ◌≤◌, Bool, true, false}
-use Rattle.numbers.specs.declared.NumberFound.{NumberFound}
-use Rattle.numbers.specs.declared.NumberFound.TheVariants.{Is, Nothing, Overflow}
+use Rattle.std.specs.Prelude.{ℕ, ◌≤◌, Bool, true, false, Option, Some, None, Result, Ok, Err}
+use Rattle.numbers.specs.declared.Overflow.{Overflow}
+use Rattle.numbers.specs.Answers.{NumberFound}
 
 -- found, nothing or overflow, which `read_codes` of phrase gives the number 6
 pub data Parsed (A : Type 0) : Type 0 where
@@ -33,17 +33,27 @@ and_then (is v t) k = k v t
 and_then nothing k = nothing
 and_then overflow k = overflow
 
--- what is left to say where a reader does not find: nothing, or the overflow
-abbrev pub stopped : {A B : Type 0} → Parsed A → Parsed B
-stopped (is v t) = nothing
-stopped nothing = nothing
-stopped overflow = overflow
-
 -- a number reader's answer
 abbrev pub parsed_number : NumberFound → Parsed ℕ
-parsed_number (Is a) = is a.value a.taken
-parsed_number Nothing = nothing
-parsed_number Overflow = overflow
+parsed_number (Ok (Some a)) = is a.value a.taken
+parsed_number (Ok None) = nothing
+parsed_number (Err e) = overflow
+
+-- the code's answer: a value and the lexemes taken
+abbrev pub parsed : {A : Type 0} → Result (Option (A × ℕ)) Overflow → Parsed A
+parsed (Ok (Some (v, t))) = is v t
+parsed (Ok None) = nothing
+parsed (Err e) = overflow
+
+-- the code's answer where there is always a value
+abbrev pub parsed_found : {A : Type 0} → Result (A × ℕ) Overflow → Parsed A
+parsed_found (Ok (v, t)) = is v t
+parsed_found (Err e) = overflow
+
+-- the code's answer for one lexeme
+abbrev pub parsed_one : {A : Type 0} → Option A → Parsed A
+parsed_one (Some v) = is v 1
+parsed_one None = nothing
 
 abbrev Bounds : {A : Type 0} → Parsed A → ℕ → ℕ → Type 0
 Bounds (is v t) k n = (k ≤ t) × (t ≤ n)

@@ -4,13 +4,9 @@ use Rattle.lexer.specs.Lexemes as lexeme
 use Rattle.lexer.specs.declared.reading.Reading.{Reading}
 use Rattle.numbers.specs.Slices.{is_at}
 use Rattle.numbers.specs.Numbers.{num_of}
-use Rattle.dates.specs.Parsed.{Parsed, is, nothing, overflow, pick, if_let, and_then, parsed_number}
+use Rattle.dates.specs.Parsed.{Parsed, is, pick, if_let, and_then, parsed_number}
 use Rattle.dates.specs.declared.time.Time.{Time}
 use Rattle.dates.specs.declared.time.Time.TheVariants.{HourMin, HourMinAM, HourMinPM}
-use Rattle.dates.specs.declared.time.MinuteFound.{MinuteFound}
-use Rattle.dates.specs.declared.time.MinuteFound.TheVariants.{Is as IsMinute, Overflow as MinuteOverflow}
-use Rattle.dates.specs.declared.time.TimeFound.{TimeFound}
-use Rattle.dates.specs.declared.time.TimeFound.TheVariants.{Is, Nothing, Overflow}
 
 -- [: [<num>]]: the minute, 0 where it is not said; a colon is taken also with no number behind it
 unfoldable pub minute_of : Reading → List ℕ → Parsed ℕ
@@ -38,14 +34,3 @@ time_of reading l =
     pick (is_at l 0 lexeme.Midnight) (is (HourMin 0 0) 1)
     (pick (is_at l 0 lexeme.Noon) (is (HourMin 12 0) 1)
     (clock_of reading l))
-
--- the code's answer for the minute
-abbrev pub parsed_minute : MinuteFound → Parsed ℕ
-parsed_minute (IsMinute n t) = is n t
-parsed_minute MinuteOverflow = overflow
-
--- the code's answer
-abbrev pub parsed_time : TimeFound → Parsed Time
-parsed_time (Is time t) = is time t
-parsed_time Nothing = nothing
-parsed_time Overflow = overflow

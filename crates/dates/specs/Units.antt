@@ -5,16 +5,8 @@ use Rattle.numbers.specs.Slices.{get, within}
 use Rattle.dates.specs.Parsed.{Parsed, is, nothing, pick}
 use Rattle.dates.specs.declared.units.Unit.{Unit}
 use Rattle.dates.specs.declared.units.Unit.TheVariants.{Day, Week, Hour, Minute, Month, Year}
-use Rattle.dates.specs.declared.units.UnitFound.{UnitFound}
-use Rattle.dates.specs.declared.units.UnitFound.TheVariants.{Is as IsUnit, Nothing as NoUnit}
-use Rattle.dates.specs.declared.units.MonthFound.{MonthFound}
-use Rattle.dates.specs.declared.units.MonthFound.TheVariants.{Is as IsMonth, Nothing as NoMonth}
-use Rattle.dates.specs.declared.units.WeekdayFound.{WeekdayFound}
-use Rattle.dates.specs.declared.units.WeekdayFound.TheVariants.{Is as IsWeekday, Nothing as NoWeekday}
 use Rattle.dates.specs.declared.units.RelativeSpecifier.{RelativeSpecifier}
 use Rattle.dates.specs.declared.units.RelativeSpecifier.TheVariants.{This, Next, Last}
-use Rattle.dates.specs.declared.units.SpecifierFound.{SpecifierFound}
-use Rattle.dates.specs.declared.units.SpecifierFound.TheVariants.{Is as IsSpecifier, Nothing as NoSpecifier}
 
 -- `Article::parse`: whether there is one. Which of the three it is is never looked at
 unfoldable pub is_article : List ℕ → Bool
@@ -46,23 +38,3 @@ relative_specifier_of l =
     (pick (eqb (get l 0) lexeme.Next) (is Next 1)
     (pick (eqb (get l 0) lexeme.Last) (is Last 1)
     nothing))
-
--- the code's answer for a unit
-abbrev pub parsed_unit : UnitFound → Parsed Unit
-parsed_unit (IsUnit u) = is u 1
-parsed_unit NoUnit = nothing
-
--- the code's answer for a month
-abbrev pub parsed_month : MonthFound → Parsed ℕ
-parsed_month (IsMonth n) = is n 1
-parsed_month NoMonth = nothing
-
--- the code's answer for a weekday
-abbrev pub parsed_weekday : WeekdayFound → Parsed ℕ
-parsed_weekday (IsWeekday n) = is n 1
-parsed_weekday NoWeekday = nothing
-
--- the code's answer for a relative specifier
-abbrev pub parsed_specifier : SpecifierFound → Parsed RelativeSpecifier
-parsed_specifier (IsSpecifier s) = is s 1
-parsed_specifier NoSpecifier = nothing

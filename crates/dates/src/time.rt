@@ -1,12 +1,12 @@
 // The readers of a time of day.
 ghost use Rattle.std.specs.Prelude.{◌≡◌, length};
-ghost use Rattle.dates.specs.Parsed.{Took, stopped, parsed_number};
-ghost use Rattle.dates.specs.Times.{minute_of, half_of, clock_of, time_of, parsed_minute, parsed_time};
+ghost use Rattle.dates.specs.Parsed.{is, parsed, parsed_found, Took};
+ghost use Rattle.dates.specs.Times.{minute_of, half_of, clock_of, time_of};
 
 use lexer::lexeme::{AM, COLON, MIDNIGHT, NOON, PM};
 use lexer::reading::Reading;
 use numbers::slices::{is_at, rest};
-use numbers::{NumberFound, num};
+use numbers::{Found, Overflow, num};
 
 // `enum Time`
 #[derive(Clone, Copy)]
@@ -17,92 +17,61 @@ pub enum Time {
     Empty,
 }
 
-// A time of day and the lexemes taken; `Overflow` is refusal 6.
-#[derive(Clone, Copy)]
-pub enum TimeFound {
-    Is(Time, usize),
-    Nothing,
-    Overflow,
-}
-
-// A minute and the lexemes taken; `Overflow` is refusal 6.
-#[derive(Clone, Copy)]
-enum MinuteFound {
-    Is(u32, usize),
-    Overflow,
-}
-
-// Where no number is found: nothing, or the overflow.
-fn time_stopped(a: NumberFound) -> TimeFound
-    ensures { parsed_time result ≡ stopped (parsed_number a) }
+// [: [<num>]]: the minute, 0 where it is not said, and the lexemes taken; a colon is taken also with no number behind it.
+#[tactic(auto, using(crate::proofs::LexemesTaken::minute_took), unfolding(crate::specs::Times::minute_of))]
+fn read_minute(reading: Reading, l: &[u64]) -> Result<(u32, usize), Overflow>
+    ensures result_value { parsed_found result ≡ minute_of reading l.now }
+    ensures took { Took (parsed_found result) 0 (length l.now) }
 {
-    let NumberFound::Overflow = a else {
-        return TimeFound::Nothing;
-    };
-    TimeFound::Overflow
-}
-
-// [: [<num>]]: the minute, 0 where it is not said; a colon is taken also with no number behind it.
-fn read_minute(reading: Reading, l: &[u64]) -> MinuteFound
-    ensures result_value { parsed_minute result ≡ minute_of reading l.now }
-    ensures took { Took (parsed_minute result) 0 (length l.now) }
-{
-    if is_at(l, 0, COLON) {
-        match num(reading, rest(l, 1)) {
-            NumberFound::Is(minute) => {
-                return MinuteFound::Is(minute.value, 1 + minute.taken);
-            }
-            NumberFound::Nothing => {
-                return MinuteFound::Is(0, 1);
-            }
-            NumberFound::Overflow => {
-                return MinuteFound::Overflow;
-            }
-        }
+    if !is_at(l, 0, COLON) {
+        return Ok((0, 0));
     }
-    MinuteFound::Is(0, 0)
+    let Some(minute) = num(reading, rest(l, 1))? else {
+        return Ok((0, 1));
+    };
+    Ok((minute.value, 1 + minute.taken))
 }
 
 // [am | pm] behind hour and minute, which end at t.
-fn read_half(l: &[u64], hour: u32, minute: u32, t: usize) -> TimeFound
-    ensures { parsed_time result ≡ half_of hour minute t l.now }
+#[tactic(auto, unfolding(crate::specs::Times::half_of))]
+fn read_half(l: &[u64], hour: u32, minute: u32, t: usize) -> (Time, usize)
+    ensures { is result.0 result.1 ≡ half_of hour minute t l.now }
 {
     if is_at(l, t, AM) {
-        return TimeFound::Is(Time::HourMinAM(hour, minute), t + 1);
+        return (Time::HourMinAM(hour, minute), t + 1);
     }
     if is_at(l, t, PM) {
-        return TimeFound::Is(Time::HourMinPM(hour, minute), t + 1);
+        return (Time::HourMinPM(hour, minute), t + 1);
     }
-    TimeFound::Is(Time::HourMin(hour, minute), t)
+    (Time::HourMin(hour, minute), t)
 }
 
 // <num> [: [<num>]] [am | pm]
-fn read_clock(reading: Reading, l: &[u64]) -> TimeFound
-    ensures { parsed_time result ≡ clock_of reading l.now }
+#[tactic(auto, unfolding(crate::specs::Times::clock_of))]
+fn read_clock(reading: Reading, l: &[u64]) -> Found<Time>
+    ensures { parsed result ≡ clock_of reading l.now }
 {
-    let a = num(reading, l);
-    let NumberFound::Is(hour) = a else {
-        return time_stopped(a);
+    let Some(hour) = num(reading, l)? else {
+        return Ok(None);
     };
-    let MinuteFound::Is(minute, u) = read_minute(reading, rest(l, hour.taken)) else {
-        return TimeFound::Overflow;
-    };
-    read_half(l, hour.value, minute, hour.taken + u)
+    let (minute, u) = read_minute(reading, rest(l, hour.taken))?;
+    Ok(Some(read_half(l, hour.value, minute, hour.taken + u)))
 }
 
 // Time::parse; nothing is tried where no lexeme is left.
-pub fn read_time(reading: Reading, l: &[u64]) -> TimeFound
-    ensures result_value { parsed_time result ≡ time_of reading l.now }
-    ensures took { Took (parsed_time result) 1 (length l.now) }
+#[tactic(auto, using(crate::proofs::LexemesTaken::time_took, crate::proofs::LexemesTaken::time_none), unfolding(crate::specs::Times::time_of))]
+pub fn read_time(reading: Reading, l: &[u64]) -> Found<Time>
+    ensures result_value { parsed result ≡ time_of reading l.now }
+    ensures took { Took (parsed result) 1 (length l.now) }
 {
-    if l.len() == 0 {
-        return TimeFound::Nothing;
+    if l.is_empty() {
+        return Ok(None);
     }
     if is_at(l, 0, MIDNIGHT) {
-        return TimeFound::Is(Time::HourMin(0, 0), 1);
+        return Ok(Some((Time::HourMin(0, 0), 1)));
     }
     if is_at(l, 0, NOON) {
-        return TimeFound::Is(Time::HourMin(12, 0), 1);
+        return Ok(Some((Time::HourMin(12, 0), 1)));
     }
     read_clock(reading, l)
 }

@@ -1,15 +1,14 @@
 // The readers of one lexeme: an article, a unit, a month, a weekday, a relative specifier.
 ghost use Rattle.std.specs.Prelude.{◌≡◌, ◌≤◌, length};
 ghost use Rattle.numbers.specs.Slices.{one_if};
-ghost use Rattle.dates.specs.Parsed.{Took};
+ghost use Rattle.dates.specs.Parsed.{parsed_one, Took};
 ghost use Rattle.dates.specs.Units.{is_article, unit_of, month_of, weekday_of, relative_specifier_of};
-ghost use Rattle.dates.specs.Units.{parsed_unit, parsed_month, parsed_weekday, parsed_specifier};
 
 use lexer::lexeme::{
     A, AN, DAY, DECEMBER, HOUR, JANUARY, LAST, MINUTE, MONDAY, MONTH, NEXT, SUNDAY, THE, THIS,
     WEEK, YEAR,
 };
-use numbers::slices::{get, is_within};
+use numbers::slices::get;
 
 // `enum Unit`
 #[derive(Clone, Copy)]
@@ -22,27 +21,6 @@ pub enum Unit {
     Year,
 }
 
-// A unit is one lexeme.
-#[derive(Clone, Copy)]
-pub enum UnitFound {
-    Is(Unit),
-    Nothing,
-}
-
-// A month, a number from 1 on, is one lexeme.
-#[derive(Clone, Copy)]
-pub enum MonthFound {
-    Is(u32),
-    Nothing,
-}
-
-// A weekday, a number with Monday 0, is one lexeme.
-#[derive(Clone, Copy)]
-pub enum WeekdayFound {
-    Is(u32),
-    Nothing,
-}
-
 // `enum RelativeSpecifier`
 #[derive(Clone, Copy)]
 pub enum RelativeSpecifier {
@@ -51,79 +29,68 @@ pub enum RelativeSpecifier {
     Last,
 }
 
-// A relative specifier is one lexeme.
-#[derive(Clone, Copy)]
-pub enum SpecifierFound {
-    Is(RelativeSpecifier),
-    Nothing,
-}
-
 // Article::parse: whether an article stands here. Which of the three it is is never looked at.
+#[tactic(auto, unfolding(crate::specs::Units::is_article))]
 pub(crate) fn is_article(l: &[u64]) -> bool
     ensures value { result ≡ is_article l.now }
     ensures result_in_bounds { one_if result ≤ length l.now }
 {
-    let x = get(l, 0);
-    if x == A {
-        return true;
-    }
-    if x == AN {
-        return true;
-    }
-    x == THE
+    matches!(get(l, 0), A | AN | THE)
 }
 
-// Unit::parse
-pub fn read_unit(l: &[u64]) -> UnitFound
-    ensures result_value { parsed_unit result ≡ unit_of l.now }
-    ensures took { Took (parsed_unit result) 1 (length l.now) }
+// Unit::parse: a unit is one lexeme.
+#[tactic(auto, using(crate::proofs::LexemesTaken::unit_took), unfolding(crate::specs::Units::unit_of))]
+pub fn read_unit(l: &[u64]) -> Option<Unit>
+    ensures result_value { parsed_one result ≡ unit_of l.now }
+    ensures took { Took (parsed_one result) 1 (length l.now) }
 {
-    let x = get(l, 0);
-    match x {
-        DAY => UnitFound::Is(Unit::Day),
-        WEEK => UnitFound::Is(Unit::Week),
-        MONTH => UnitFound::Is(Unit::Month),
-        YEAR => UnitFound::Is(Unit::Year),
-        MINUTE => UnitFound::Is(Unit::Minute),
-        HOUR => UnitFound::Is(Unit::Hour),
-        _ => UnitFound::Nothing,
+    match get(l, 0) {
+        DAY => Some(Unit::Day),
+        WEEK => Some(Unit::Week),
+        MONTH => Some(Unit::Month),
+        YEAR => Some(Unit::Year),
+        MINUTE => Some(Unit::Minute),
+        HOUR => Some(Unit::Hour),
+        _ => None,
     }
 }
 
-// Month::parse: January is 1.
-pub(crate) fn read_month(l: &[u64]) -> MonthFound
-    ensures result_value { parsed_month result ≡ month_of l.now }
-    ensures took { Took (parsed_month result) 1 (length l.now) }
+// Month::parse: one lexeme; January is 1.
+#[tactic(auto, using(crate::proofs::LexemesTaken::month_took), unfolding(crate::specs::Units::month_of, numbers::specs::Slices::within))]
+pub(crate) fn read_month(l: &[u64]) -> Option<u32>
+    ensures result_value { parsed_one result ≡ month_of l.now }
+    ensures took { Took (parsed_one result) 1 (length l.now) }
 {
     let x = get(l, 0);
-    if is_within(JANUARY, x, DECEMBER) {
-        return MonthFound::Is((x - JANUARY + 1) as u32);
+    if (JANUARY..=DECEMBER).contains(&x) {
+        return Some((x - JANUARY + 1) as u32);
     }
-    MonthFound::Nothing
+    None
 }
 
-// Weekday::parse: Monday is 0.
-pub fn read_weekday(l: &[u64]) -> WeekdayFound
-    ensures result_value { parsed_weekday result ≡ weekday_of l.now }
-    ensures took { Took (parsed_weekday result) 1 (length l.now) }
+// Weekday::parse: one lexeme; Monday is 0.
+#[tactic(auto, using(crate::proofs::LexemesTaken::weekday_took), unfolding(crate::specs::Units::weekday_of, numbers::specs::Slices::within))]
+pub fn read_weekday(l: &[u64]) -> Option<u32>
+    ensures result_value { parsed_one result ≡ weekday_of l.now }
+    ensures took { Took (parsed_one result) 1 (length l.now) }
 {
     let x = get(l, 0);
-    if is_within(MONDAY, x, SUNDAY) {
-        return WeekdayFound::Is((x - MONDAY) as u32);
+    if (MONDAY..=SUNDAY).contains(&x) {
+        return Some((x - MONDAY) as u32);
     }
-    WeekdayFound::Nothing
+    None
 }
 
-// RelativeSpecifier::parse
-pub fn read_specifier(l: &[u64]) -> SpecifierFound
-    ensures result_value { parsed_specifier result ≡ relative_specifier_of l.now }
-    ensures took { Took (parsed_specifier result) 1 (length l.now) }
+// RelativeSpecifier::parse: one lexeme.
+#[tactic(auto, using(crate::proofs::LexemesTaken::specifier_took), unfolding(crate::specs::Units::relative_specifier_of))]
+pub fn read_specifier(l: &[u64]) -> Option<RelativeSpecifier>
+    ensures result_value { parsed_one result ≡ relative_specifier_of l.now }
+    ensures took { Took (parsed_one result) 1 (length l.now) }
 {
-    let x = get(l, 0);
-    match x {
-        THIS => SpecifierFound::Is(RelativeSpecifier::This),
-        NEXT => SpecifierFound::Is(RelativeSpecifier::Next),
-        LAST => SpecifierFound::Is(RelativeSpecifier::Last),
-        _ => SpecifierFound::Nothing,
+    match get(l, 0) {
+        THIS => Some(RelativeSpecifier::This),
+        NEXT => Some(RelativeSpecifier::Next),
+        LAST => Some(RelativeSpecifier::Last),
+        _ => None,
     }
 }

@@ -1,6 +1,5 @@
 -- Texts that are the same byte by byte are equal. Assumes nothing.
 use Prim.Native.Nat.{ℕ}
-use native.Mathlib.Omega.{arith}
 use mathlib.Core.Path.{◌≡◌, refl}
 use mathlib.Core.Bool.{true, and-eq-true_iff}
 use mathlib.Core.List.{List, [], ◌∷◌}
@@ -10,8 +9,8 @@ use Rattle.digits.specs.Bytes.{same}
 
 pub same_true : (s t : List ℕ) → same s t ≡ true → s ≡ t
 same_true [] [] h = refl
-same_true [] (b ∷ t) h = let z : ◌≡◌ {A = ℕ} 0 1 = cc in absurd (omega arith)
-same_true (a ∷ s) [] h = let z : ◌≡◌ {A = ℕ} 0 1 = cc in absurd (omega arith)
+same_true [] (b ∷ t) h = absurd cc
+same_true (a ∷ s) [] h = absurd cc
 same_true (a ∷ s) (b ∷ t) h =
     let both = (and-eq-true_iff (eqb a b) (same s t)).0 h in
     rw (eqb-true a b both.0, same_true s t both.1)

@@ -1,5 +1,5 @@
 -- A number's digits: how many there are, and one digit more in front. Assumes nothing.
-use Prim.Native.Nat.{ℕ, zero, suc, ◌*◌, ◌-◌, ◌/◌, ◌^◌, ◌≤◌, ◌<◌}
+use Prim.Native.Nat.{ℕ, zero, suc, ◌+◌, ◌*◌, ◌-◌, ◌/◌, ◌^◌, ◌≤◌, ◌<◌}
 use native.Mathlib.Nat.{not-suc-le-zero, one-le-pow, pow-succ'}
 use native.Mathlib.Omega.{arith}
 use mathlib.Core.Path.{◌≡◌, refl}
@@ -25,18 +25,6 @@ digits_last zero n done h = absurd (not-suc-le-zero h)
 digits_last (suc i) n done h =
     let less : suc i - 1 ≡ i = omega arith in
     rw less (append_snoc (digits_of i (n / 10)) (digit_of n) done)
-
--- a number of one digit
-pub width_one : (k n : ℕ) → n < 10 → width_in k n ≡ 1
-width_one zero n h = refl
-width_one (suc k) n h = rw (lt-ltb n 10 h)
-
--- a number of more digits has one more than its tenth part
-pub width_more : (k n : ℕ) → 0 < k → 10 ≤ n → width_in k n ≡ suc (width_in (k - 1) (n / 10))
-width_more zero n z h = absurd (not-suc-le-zero z)
-width_more (suc k) n z h =
-    let less : suc k - 1 ≡ k = omega arith in
-    rw (less, le-ltb n 10 h)
 
 -- no more digits than are counted
 width_most : (k n : ℕ) → width_in k n ≤ suc k
@@ -82,3 +70,10 @@ width_exceeds (suc k) (suc j) n l h =
     let many : 10 ≤ n = omega (arith, one-le-pow j 10 (omega arith)) in
     let less : j < width_in k (n / 10) = width_exceeds k j (n / 10) (omega arith) (omega arith) in
     rw (le-ltb n 10 many) (omega arith)
+
+-- a number at least a power of ten, and below the next, has one digit more than the power has zeros
+pub width_log : (n k : ℕ) → k < 20 → 10 ^ k ≤ n → n < 10 * 10 ^ k → width_of n ≡ k + 1
+unfolding width_of
+width_log n k l low high =
+    let more = rw (← (pow-succ' 10 k)) at high in
+    omega (arith, width_fits 19 k n more, width_exceeds 19 k n (omega arith) low)

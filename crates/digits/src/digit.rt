@@ -9,20 +9,14 @@ pub const TOO_LARGE: u64 = 4294967296;
 pub fn is_digit(b: u8) -> bool
     ensures { result ≡ is_digit b }
 {
-    if b < b'0' {
-        return false;
-    }
-    b <= b'9'
+    b.is_ascii_digit()
 }
 
 // A digit's number, 0 for any byte below the digits.
 pub fn value(b: u8) -> u32
     ensures { (result ≡ b - 48) × (result ≤ 207) }
 {
-    if b < b'0' {
-        return 0;
-    }
-    (b - b'0') as u32
+    u32::from(b.saturating_sub(b'0'))
 }
 
 // The number v with a digit more behind it; what is too large stays so.
@@ -30,8 +24,7 @@ pub fn with_digit(v: u64, b: u8) -> u64
     requires { v ≤ 4294967296 }
     ensures { result ≡ min (v * 10 + (b - 48)) 4294967296 }
 {
-    let w = v * 10 + value(b) as u64;
-    if w < TOO_LARGE { w } else { TOO_LARGE }
+    (v * 10 + u64::from(value(b))).min(TOO_LARGE)
 }
 
 // The number of the two digits at a place.
@@ -46,14 +39,5 @@ pub fn two(s: &[u8], at: usize) -> u32
 pub fn width(n: u64) -> usize
     ensures { (result ≡ width_of n) × (result ≤ 20) }
 {
-    let mut left: usize = 19;
-    let mut rest = n;
-    while 0 < left {
-        if rest < 10 {
-            return 20 - left;
-        }
-        rest = rest / 10;
-        left -= 1;
-    }
-    20
+    n.checked_ilog10().unwrap_or(0) as usize + 1
 }

@@ -25,12 +25,10 @@ pub fn put_digits(out: &mut [u8], at: usize, k: usize, n: u64)
     requires { at + k ≤ length out.old }
     ensures { out.new ≡ sets out.old at (digits_of k n) }
 {
-    let mut i = k;
     let mut rest = n;
-    while 0 < i {
-        i -= 1;
+    for i in (0..k).rev() {
         out[at + i] = digit(rest);
-        rest = rest / 10;
+        rest /= 10;
     }
 }
 
@@ -50,5 +48,5 @@ pub fn put_pair(out: &mut [u8], at: usize, mark: u8, n: u32)
     ensures { out.new ≡ sets out.old at (marked mark n) }
 {
     out[at] = mark;
-    put_digits(out, at + 1, 2, n as u64);
+    put_digits(out, at + 1, 2, u64::from(n));
 }

@@ -1,11 +1,12 @@
 -- The links of a chain are walked from the last to the first, whatever is carried along: a moment or a refusal, steps, a count.
 use Prim.Native.Nat.{ℕ, zero, suc, ◌-◌, ◌≤◌, ◌<◌}
 use native.Mathlib.Omega.{arith}
-use mathlib.Core.Path.{◌≡◌, refl, ap, ◌∙◌}
+use mathlib.Core.Path.{◌≡◌, refl, ap, sym, ◌∙◌}
 use mathlib.Core.Bool.{Bool, true, false}
 use mathlib.Core.List.{List, [], ◌∷◌}
 use lib.ListN.{length, get_or, take}
 use lib.Seq.{slice, slice-cons, slice_empty}
+use Rattle.refusals.specs.declared.Reason.{Reason}
 use Rattle.calendar.specs.Moments.{Outcome, moment, refused, and_then}
 use Rattle.calendar.specs.declared.moments.Moment.{Moment}
 use Rattle.dates.specs.Durations.{Duration}
@@ -70,13 +71,22 @@ unfolding evaluate_in
 around_step n true d x = refl
 around_step n false d x = refl
 
-module _ (r : Chain) (o : Outcome) (most : r.m ≤ length r.links) where
+-- a reading at a now, from what its base gives there
+module _ (r : Chain) (n : Moment) (o : Outcome) (most : r.m ≤ length r.links) (based : o ≡ evaluate (base_of r) n) where
+  -- leads where its links lead from there
+  pub from_base : evaluate (tree_of r) n ≡ links_at stepped r 0 o
+  from_base = chain_walked stepped (λ x. evaluate x n) (around_step n) r ∙ ap (links_at stepped r 0) (sym based)
+
   -- one link more, from a moment
-  pub from_moment : (i : ℕ) {t : Moment} → 0 < i → i ≤ r.m → links_at stepped r i o ≡ moment t
-      → links_at stepped r (i - 1) o ≡ duration_step (link_at r (i - 1)).back (lasting r (i - 1)) t
-  from_moment i some h e = turn stepped r o most i some h ∙ ap (stepped (link_at r (i - 1)).back (lasting r (i - 1))) e
+  pub link_on : (i : ℕ) (t : Moment) (u : Outcome) → 0 < i → i ≤ r.m → links_at stepped r i o ≡ moment t →
+      u ≡ duration_step (link_at r (i - 1)).back (lasting r (i - 1)) t → links_at stepped r (i - 1) o ≡ u
+  link_on i t u some h e f = turn stepped r o most i some h ∙ ap (stepped (link_at r (i - 1)).back (lasting r (i - 1))) e ∙ sym f
 
   -- a refusal stays
-  pub stays : (i : ℕ) {k : ℕ} → i ≤ r.m → links_at stepped r i o ≡ refused k → links_at stepped r 0 o ≡ refused k
-  stays zero h e = e
-  stays (suc i) h e = stays i (omega arith) (next_link stepped r o most i (omega arith) ∙ rw e)
+  stays : (i : ℕ) (k : Reason) → i ≤ r.m → links_at stepped r i o ≡ refused k → links_at stepped r 0 o ≡ refused k
+  stays zero k h e = e
+  stays (suc i) k h e = stays i k (omega arith) (next_link stepped r o most i (omega arith) ∙ rw e)
+
+  -- so it is the reading's
+  pub link_refused : (i : ℕ) (k : Reason) → i ≤ r.m → links_at stepped r i o ≡ refused k → refused k ≡ evaluate (tree_of r) n
+  link_refused i k h e = sym (from_base ∙ stays i k h e)

@@ -5,7 +5,7 @@ use Rattle.calendar.specs.declared.moments.Moment.{Moment}
 use Rattle.dates.specs.declared.date.Date.{Date}
 use Rattle.dates.specs.declared.date.Date.TheVariants.{YearMonthNumDay, MonthNumDayYear, DayMonthYear, MonthDayYear}
 use Rattle.dates.specs.declared.date.Date.TheVariants.{MonthNumDay, MonthDay, Today, Tomorrow, Yesterday, Empty}
-use Rattle.refusals.specs.Table as refusal
+use Rattle.refusals.specs.declared.Reason.TheVariants as refusal
 
 -- "In one stated date, year range (12) is tested before month and day (10)." "a stated year is taken as it stands"
 abbrev pub stated_date : ℕ → ℕ → ℕ → Moment → Outcome

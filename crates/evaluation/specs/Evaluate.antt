@@ -18,7 +18,7 @@ use Rattle.dates.specs.declared.units.RelativeSpecifier.TheVariants.{This, Next,
 use Rattle.expressions.specs.Tree.{DateExpr, date, date_relative, date_expression_after, date_expression_before, unit_relative}
 use Rattle.expressions.specs.Tree.{relative_weekday, weekday_relative, weekday_expression_before, weekday_expression_after, before, after, weekday, empty}
 use Rattle.phrase.specs.Tree.{DateTime, date_time, time_date, duration_after, duration_before, now}
-use Rattle.refusals.specs.Table as refusal
+use Rattle.refusals.specs.declared.Reason.TheVariants as refusal
 use Rattle.evaluation.specs.Worlds.{World, offset}
 use Rattle.evaluation.specs.Steps.{unit_step, duration_step, duration_in}
 use Rattle.evaluation.specs.Weekdays.{days_back, in_week, forward_to, back_to}
@@ -119,32 +119,32 @@ dated e o = row (evaluate (date_time e NoTime)) A o
 unfoldable pub trees : List Case
 trees =
     -- date, then time of day: 10 where neither is one
-    row (evaluate (time_date (HourMin 25 0) (date (MonthDay 1 32)))) A (refused 10)
-    ∷ row (evaluate (date_time (date (MonthDay 1 32)) (HourMin 25 0))) A (refused 10)
-    ∷ row (evaluate (time_date (HourMin 25 0) (date (MonthDay 1 31)))) A (refused 11)
+    row (evaluate (time_date (HourMin 25 0) (date (MonthDay 1 32)))) A (refused refusal.NoDate)
+    ∷ row (evaluate (date_time (date (MonthDay 1 32)) (HourMin 25 0))) A (refused refusal.NoDate)
+    ∷ row (evaluate (time_date (HourMin 25 0) (date (MonthDay 1 31)))) A (refused refusal.NoTime)
     -- then outer durations: 11 where the way would leave the calendar too, and an hour from a stated time
-    ∷ row (evaluate (duration_after (part (Specific Day 4294967295)) (date_time (date Today) (HourMin 25 0)))) A (refused 11)
+    ∷ row (evaluate (duration_after (part (Specific Day 4294967295)) (date_time (date Today) (HourMin 25 0)))) A (refused refusal.NoTime)
     ∷ row (evaluate (duration_after (part (Article Hour)) (time_date (HourMin 23 30) empty))) B (moment (moment_of 2024 3 1 0 30 0 0))
     -- innermost first: the day and then the month
     ∷ row (evaluate (duration_before (part (Article Month)) (duration_after (part (Article Day)) now))) B (moment (with_date 2024 2 1 B))
     ∷ row (evaluate (duration_after (part (Article Month)) (duration_after (part (Article Day)) now))) B (moment (with_date 2024 4 1 B))
     -- 9 on each side
     ∷ dated (date_relative (MonthDay 3 4) Next Year) (moment (with_date 2027 3 4 A))
-    ∷ dated (date_relative (MonthDay 3 4) Next Month) (refused 9)
-    ∷ dated (date_relative Today Next Year) (refused 9)
+    ∷ dated (date_relative (MonthDay 3 4) Next Month) (refused refusal.NoSense)
+    ∷ dated (date_relative Today Next Year) (refused refusal.NoSense)
     ∷ dated (unit_relative Next Month) (moment (with_date 2026 3 11 A))
-    ∷ dated (unit_relative This Month) (refused 9)
-    ∷ dated (unit_relative Next Hour) (refused 9)
+    ∷ dated (unit_relative This Month) (refused refusal.NoSense)
+    ∷ dated (unit_relative Next Hour) (refused refusal.NoSense)
     ∷ dated (weekday_relative 4 Next Week) (moment (with_date 2026 2 20 A))
-    ∷ dated (weekday_relative 4 Next Month) (refused 9)
+    ∷ dated (weekday_relative 4 Next Month) (refused refusal.NoSense)
     -- a weekday and a duration: back to it, or on to it, the day that is reached included
     ∷ dated (weekday_expression_before 1 (part (Specific Week 2))) (moment (with_date 2026 1 27 A))
     ∷ dated (weekday_expression_after 1 (part (Specific Week 2))) (moment (with_date 2026 3 3 A))
     ∷ dated (weekday_expression_after 2 (part (Specific Week 2))) (moment (with_date 2026 2 25 A))
     ∷ dated (weekday_expression_after 2 (part (Specific Day 0))) (moment A)
-    ∷ row (evaluate (date_time (weekday_expression_after 4 (part (Article Year))) NoTime)) B (refused 13)
+    ∷ row (evaluate (date_time (weekday_expression_after 4 (part (Article Year))) NoTime)) B (refused refusal.NoLeapDay)
     ∷ row (evaluate (date_time (weekday_expression_after 4 (part (Specific Day 0))) NoTime)) last_moment (moment last_moment)
-    ∷ row (evaluate (date_time (weekday_expression_after 5 (part (Specific Day 0))) NoTime)) last_moment (refused 12)
+    ∷ row (evaluate (date_time (weekday_expression_after 5 (part (Specific Day 0))) NoTime)) last_moment (refused refusal.Outside)
     ∷ []
 
 -- each tree evaluates as listed

@@ -4,7 +4,7 @@ use Rattle.calendar.specs.Moments.{Outcome, moment, refused, in_range, is_time, 
 use Rattle.calendar.specs.declared.moments.Moment.{Moment}
 use Rattle.dates.specs.declared.time.Time.{Time}
 use Rattle.dates.specs.declared.time.Time.TheVariants.{HourMin, HourMinAM, HourMinPM, Empty}
-use Rattle.refusals.specs.Table as refusal
+use Rattle.refusals.specs.declared.Reason.TheVariants as refusal
 
 -- "A stated time has second and millisecond 0"; 11: "no such time of day"
 abbrev pub stated_time : Bool → ℕ → ℕ → Moment → Outcome

@@ -5,7 +5,7 @@ use Rattle.calendar.specs.Moments.{Outcome, refused, day_of_moment, on_day}
 use Rattle.calendar.specs.declared.moments.Moment.{Moment}
 use Rattle.dates.specs.declared.units.RelativeSpecifier.{RelativeSpecifier}
 use Rattle.dates.specs.declared.units.RelativeSpecifier.TheVariants.{This, Next, Last}
-use Rattle.refusals.specs.Table as refusal
+use Rattle.refusals.specs.declared.Reason.TheVariants as refusal
 
 -- the Monday of the ISO week of a day
 abbrev pub monday_of : ℕ → ℕ

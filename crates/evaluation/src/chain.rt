@@ -1,71 +1,41 @@
 // A chain at a now: date, time of day, then the durations around them, innermost first.
 ghost use Rattle.std.specs.Prelude.{◌≡◌};
-ghost use Rattle.calendar.specs.Moments.{IsMoment, and_then, reached_of, Valid};
+ghost use Rattle.calendar.specs.Moments.{IsMoment, reached_of, Valid};
 ghost use Rattle.phrase.specs.Chains.{base_of, tree_of};
 ghost use Rattle.phrase.specs.Formed.{Formed};
-ghost use Rattle.evaluation.specs.Times.{time_at};
 ghost use Rattle.evaluation.specs.Evaluate.{evaluate};
 
 use super::expr::expr_at;
-use super::step::duration_step;
+use super::step::{duration_step, row};
 use super::time::time_at;
-use calendar::moments::{Moment, Reached};
-use dates::time::Time;
+use calendar::moments::Moment;
 use phrase::chain::{Base, Chain};
+use refusals::Reason;
 
-// The time of day on a date that was reached.
-fn timed(x: Reached, time: Time, now: Moment) -> Reached
-    requires { Valid (reached_of x) × IsMoment now }
-    ensures result_value { reached_of result ≡ and_then (reached_of x) (time_at time now) }
+// What the durations stand around: its date, and then its time of day.
+fn base_at(r: &Chain, now: Moment) -> Result<Moment, Reason>
+    requires { IsMoment now × Formed r.now }
+    ensures result_value { reached_of result ≡ evaluate (base_of r.now) now }
     ensures valid { Valid (reached_of result) }
 {
-    let Reached::At(t) = x else {
-        return x;
-    };
-    time_at(time, now, t)
-}
-
-// What the durations stand around.
-fn base_at(r: Chain, now: Moment) -> Reached
-    requires { IsMoment now × Formed r }
-    ensures result_value { reached_of result ≡ evaluate (base_of r) now }
-    ensures valid { Valid (reached_of result) }
-{
-    let base = r.base;
-    let parts = r.parts;
-    let own = r.own;
-    let time = r.time;
-    match base {
-        Base::Now => Reached::At(now),
-        Base::DateTime(expr) => timed(expr_at(expr, parts, own, now), time, now),
-        Base::TimeDate(expr) => timed(expr_at(expr, parts, own, now), time, now),
+    match r.base {
+        Base::Now => Ok(now),
+        Base::DateTime(expr) | Base::TimeDate(expr) => {
+            time_at(r.time, now, expr_at(expr, &r.parts, r.own, now)?)
+        }
     }
 }
 
 // DateTime::to_chrono: each link's duration, from the last link to the first.
-pub fn evaluate(r: Chain, now: Moment) -> Reached
+pub fn evaluate(r: Chain, now: Moment) -> Result<Moment, Reason>
     requires { IsMoment now × Formed r }
     ensures result_value { reached_of result ≡ evaluate (tree_of r) now }
     ensures valid { Valid (reached_of result) }
 {
-    let base = base_at(r, now);
-    let Reached::At(start) = base else {
-        return base;
-    };
-    let parts = r.parts;
-    let mut t = start;
-    let mut i = r.m;
-    while 0 < i {
-        i -= 1;
+    let mut t = base_at(&r, now)?;
+    for i in (0..r.m).rev() {
         let link = r.links[i as usize];
-        match duration_step(link.back, parts, link.from, link.to, t) {
-            Reached::At(u) => {
-                t = u;
-            }
-            Reached::Refused(k) => {
-                return Reached::Refused(k);
-            }
-        }
+        t = duration_step(link.back, row(&r.parts, link.from, link.to), t)?;
     }
-    Reached::At(t)
+    Ok(t)
 }

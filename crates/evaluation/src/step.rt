@@ -1,16 +1,17 @@
 // Durations as steps.
-ghost use Rattle.std.specs.Prelude.{◌≡◌, ◌≤◌, ◌<◌};
+ghost use Rattle.std.specs.Prelude.{◌≡◌, ◌≤◌, ◌<◌, length};
 ghost use Rattle.std.proofs.Math.Seq.{slice};
 ghost use Rattle.calendar.specs.Moments.{IsMoment, reached_of, Valid};
 ghost use Rattle.evaluation.specs.Steps.{unit_step, part_step, duration_step};
 ghost use Rattle.phrase.specs.Chains.{row_duration};
 
-use calendar::moments::{Moment, Reached};
-use dates::duration::{Part, Parts};
+use calendar::moments::Moment;
+use dates::duration::{Part, Parts, Slot};
 use dates::units::Unit;
+use refusals::Reason;
 
 // So many units, back or on: days, weeks, hours and minutes are fixed lengths.
-pub(crate) fn unit_step(back: bool, k: u32, unit: Unit, t: Moment) -> Reached
+pub(crate) fn unit_step(back: bool, k: u32, unit: Unit, t: Moment) -> Result<Moment, Reason>
     requires { IsMoment t }
     ensures result_value { reached_of result ≡ unit_step back k unit t }
     ensures valid { Valid (reached_of result) }
@@ -27,7 +28,7 @@ pub(crate) fn unit_step(back: bool, k: u32, unit: Unit, t: Moment) -> Reached
 }
 
 // One part of a duration, back or on; an article is one.
-fn part_step(back: bool, part: Part, t: Moment) -> Reached
+fn part_step(back: bool, part: Part, t: Moment) -> Result<Moment, Reason>
     requires { IsMoment t }
     ensures result_value { reached_of result ≡ part_step back part t }
     ensures valid { Valid (reached_of result) }
@@ -38,26 +39,24 @@ fn part_step(back: bool, part: Part, t: Moment) -> Reached
     }
 }
 
-// The parts from one place up to another, first to last: each one's own result is tested.
-pub(crate) fn duration_step(back: bool, parts: Parts, from: u8, to: u8, begin: Moment) -> Reached
-    requires { (from < to) × (to ≤ 21) × IsMoment begin }
-    ensures result_value { reached_of result ≡ duration_step back (row_duration (slice from to parts.items)) begin }
+// The parts from one place up to another.
+pub(crate) fn row(parts: &Parts, from: u8, to: u8) -> &[Slot]
+    requires { (from < to) × (to ≤ 21) }
+    ensures value { result.now ≡ slice from to parts.now.items }
+    ensures some { 0 < length result.now }
+{
+    &parts.items[from as usize..to as usize]
+}
+
+// A row of parts, first to last: each one's own result is tested.
+pub(crate) fn duration_step(back: bool, row: &[Slot], begin: Moment) -> Result<Moment, Reason>
+    requires { (0 < length row.now) × IsMoment begin }
+    ensures result_value { reached_of result ≡ duration_step back (row_duration row.now) begin }
     ensures valid { Valid (reached_of result) }
 {
     let mut t = begin;
-    let mut i = from;
-    while i < to {
-        let slot = parts.items[i as usize];
-        let part = slot.part;
-        match part_step(back, part, t) {
-            Reached::At(u) => {
-                t = u;
-            }
-            Reached::Refused(k) => {
-                return Reached::Refused(k);
-            }
-        }
-        i += 1;
+    for slot in row {
+        t = part_step(back, slot.part, t)?;
     }
-    Reached::At(t)
+    Ok(t)
 }

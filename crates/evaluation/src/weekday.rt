@@ -3,27 +3,24 @@ ghost use Rattle.std.specs.Prelude.{◌≡◌, ◌<◌};
 ghost use Rattle.calendar.specs.Moments.{IsMoment, reached_of, Valid};
 ghost use Rattle.evaluation.specs.Weekdays.{days_back, in_week, forward_to, back_to};
 
-use calendar::moments::{Moment, Reached};
+use calendar::moments::Moment;
 use dates::units::RelativeSpecifier;
-use refusals::OUTSIDE;
+use refusals::Reason;
 
 // The days before the first one that are counted too.
 const WEEK: u32 = 7;
 
 // The same time of day on a day that is counted from a week before the first one.
-fn on_counted(n: u32, t: Moment) -> Reached
+fn on_counted(n: u32, t: Moment) -> Result<Moment, Reason>
     requires { IsMoment t }
     ensures result_value { reached_of result ≡ days_back n 7 t }
     ensures valid { Valid (reached_of result) }
 {
-    if n < WEEK {
-        return Reached::Refused(OUTSIDE);
-    }
-    t.on_day(n - WEEK)
+    t.on_day(n.checked_sub(WEEK).ok_or(Reason::Outside)?)
 }
 
 // That weekday in the following, preceding or same week.
-pub fn in_week(specifier: RelativeSpecifier, w: u32, t: Moment) -> Reached
+pub fn in_week(specifier: RelativeSpecifier, w: u32, t: Moment) -> Result<Moment, Reason>
     requires { IsMoment t × (w < 7) }
     ensures result_value { reached_of result ≡ in_week specifier w t }
     ensures valid { Valid (reached_of result) }
@@ -41,7 +38,7 @@ pub fn in_week(specifier: RelativeSpecifier, w: u32, t: Moment) -> Reached
 }
 
 // On to the first such weekday, that day included; a bare weekday is its first date from today by the same rule.
-pub fn forward_to(w: u32, t: Moment) -> Reached
+pub fn forward_to(w: u32, t: Moment) -> Result<Moment, Reason>
     requires { IsMoment t × (w < 7) }
     ensures result_value { reached_of result ≡ forward_to w t }
     ensures valid { Valid (reached_of result) }
@@ -52,7 +49,7 @@ pub fn forward_to(w: u32, t: Moment) -> Reached
 }
 
 // Back to the weekday, 0 to 6 days.
-pub fn back_to(w: u32, t: Moment) -> Reached
+pub fn back_to(w: u32, t: Moment) -> Result<Moment, Reason>
     requires { IsMoment t × (w < 7) }
     ensures result_value { reached_of result ≡ back_to w t }
     ensures valid { Valid (reached_of result) }

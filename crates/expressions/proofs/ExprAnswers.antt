@@ -4,6 +4,8 @@ use mathlib.Core.Path.{◌≡◌, refl}
 use mathlib.Core.List.{List, []}
 use lib.ListN.{length, drop, drop_of_length-le}
 use Rattle.lexer.specs.declared.reading.Reading.{Reading}
+use Rattle.std.specs.Prelude.{Option, Result}
+use Rattle.numbers.specs.declared.Overflow.{Overflow}
 use Rattle.numbers.specs.Slices.{get, within, is_at}
 use Rattle.numbers.specs.Again.{turns, again}
 use Rattle.numbers.specs.Numbers.{begins_number}
@@ -15,7 +17,7 @@ use Rattle.dates.proofs.Each.{Each}
 use Rattle.expressions.specs.Tree.{DateExpr}
 use Rattle.expressions.specs.DateExprs.{in_tail_of, duration_tail_of, tail_of, date_expr_of}
 use Rattle.expressions.specs.ExprAnswers.{expr_place, answer_at, expr_answer, ExprCounted}
-use Rattle.expressions.specs.declared.expr.ExprTaken.{ExprTaken}
+use Rattle.expressions.specs.declared.expr.Dated.{Dated}
 use Rattle.expressions.proofs.OwnDuration.{ExprRead, expr_few}
 
 counted : (reading : Reading) (l : List ℕ) (p : ℕ) (w : Parsed DateExpr) → Each (ExprRead reading l p) w → ExprCounted (answer_at p w) (length l)
@@ -24,7 +26,7 @@ counted reading l p nothing h = record { bounds = tt }
 counted reading l p overflow h = record { bounds = tt }
 
 -- what `read_expr` promises
-pub expr_promised : {r : ExprTaken} (reading : Reading) (l : List ℕ) → r ≡ expr_answer reading l (date_expr_of reading l)
+pub expr_promised : {r : Result (Option Dated) Overflow} (reading : Reading) (l : List ℕ) → r ≡ expr_answer reading l (date_expr_of reading l)
     → (r ≡ expr_answer reading l (date_expr_of reading l)) × ExprCounted r (length l)
 expr_promised reading l e = (e, rw e (counted reading l (expr_place reading l) (date_expr_of reading l) (expr_few reading l)))
 

@@ -1,6 +1,8 @@
 -- The code's answer for a date expression: its shape, its count, and the place of its duration among the lexemes that it was read of.
-use Rattle.std.specs.Prelude.{ℕ, ◌+◌, ◌≤◌, List, drop}
+use Rattle.std.specs.Prelude.{ℕ, ◌+◌, ◌≤◌, Option, Some, None, Result, Ok, Err, List, drop}
 use Rattle.lexer.specs.declared.reading.Reading.{Reading}
+use Rattle.numbers.specs.declared.Overflow.{Overflow}
+use Rattle.numbers.specs.Answers.{overflow as large}
 use Rattle.dates.specs.Parsed.{Parsed, is, nothing, overflow, if_let}
 use Rattle.dates.specs.Units.{weekday_of}
 use Rattle.dates.specs.Durations.{duration_of}
@@ -10,8 +12,7 @@ use Rattle.expressions.specs.DateExprs.{Tail, relative, ago, inside, stray, tail
 use Rattle.expressions.specs.Shapes.{shape, own_of, of_own}
 use Rattle.expressions.specs.declared.expr.Head.{Head}
 use Rattle.expressions.specs.declared.expr.Head.TheVariants.{Date, Weekday}
-use Rattle.expressions.specs.declared.expr.ExprTaken.{ExprTaken}
-use Rattle.expressions.specs.declared.expr.ExprTaken.TheVariants.{Is, Nothing, Overflow}
+use Rattle.expressions.specs.declared.expr.Dated.{Dated}
 
 -- where the duration of a tail begins: behind its "in"
 abbrev pub tail_place : Parsed Tail → ℕ
@@ -53,13 +54,13 @@ abbrev pub own_place : Reading → List ℕ → DateExpr → ℕ
 own_place reading l x = place_at (expr_place reading l) x
 
 -- the code's answer, whose duration begins at p
-abbrev pub answer_at : ℕ → Parsed DateExpr → ExprTaken
-answer_at p (is x t) = Is (shape x) t (place_at p x)
-answer_at p nothing = Nothing
-answer_at p overflow = Overflow
+abbrev pub answer_at : ℕ → Parsed DateExpr → Result (Option Dated) Overflow
+answer_at p (is x t) = Ok (Some (record { expr = shape x; taken = t; own = place_at p x }))
+answer_at p nothing = Ok None
+answer_at p overflow = Err large
 
--- the code's answer for a date expression that was read of l: `Is (shape x) t (own_place reading l x)` of `is x t`
-abbrev pub expr_answer : Reading → List ℕ → Parsed DateExpr → ExprTaken
+-- the code's answer for a date expression that was read of l: `shape x`, `t` and `own_place reading l x` of `is x t`
+abbrev pub expr_answer : Reading → List ℕ → Parsed DateExpr → Result (Option Dated) Overflow
 expr_answer reading l w = answer_at (expr_place reading l) w
 
 -- a head with the tail that was read behind it
@@ -68,15 +69,15 @@ with_head reading (Date d) t x u = with_date d t x u
 with_head reading (Weekday w) t x u = with_weekday reading w t x u
 
 -- the code's answer for a head of t lexemes and what was read behind it; alone it is as with a tail of no lexemes that is given up
-abbrev pub tailed_answer : Reading → Head → ℕ → Parsed Tail → ExprTaken
+abbrev pub tailed_answer : Reading → Head → ℕ → Parsed Tail → Result (Option Dated) Overflow
 tailed_answer reading h t p = answer_at (t + tail_place p) (if_let p (with_head reading h t) (with_head reading h t stray 0))
 
 -- the bounds of `ExprCounted`
-abbrev pub ExprBounds : ExprTaken → ℕ → Type 0
-ExprBounds (Is x t p) n = (1 ≤ t) × (t ≤ n) × (p ≤ t)
-ExprBounds Nothing n = Unit
-ExprBounds Overflow n = Unit
+abbrev pub ExprBounds : Result (Option Dated) Overflow → ℕ → Type 0
+ExprBounds (Ok (Some d)) n = (1 ≤ d.taken) × (d.taken ≤ n) × (d.own ≤ d.taken)
+ExprBounds (Ok None) n = Unit
+ExprBounds (Err e) n = Unit
 
 -- at least one and at most n lexemes, and the duration begins within them
-pub record ExprCounted (r : ExprTaken) (n : ℕ) : Type 0 where
+pub record ExprCounted (r : Result (Option Dated) Overflow) (n : ℕ) : Type 0 where
   pub bounds : ExprBounds r n

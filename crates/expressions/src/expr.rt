@@ -1,22 +1,20 @@
 // The readers of date expressions.
 ghost use Rattle.std.specs.Prelude.{◌≡◌, ℕ, ◌+◌, ◌≤◌, length, drop};
-ghost use Rattle.dates.specs.Parsed.{is, and_then, stopped};
+ghost use Rattle.dates.specs.Parsed.{is, and_then};
 ghost use Rattle.dates.specs.Durations.{Duration, is_sub_daily};
-ghost use Rattle.dates.specs.Dates.{date_of, parsed_date};
+ghost use Rattle.dates.specs.Dates.{date_of};
 ghost use Rattle.expressions.specs.Tree.{after};
-ghost use Rattle.expressions.specs.DateExprs.{relative, ago, inside, stray, in_tail_of, duration_tail_of, tail_of, with_duration_of};
+ghost use Rattle.expressions.specs.DateExprs.{relative, ago, inside, stray, weekday_in, in_tail_of, duration_tail_of, tail_of, with_duration_of};
 ghost use Rattle.expressions.specs.DateExprs.{relative_expr_of, weekday_expr_of, undated_of, date_expr_of};
-ghost use Rattle.expressions.specs.Shapes.{has_duration};
+ghost use Rattle.expressions.specs.Shapes.{shape, has_duration};
 ghost use Rattle.expressions.specs.ExprAnswers.{tailed_answer, answer_at, weekday_place, undated_place, expr_answer, ExprCounted};
 
-use dates::date::{Date, DateFound, read_date};
-use dates::duration::{Taken, read_duration};
-use dates::units::{
-    RelativeSpecifier, SpecifierFound, Unit, UnitFound, WeekdayFound, read_specifier, read_unit,
-    read_weekday,
-};
+use dates::date::{Date, read_date};
+use dates::duration::{Span, read_duration};
+use dates::units::{RelativeSpecifier, Unit, read_specifier, read_unit, read_weekday};
 use lexer::lexeme::{AFTER, AGO, FROM, IN};
 use lexer::reading::Reading;
+use numbers::Overflow;
 use numbers::slices::{is_at, rest};
 
 // `enum DateExpr` without its durations, whose parts stand in the reading; a weekday is a number, Monday 0.
@@ -44,234 +42,242 @@ enum Head {
     Weekday(u32),
 }
 
-// A date expression, the lexemes taken, and the place of the first lexeme of its duration, 0 where it has none; `Overflow` is refusal 6.
+// A date expression, the lexemes taken, and the place of the first lexeme of its duration, 0 where it has none.
 #[derive(Clone, Copy)]
-pub enum ExprTaken {
-    Is(Expr, usize, usize),
-    Nothing,
-    Overflow,
+pub struct Dated {
+    pub expr: Expr,
+    pub taken: usize,
+    pub own: usize,
 }
 
 // Whether a duration belongs to it.
 pub fn has_duration(e: Expr) -> bool
     ensures { result ≡ has_duration e }
 {
-    match e {
+    matches!(
+        e,
         Expr::DateExpressionAfter(_)
-        | Expr::DateExpressionBefore(_)
-        | Expr::WeekdayExpressionBefore(_)
-        | Expr::WeekdayExpressionAfter(_)
-        | Expr::Before(_)
-        | Expr::After(_) => true,
-        _ => false,
-    }
+            | Expr::DateExpressionBefore(_)
+            | Expr::WeekdayExpressionBefore(_)
+            | Expr::WeekdayExpressionAfter(_)
+            | Expr::Before(_)
+            | Expr::After(_)
+    )
 }
 
 // A head of t lexemes, and a tail that is given up, which ends at s: behind a date the count is rolled back.
-fn stray(h: Head, t: usize, s: usize) -> ExprTaken
-    ensures { (reading : Reading) (u : ℕ) → s ≡ t + u → result ≡ tailed_answer reading h t (is stray u) }
+fn stray(h: Head, t: usize, s: usize) -> Dated
+    ensures { (reading : Reading) (u : ℕ) → s ≡ t + u → Ok (Some result) ≡ tailed_answer reading h t (is stray u) }
 {
-    match h {
-        Head::Date(d) => ExprTaken::Is(Expr::Date(d), t, 0),
-        Head::Weekday(w) => ExprTaken::Is(Expr::Weekday(w), s, 0),
+    let (expr, taken) = match h {
+        Head::Date(d) => (Expr::Date(d), t),
+        Head::Weekday(w) => (Expr::Weekday(w), s),
+    };
+    Dated {
+        expr,
+        taken,
+        own: 0,
     }
 }
 
 // A head and a relative tail, which ends at s.
-fn relative(h: Head, spec: RelativeSpecifier, unit: Unit, s: usize) -> ExprTaken
-    ensures { (reading : Reading) (t u : ℕ) → s ≡ t + u → result ≡ tailed_answer reading h t (is (relative spec unit) u) }
+fn relative(h: Head, spec: RelativeSpecifier, unit: Unit, s: usize) -> Dated
+    ensures { (reading : Reading) (t u : ℕ) → s ≡ t + u → Ok (Some result) ≡ tailed_answer reading h t (is (relative spec unit) u) }
 {
-    match h {
-        Head::Date(d) => ExprTaken::Is(Expr::DateRelative(d, spec, unit), s, 0),
-        Head::Weekday(w) => ExprTaken::Is(Expr::WeekdayRelative(w, spec, unit), s, 0),
+    let expr = match h {
+        Head::Date(d) => Expr::DateRelative(d, spec, unit),
+        Head::Weekday(w) => Expr::WeekdayRelative(w, spec, unit),
+    };
+    Dated {
+        expr,
+        taken: s,
+        own: 0,
     }
 }
 
 // A head and a tail with "ago", whose duration begins at t, and which ends at s.
-fn ago(h: Head, t: usize, s: usize) -> ExprTaken
-    ensures { (reading : Reading) (dur : Duration) (u : ℕ) → s ≡ t + u → result ≡ tailed_answer reading h t (is (ago dur) u) }
+fn ago(h: Head, t: usize, s: usize) -> Dated
+    ensures { (reading : Reading) (dur : Duration) (u : ℕ) → s ≡ t + u → Ok (Some result) ≡ tailed_answer reading h t (is (ago dur) u) }
 {
-    match h {
-        Head::Date(d) => ExprTaken::Is(Expr::DateExpressionBefore(d), s, t),
-        Head::Weekday(w) => ExprTaken::Is(Expr::WeekdayExpressionBefore(w), s, t),
+    let expr = match h {
+        Head::Date(d) => Expr::DateExpressionBefore(d),
+        Head::Weekday(w) => Expr::WeekdayExpressionBefore(w),
+    };
+    Dated {
+        expr,
+        taken: s,
+        own: t,
     }
 }
 
-// A head and a tail with "in", whose duration begins at p, and which ends at s: behind a weekday it goes back in the first reading.
-fn inside(reading: Reading, h: Head, p: usize, s: usize) -> ExprTaken
-    ensures { (dur : Duration) (t u : ℕ) → p ≡ t + 1 → s ≡ t + u → result ≡ tailed_answer reading h t (is (inside dur) u) }
+// A weekday with "in" and a duration: it goes back in the first reading.
+fn weekday_in(reading: Reading, w: u32) -> Expr
+    ensures { (dur : Duration) → result ≡ shape (weekday_in reading w dur) }
 {
-    match h {
-        Head::Date(d) => ExprTaken::Is(Expr::DateExpressionAfter(d), s, p),
-        Head::Weekday(w) => match reading {
-            Reading::First => ExprTaken::Is(Expr::WeekdayExpressionBefore(w), s, p),
-            Reading::Second => ExprTaken::Is(Expr::WeekdayExpressionAfter(w), s, p),
-        },
+    match reading {
+        Reading::First => Expr::WeekdayExpressionBefore(w),
+        Reading::Second => Expr::WeekdayExpressionAfter(w),
+    }
+}
+
+// A head and a tail with "in", whose duration begins at p, and which ends at s.
+fn inside(reading: Reading, h: Head, p: usize, s: usize) -> Dated
+    ensures { (dur : Duration) (t u : ℕ) → p ≡ t + 1 → s ≡ t + u → Ok (Some result) ≡ tailed_answer reading h t (is (inside dur) u) }
+{
+    let expr = match h {
+        Head::Date(d) => Expr::DateExpressionAfter(d),
+        Head::Weekday(w) => weekday_in(reading, w),
+    };
+    Dated {
+        expr,
+        taken: s,
+        own: p,
     }
 }
 
 // in <duration>, unless that is sub-daily, behind a head of t lexemes
-fn read_in_tail(reading: Reading, l: &[u64], h: Head, t: usize) -> ExprTaken
+#[tactic(auto, unfolding(crate::specs::DateExprs::in_tail_of))]
+fn read_in_tail(reading: Reading, l: &[u64], h: Head, t: usize) -> Result<Option<Dated>, Overflow>
     requires { t ≤ length l.now }
     ensures { result ≡ tailed_answer reading h t (in_tail_of reading (drop t l.now)) }
 {
     let tail = rest(l, t);
-    if is_at(tail, 0, IN) {
-        let p = t + 1;
-        match read_duration(reading, rest(tail, 1)) {
-            Taken::Is {
-                taken: u,
-                sub_daily,
-            } => {
-                if sub_daily {
-                    return stray(h, t, p);
-                }
-                return inside(reading, h, p, p + u);
-            }
-            Taken::Nothing => {
-                return stray(h, t, p);
-            }
-            Taken::Overflow => {
-                return ExprTaken::Overflow;
-            }
-        }
+    if !is_at(tail, 0, IN) {
+        return Ok(Some(stray(h, t, t)));
     }
-    stray(h, t, t)
+    let p = t + 1;
+    match read_duration(reading, rest(tail, 1))? {
+        Some(span) if !span.sub_daily => Ok(Some(inside(reading, h, p, p + span.taken))),
+        _ => Ok(Some(stray(h, t, p))),
+    }
 }
 
 // <duration> ago, unless that is sub-daily; else in <duration>
-fn read_duration_tail(reading: Reading, l: &[u64], h: Head, t: usize) -> ExprTaken
+#[tactic(auto, unfolding(crate::specs::DateExprs::duration_tail_of))]
+fn read_duration_tail(
+    reading: Reading,
+    l: &[u64],
+    h: Head,
+    t: usize,
+) -> Result<Option<Dated>, Overflow>
     requires { t ≤ length l.now }
     ensures { result ≡ tailed_answer reading h t (duration_tail_of reading (drop t l.now)) }
 {
     let tail = rest(l, t);
-    match read_duration(reading, tail) {
-        Taken::Is {
-            taken: u,
-            sub_daily,
-        } => {
-            if is_at(tail, u, AGO) {
-                if sub_daily {
-                    return stray(h, t, t + u);
-                }
-                return ago(h, t, t + u + 1);
-            }
-            stray(h, t, t + u)
-        }
-        Taken::Nothing => read_in_tail(reading, l, h, t),
-        Taken::Overflow => ExprTaken::Overflow,
+    let Some(span) = read_duration(reading, tail)? else {
+        return read_in_tail(reading, l, h, t);
+    };
+    let s = t + span.taken;
+    if is_at(tail, span.taken, AGO) && !span.sub_daily {
+        return Ok(Some(ago(h, t, s + 1)));
     }
+    Ok(Some(stray(h, t, s)))
 }
 
 // <relative_specifier> <unit> | <duration> ago | in <duration>, behind a head of t lexemes; not looked for where no lexeme is left
-fn read_tail(reading: Reading, l: &[u64], h: Head, t: usize) -> ExprTaken
+#[tactic(auto, using(crate::proofs::ExprAnswers::tail_none), unfolding(crate::specs::DateExprs::tail_of))]
+fn read_tail(reading: Reading, l: &[u64], h: Head, t: usize) -> Result<Option<Dated>, Overflow>
     requires { t ≤ length l.now }
     ensures { result ≡ tailed_answer reading h t (tail_of reading (drop t l.now)) }
 {
     if l.len() <= t {
-        return stray(h, t, t);
+        return Ok(Some(stray(h, t, t)));
     }
     let tail = rest(l, t);
-    let SpecifierFound::Is(spec) = read_specifier(tail) else {
+    let Some(spec) = read_specifier(tail) else {
         return read_duration_tail(reading, l, h, t);
     };
-    let UnitFound::Is(unit) = read_unit(rest(tail, 1)) else {
-        return stray(h, t, t + 1);
+    let Some(unit) = read_unit(rest(tail, 1)) else {
+        return Ok(Some(stray(h, t, t + 1)));
     };
-    relative(h, spec, unit, t + 2)
-}
-
-// Where no date is found: nothing, or the overflow.
-fn expr_stopped(a: DateFound) -> ExprTaken
-    ensures { result ≡ answer_at 0 (stopped (parsed_date a)) }
-{
-    let DateFound::Overflow = a else {
-        return ExprTaken::Nothing;
-    };
-    ExprTaken::Overflow
+    Ok(Some(relative(h, spec, unit, t + 2)))
 }
 
 // after <date> | from <date>: the date behind a duration and its connection, which end at t
-fn read_after(reading: Reading, l: &[u64], t: usize) -> ExprTaken
+fn read_after(reading: Reading, l: &[u64], t: usize) -> Result<Option<Dated>, Overflow>
     requires { t ≤ length l.now }
     ensures { (dur : Duration) → result ≡ answer_at 0 (and_then (date_of reading (drop t l.now)) (λ d u. is (after dur d) (t + u))) }
 {
-    let a = read_date(reading, rest(l, t));
-    let DateFound::Is(d, u) = a else {
-        return expr_stopped(a);
+    let Some((d, u)) = read_date(reading, rest(l, t))? else {
+        return Ok(None);
     };
-    ExprTaken::Is(Expr::After(d), t + u, 0)
+    Ok(Some(Dated {
+        expr: Expr::After(d),
+        taken: t + u,
+        own: 0,
+    }))
 }
 
-// What stands behind a duration of t lexemes; a sub-daily one is given up.
-fn with_duration(reading: Reading, l: &[u64], t: usize, sub_daily: bool) -> ExprTaken
-    requires { t ≤ length l.now }
-    ensures { (dur : Duration) → is_sub_daily dur ≡ sub_daily → result ≡ answer_at 0 (with_duration_of reading dur t l.now) }
+// What stands behind a duration; a sub-daily one is given up.
+#[tactic(auto, unfolding(crate::specs::DateExprs::with_duration_of))]
+fn with_duration(reading: Reading, l: &[u64], span: Span) -> Result<Option<Dated>, Overflow>
+    requires { span.taken ≤ length l.now }
+    ensures { (dur : Duration) → is_sub_daily dur ≡ span.sub_daily → result ≡ answer_at 0 (with_duration_of reading dur span.taken l.now) }
 {
-    if sub_daily {
-        return ExprTaken::Nothing;
+    let t = span.taken;
+    if span.sub_daily {
+        return Ok(None);
     }
     if is_at(l, t, AGO) {
-        return ExprTaken::Is(Expr::Before(Date::Empty), t + 1, 0);
+        return Ok(Some(Dated {
+            expr: Expr::Before(Date::Empty),
+            taken: t + 1,
+            own: 0,
+        }));
     }
-    if is_at(l, t, AFTER) {
+    if is_at(l, t, AFTER) || is_at(l, t, FROM) {
         return read_after(reading, l, t + 1);
     }
-    if is_at(l, t, FROM) {
-        return read_after(reading, l, t + 1);
-    }
-    ExprTaken::Nothing
+    Ok(None)
 }
 
 // <relative_specifier> <weekday> | <relative_specifier> <unit>
-fn read_relative(l: &[u64]) -> ExprTaken
-    ensures { result ≡ answer_at 0 (relative_expr_of l.now) }
+#[tactic(auto, unfolding(crate::specs::DateExprs::relative_expr_of))]
+fn read_relative(l: &[u64]) -> Option<Dated>
+    ensures { Ok result ≡ answer_at 0 (relative_expr_of l.now) }
 {
-    let SpecifierFound::Is(spec) = read_specifier(l) else {
-        return ExprTaken::Nothing;
-    };
+    let spec = read_specifier(l)?;
     let after = rest(l, 1);
-    let WeekdayFound::Is(w) = read_weekday(after) else {
-        let UnitFound::Is(unit) = read_unit(after) else {
-            return ExprTaken::Nothing;
-        };
-        return ExprTaken::Is(Expr::UnitRelative(spec, unit), 2, 0);
+    let expr = match read_weekday(after) {
+        Some(w) => Expr::RelativeWeekday(spec, w),
+        None => Expr::UnitRelative(spec, read_unit(after)?),
     };
-    ExprTaken::Is(Expr::RelativeWeekday(spec, w), 2, 0)
+    Some(Dated {
+        expr,
+        taken: 2,
+        own: 0,
+    })
 }
 
 // A weekday and its tail, or a relative specifier.
-fn read_weekday_expr(reading: Reading, l: &[u64]) -> ExprTaken
+#[tactic(auto, unfolding(crate::specs::DateExprs::weekday_expr_of))]
+fn read_weekday_expr(reading: Reading, l: &[u64]) -> Result<Option<Dated>, Overflow>
     ensures { result ≡ answer_at (weekday_place reading l.now) (weekday_expr_of reading l.now) }
 {
-    let WeekdayFound::Is(w) = read_weekday(l) else {
-        return read_relative(l);
-    };
-    read_tail(reading, l, Head::Weekday(w), 1)
+    match read_weekday(l) {
+        Some(w) => read_tail(reading, l, Head::Weekday(w), 1),
+        None => Ok(read_relative(l)),
+    }
 }
 
 // A duration and what stands behind it, or what begins with a weekday or a relative specifier.
-fn read_undated(reading: Reading, l: &[u64]) -> ExprTaken
+#[tactic(auto, unfolding(crate::specs::DateExprs::undated_of))]
+fn read_undated(reading: Reading, l: &[u64]) -> Result<Option<Dated>, Overflow>
     ensures { result ≡ answer_at (undated_place reading l.now) (undated_of reading l.now) }
 {
-    match read_duration(reading, l) {
-        Taken::Is {
-            taken: t,
-            sub_daily,
-        } => with_duration(reading, l, t, sub_daily),
-        Taken::Nothing => read_weekday_expr(reading, l),
-        Taken::Overflow => ExprTaken::Overflow,
+    match read_duration(reading, l)? {
+        Some(span) => with_duration(reading, l, span),
+        None => read_weekday_expr(reading, l),
     }
 }
 
 // DateExpr::parse: its shape, and where its duration begins
-pub fn read_expr(reading: Reading, l: &[u64]) -> ExprTaken
+pub fn read_expr(reading: Reading, l: &[u64]) -> Result<Option<Dated>, Overflow>
     ensures value { result ≡ expr_answer reading l.now (date_expr_of reading l.now) }
     ensures expr_counted { ExprCounted result (length l.now) }
 {
-    match read_date(reading, l) {
-        DateFound::Is(d, t) => read_tail(reading, l, Head::Date(d), t),
-        DateFound::Nothing => read_undated(reading, l),
-        DateFound::Overflow => ExprTaken::Overflow,
+    match read_date(reading, l)? {
+        Some((d, t)) => read_tail(reading, l, Head::Date(d), t),
+        None => read_undated(reading, l),
     }
 }

@@ -5,7 +5,9 @@ use mathlib.Core.Path.{◌≡◌, refl}
 use mathlib.Core.Bool.{Bool, true, false, cond, ◌&&◌}
 use mathlib.Core.List.{List, [], ◌∷◌}
 use lib.Dec.{leb}
-use Rattle.refusals.specs.Table.{InvalidMoment, NoStart, NoNext}
+use Rattle.refusals.specs.Table.{number_of}
+use Rattle.refusals.specs.declared.Reason.{Reason}
+use Rattle.refusals.specs.declared.Reason.TheVariants.{InvalidMoment, NoStart, NoNext}
 use Rattle.refusals.specs.Answers.{Answer, given, refusal_at, refuse, and_then}
 use Rattle.refusals.proofs.Holds.{Holds, of_given, of_refusal, Bounded}
 use Rattle.calendar.specs.Moments.{is_moment, at_day, instant_of, reached_of}
@@ -26,7 +28,7 @@ AnyMoment t = Unit
 abbrev Told : Answer Moment → Type 0
 Told w = Holds AnyMoment (Bounded 8 20 0) w
 
-plain : (k : ℕ) → 8 ≤ k → k ≤ 20 → Told (refuse k 0 0)
+plain : (k : Reason) → 8 ≤ number_of k → number_of k ≤ 20 → Told (refuse k 0 0)
 plain k low high = of_refusal {r = refusal_at k 0 0} (record { least = low; most = high; start = omega arith; within = omega arith })
 
 first_told : (t asked : Moment) (l : List ℕ) → Told (first_after t asked l)

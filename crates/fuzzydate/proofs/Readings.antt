@@ -1,19 +1,23 @@
 -- What holds in either reading holds for every number that a caller gives: 15 stands for those that are no reading.
 use Prim.Native.Nat.{ℕ, ◌≤◌, min}
 use native.Mathlib.Omega.{arith}
-use mathlib.Core.Path.{◌≡◌, refl}
+use mathlib.Core.Path.{◌≡◌, refl, sym}
 use mathlib.Core.Bool.{Bool, true, false, cond}
 use mathlib.Core.List.{List}
 use mathlib.Core.Logic.{⊎_elim}
 use lib.Dec.{eqb}
 use lib.ListN.{length}
 use borrow.Author.Tests.{ne_eqb}
-use Rattle.refusals.specs.Table.{NoReading}
-use Rattle.refusals.specs.Answers.{Answer, given, refusal_at, refuse, and_then}
-use Rattle.refusals.proofs.Holds.{Holds, of_given, of_refusal, Bounded, given_holds}
+use Rattle.std.specs.Prelude.{Result, Ok, Err, IfErr}
+use Rattle.refusals.specs.declared.Reason.{Reason}
+use Rattle.refusals.specs.declared.Reason.TheVariants.{NoReading}
+use Rattle.refusals.specs.Answers.{Answer, given, refusal_at, refuse, and_then, answer_from}
+use Rattle.refusals.specs.declared.Refusal.{Refusal}
+use Rattle.refusals.proofs.Holds.{Holds, of_given, of_refusal, Bounded, given_holds, refusal_holds}
 use Rattle.calendar.specs.Moments.{IsMoment}
 use Rattle.calendar.specs.declared.moments.Moment.{Moment}
 use Rattle.lexer.specs.Keywords.{words_in}
+use Rattle.lexer.specs.Readings.{reading_numbered}
 use Rattle.lexer.specs.declared.reading.Reading.{Reading}
 use Rattle.lexer.specs.declared.reading.Reading.TheVariants.{First, Second}
 use Rattle.phrase.specs.Read.{read_of}
@@ -30,7 +34,7 @@ use Rattle.zoned.specs.Local.{IsLocal, run_in_zone, evaluate_in_zone}
 use Rattle.zoned.specs.declared.local.Local.{Local}
 use Rattle.zoned.proofs.Calls.{zone_calls_alike}
 use Rattle.zoned.proofs.Settles.{Stops, zone_settled}
-use Rattle.fuzzydate.specs.Called.{reading_of, answer_in, ready_in, read_in_zone}
+use Rattle.fuzzydate.specs.Called.{reading_of, answer_in, Part, ready_in, read_in_zone}
 
 -- either reading, or 15
 by_number : (P : Answer Reading → Type 0) (k : ℕ) → ((reading : Reading) → P (given reading)) → P (refuse NoReading 0 0) → P (reading_of k)
@@ -40,6 +44,19 @@ by_number P k each none = go (eqb k 1) (eqb k 2)
     go true b = each First
     go false true = each Second
     go false false = none
+
+-- the answer that the code's reading of a number is
+abbrev pub chosen : Result Reading Reason → Answer Reading
+chosen (Ok reading) = given reading
+chosen (Err k) = refuse k 0 0
+
+pub numbered : (k : ℕ) → reading_of k ≡ chosen (reading_numbered k)
+numbered k = go (eqb k 1) (eqb k 2)
+  where
+    go : (a b : Bool) → cond a (given First) (cond b (given Second) (refuse NoReading 0 0)) ≡ chosen (cond a (Ok First) (cond b (Ok Second) (Err NoReading)))
+    go true b = refl
+    go false true = refl
+    go false false = refl
 
 -- a number that is neither 1 nor 2 is 15
 pub no_reading : (k : ℕ) → (k ≡ 1 → ⊥) → (k ≡ 2 → ⊥) → reading_of k ≡ refuse NoReading 0 0
@@ -57,7 +74,16 @@ settled_in k s n =
     (λ reading. up_to_15 (omega arith) (settled reading s n))
     (of_refusal {r = refusal_at NoReading 0 0} (omega arith))
 
--- so is what a phrase is made ready as
+-- so the code's answer has its part there too
+pub part_in : (k : ℕ) (s : List ℕ) (n : Moment) (r : Result Moment Refusal) → answer_from r ≡ answer_in k s n → IfErr r Part
+part_in k s n (Ok t) e = tt
+part_in k s n (Err x) e = let b = refusal_holds (settled_in k s n) (sym e) in (omega (arith, b), omega (arith, b))
+
+-- without a reading no phrase is made ready
+pub none_ready : (k : ℕ) (s : List ℕ) {why : Reason} → reading_numbered k ≡ Err why → ready_in k s ≡ refuse why 0 0
+none_ready k s e = rw (numbered k, e)
+
+-- what a phrase is made ready as is bounded alike
 pub made_in : (k : ℕ) (s : List ℕ) → Holds MadeReady (Bounded 1 15 (min (length s) 256)) (ready_in k s)
 made_in k s =
     by_number (λ w. Holds MadeReady (Bounded 1 15 (min (length s) 256)) (and_then w (λ reading. ready_of reading (words_in reading) s))) k

@@ -1,16 +1,16 @@
 -- What an app gets: one number, and what is written into the array that it lends.
-use Rattle.std.specs.Prelude.{ℕ, ◌+◌, ◌-◌, ◌*◌, cond, ◌&&◌, List, [], ◌∷◌, ◌++◌, eqb, length, get_or}
+use Rattle.std.specs.Prelude.{ℕ, ◌+◌, ◌-◌, ◌*◌, ◌≤◌, cond, ◌&&◌, List, [], ◌∷◌, ◌++◌, eqb, length, get_or, Result, Ok, Err, Option, Some, None}
 use Rattle.std.proofs.lemmas.List.Edits.{sets}
-use Rattle.refusals.specs.Table.{NoReading, InvalidMoment}
+use Rattle.refusals.specs.Table.{number_of}
+use Rattle.refusals.specs.declared.Reason.TheVariants.{NoReading, InvalidMoment}
 use Rattle.refusals.specs.Answers.{Answer, given, refused, refuse, and_then}
+use Rattle.refusals.specs.declared.Reason.{Reason}
 use Rattle.refusals.specs.declared.Refusal.{Refusal}
 use Rattle.calendar.specs.Moments.{seven, moment_in, is_moment}
 use Rattle.calendar.specs.declared.moments.Moment.{Moment}
 use Rattle.lexer.specs.Keywords.{words_in}
 use Rattle.lexer.specs.Words.{folded}
 use Rattle.lexer.specs.Visits.{looked_up}
-use Rattle.lexer.specs.declared.find.Found.{Found}
-use Rattle.lexer.specs.declared.find.Found.TheVariants.{Lexeme, Unknown}
 use Rattle.lexer.specs.declared.find.Looked.{Looked}
 use Rattle.lexer.specs.declared.reading.Reading.{Reading}
 use Rattle.lexer.specs.declared.reading.Reading.TheVariants.{First, Second}
@@ -27,9 +27,8 @@ use Rattle.zones.specs.Instants.{instant_by}
 use Rattle.zones.specs.declared.instants.Instant.{Instant}
 use Rattle.zoned.specs.Local.{evaluate_in_zone}
 use Rattle.zoned.specs.declared.local.Local.{Local}
-use Rattle.board.specs.Boards.{Done, Due}
-use Rattle.fuzzydate.specs.declared.Chosen.{Chosen}
-use Rattle.fuzzydate.specs.declared.Chosen.TheVariants.{As, Neither}
+use Rattle.board.specs.Boards.{Done}
+use Rattle.board.specs.declared.Due.{Due}
 
 -- the version of what apps call, which the file VERSION says
 abbrev pub major : ℕ
@@ -49,11 +48,6 @@ version = 1000000 * major + 1000 * minor + patch
 abbrev pub reading_of : ℕ → Answer Reading
 reading_of k = cond (eqb k 1) (given First) (cond (eqb k 2) (given Second) (refuse NoReading 0 0))
 
--- the code's choice
-abbrev pub chosen_from : Chosen → Answer Reading
-chosen_from (As reading) = given reading
-chosen_from Neither = refuse NoReading 0 0
-
 -- a phrase at a now in the reading of a number
 abbrev pub answer_in : ℕ → List ℕ → Moment → Answer Moment
 answer_in k s n = and_then (reading_of k) (λ reading. answer_of reading (words_in reading) s n)
@@ -64,7 +58,11 @@ ready_in k s = and_then (reading_of k) (λ reading. ready_of reading (words_in r
 
 -- a refusal's number, its place from bit 16 on, and the length of its part from bit 32 on
 abbrev pub code : Refusal → ℕ
-code r = r.number + 65536 * r.place + 4294967296 * (r.end - r.place)
+code r = number_of r.reason + 65536 * r.place + 4294967296 * (r.end - r.place)
+
+-- a part within the bytes that a phrase may have
+abbrev pub Part : Refusal → Type 0
+Part r = (r.place ≤ r.end) × (r.end ≤ 256)
 
 -- 0 for a moment or a stamp
 abbrev pub code_of : {A : Type 0} → Answer A → ℕ
@@ -104,18 +102,28 @@ abbrev pub written_code : Answer (List ℕ) → ℕ
 written_code (given text) = 4294967296 * length text
 written_code (refused r) = code r
 
+-- the same of the code's answer
+abbrev pub wrote_code : Result ℕ Reason → ℕ
+wrote_code (Ok n) = 4294967296 * n
+wrote_code (Err k) = number_of k
+
+-- 0 for what is done
+abbrev pub done_code : Result (Unit {0}) Reason → ℕ
+done_code (Ok x) = 0
+done_code (Err k) = number_of k
+
 -- a word looked up in the reading of a number, letters in either case
 abbrev pub found_in : ℕ → List ℕ → Answer Looked
 found_in k w = and_then (reading_of k) (λ reading. given (looked_up (words_in reading) (folded w)))
 
 -- a lexeme's code, 0 for a word that is absent
-abbrev pub lexeme_code : Found → ℕ
-lexeme_code (Lexeme l) = l
-lexeme_code Unknown = 0
+abbrev pub lexeme_code : Option ℕ → ℕ
+lexeme_code (Some l) = l
+lexeme_code None = 0
 
 -- that code and the count of comparisons are written over what was lent; on a refusal it stays
 abbrev pub found_after : Answer Looked → List ℕ → List ℕ
-found_after (given l) lent = lexeme_code l.found ∷ l.count ∷ []
+found_after (given l) lent = lexeme_code l.code ∷ l.count ∷ []
 found_after (refused r) lent = lent
 
 -- a rule's occurrences from a start on, as many as so many numbers have room for: "8 for a start that is no moment, 18 for a rule outside this,
@@ -140,9 +148,9 @@ abbrev pub due_after : Answer Local → List ℕ → List ℕ
 due_after (given x) lent = turned x.second ∷ []
 due_after (refused r) lent = lent
 
--- and the civil moment's seven numbers, west, and the offset in seconds
+-- and the civil moment's seven numbers, west as 1 or 0, and the offset in seconds
 abbrev pub local_after : Answer Local → List ℕ → List ℕ
-local_after (given x) lent = nine x.civil x.west x.offset
+local_after (given x) lent = nine x.civil (cond x.west 1 0) x.offset
 local_after (refused r) lent = lent
 
 -- of a reminder that is added: 0 for the number and the place, and its slot from bit 32 on

@@ -178,8 +178,8 @@ pub extern "C" fn fuzzy_board_make_in(
     state: &mut [u32; 8],
     at: &[u32; MOMENT_NUMBERS],
 ) -> u64
-    ensures by_index { (ready keys : List ℕ) → result ≡ code_of (make_of (memory ready lengths.old keys state.old) (moment_in at.now)) }
-    ensures by_index_2 { (ready keys : List ℕ) → let m = memory ready lengths.old keys state.old in
+    ensures value { (ready keys : List ℕ) → result ≡ code_of (make_of (memory ready lengths.old keys state.old) (moment_in at.now)) }
+    ensures state_after { (ready keys : List ℕ) → let m = memory ready lengths.old keys state.old in
         memory ready lengths.new keys state.new ≡ memory_after m (make_of m (moment_in at.now)) }
 {
     fuzzydate::fuzzy_board_make_in(lengths, state, at)
@@ -210,8 +210,8 @@ pub extern "C" fn fuzzy_board_remove_in(
     state: &mut [u32; 8],
     slot: u32,
 ) -> u64
-    ensures by_index { (ready : List ℕ) → result ≡ code_of (remove_of (memory ready lengths.old keys.old state.old) slot) }
-    ensures by_index_2 { (ready : List ℕ) → let m = memory ready lengths.old keys.old state.old in
+    ensures value { (ready : List ℕ) → result ≡ code_of (remove_of (memory ready lengths.old keys.old state.old) slot) }
+    ensures state_after { (ready : List ℕ) → let m = memory ready lengths.old keys.old state.old in
         memory ready lengths.new keys.new state.new ≡ memory_after m (remove_of m slot) }
 {
     fuzzydate::fuzzy_board_remove_in(lengths, keys, state, slot)
@@ -240,8 +240,8 @@ pub extern "C" fn fuzzy_board_head_in(
     state: &[u32; 8],
     moment: &mut [u32; MOMENT_NUMBERS],
 ) -> u64
-    ensures by_index { (ready lengths : List ℕ) → result ≡ head_code (head_of (memory ready lengths keys.now state.now)) }
-    ensures by_index_2 { (ready lengths : List ℕ) → moment.new ≡ head_after (head_of (memory ready lengths keys.now state.now)) moment.old }
+    ensures value { (ready lengths : List ℕ) → result ≡ head_code (head_of (memory ready lengths keys.now state.now)) }
+    ensures moment_after { (ready lengths : List ℕ) → moment.new ≡ head_after (head_of (memory ready lengths keys.now state.now)) moment.old }
 {
     fuzzydate::fuzzy_board_head_in(keys, state, moment)
 }
@@ -253,8 +253,8 @@ pub extern "C" fn fuzzy_board_order_in(
     state: &[u32; 8],
     slots: &mut [u32; BOARD_SLOTS],
 ) -> u64
-    ensures by_index { (ready lengths : List ℕ) → result ≡ 4294967296 * length (order_of (memory ready lengths keys.now state.now)) }
-    ensures by_index_2 { (ready lengths : List ℕ) → slots.new ≡ sets slots.old 0 (order_of (memory ready lengths keys.now state.now)) }
+    ensures value { (ready lengths : List ℕ) → result ≡ 4294967296 * length (order_of (memory ready lengths keys.now state.now)) }
+    ensures slots_after { (ready lengths : List ℕ) → slots.new ≡ sets slots.old 0 (order_of (memory ready lengths keys.now state.now)) }
 {
     fuzzydate::fuzzy_board_order_in(keys, state, slots)
 }

@@ -3,6 +3,7 @@ use Prim.Native.Nat.{ℕ}
 use native.Mathlib.Omega.{arith}
 use mathlib.Core.Path.{◌≡◌, refl}
 use mathlib.Core.Bool.{Bool, true, false, cond}
+use Rattle.refusals.specs.declared.Reason.{Reason}
 use Rattle.calendar.specs.Moments.{IsMoment, Outcome, moment, refused, and_then}
 use Rattle.calendar.specs.declared.moments.Moment.{Moment}
 use Rattle.answer.proofs.Leads.{Leads, leads, refuses}
@@ -17,14 +18,14 @@ pub both : {t u : Moment} → InOrder t u → Kept (moment t) (moment u)
 both {t} {u} a = record { kept = λ x y e f. let p : t ≡ x = cc in let q : u ≡ y = cc in rw (← p, ← q) a }
 
 -- "refused runs make no claim"
-pub no_first : {k : ℕ} {p : Outcome} → Kept (refused k) p
+pub no_first : {k : Reason} {p : Outcome} → Kept (refused k) p
 no_first = record { kept = λ x y e f. let z : ◌≡◌ {A = ℕ} 0 1 = cc in absurd (omega arith) }
 
-no_second : {k : ℕ} {o : Outcome} → Kept o (refused k)
+no_second : {k : Reason} {o : Outcome} → Kept o (refused k)
 no_second = record { kept = λ x y e f. let z : ◌≡◌ {A = ℕ} 0 1 = cc in absurd (omega arith) }
 
 -- by a test of each
-pub tested : (b c : Bool) (k : ℕ) (o p : Outcome) → (b ≡ true → c ≡ true → Kept o p) → Kept (cond b o (refused k)) (cond c p (refused k))
+pub tested : (b c : Bool) (k : Reason) (o p : Outcome) → (b ≡ true → c ≡ true → Kept o p) → Kept (cond b o (refused k)) (cond c p (refused k))
 tested true true k o p f = f refl refl
 tested true false k o p f = no_second
 tested false c k o p f = no_first

@@ -8,7 +8,7 @@ use Rattle.lexer.specs.Lexemes.{Fifty, Fourty, Five, Eight, In, Day, From, Janua
 use Rattle.digits.specs.Bytes.{bytes_of}
 use Rattle.lexer.specs.Keywords.{keywords, words_in}
 use Rattle.lexer.specs.Classes.{class_of, mark_of}
-use Rattle.refusals.specs.Table as refusal
+use Rattle.refusals.specs.declared.Reason.TheVariants as refusal
 use Rattle.refusals.specs.Answers.{given, refuse}
 use Rattle.lexer.specs.Lex.{word_at, number_at, token_at, Item, item, Lexed, lexed, codes_of, front}
 use Rattle.lexer.specs.declared.reading.Reading.{Reading}

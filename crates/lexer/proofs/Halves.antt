@@ -11,10 +11,9 @@ use lib.ListN.{length}
 use Rattle.digits.proofs.Order.{Tri, below, equal, above, tri}
 use Rattle.lexer.specs.Words.{Word, ordered, is_same, meaning}
 use Rattle.lexer.specs.Table.{is_less, spelling_at, lexeme_at}
-use Rattle.lexer.specs.declared.find.Order.{Order}
-use Rattle.lexer.specs.declared.find.Order.TheVariants.{Less, Same, More}
-use Rattle.lexer.specs.declared.find.Found.{Found}
-use Rattle.lexer.specs.declared.find.Found.TheVariants.{Lexeme, Unknown}
+use Rattle.std.specs.declared.cmp.Ordering.{Ordering}
+use Rattle.std.specs.declared.cmp.Ordering.TheVariants.{Less, Equal, Greater}
+use Rattle.std.specs.Prelude.{Option, Some, None}
 use Rattle.lexer.proofs.Order.{same_equal, more_less, less_more, less_trans, clash}
 
 -- w comes before the first row
@@ -27,10 +26,10 @@ abbrev pub increasing : List Word → Bool
 increasing [] = true
 increasing (w ∷ ws) = before w ws && increasing ws
 
-is_less_lem : (o : Order) → T (is_less o) → o ≡ Less
+is_less_lem : (o : Ordering) → T (is_less o) → o ≡ Less
 is_less_lem Less t = refl
-is_less_lem Same t = absurd t
-is_less_lem More t = absurd t
+is_less_lem Equal t = absurd t
+is_less_lem Greater t = absurd t
 
 -- the first row comes before each later one
 first_least : (w : Word) (ws : List Word) → T (before w ws) → T (increasing ws) → (k : ℕ) → k < length ws
@@ -61,10 +60,10 @@ module _ (ws : List Word) (t : T (increasing ws)) (f : List ℕ) (m : ℕ) (hm :
       go (above l) = absurd (omega arith)
 
   -- row m comes after f: so does each row from it on
-  pub all_more : ordered (spelling_at ws m) f ≡ More → (k : ℕ) → m ≤ k → k < length ws → ordered (spelling_at ws k) f ≡ More
+  pub all_more : ordered (spelling_at ws m) f ≡ Greater → (k : ℕ) → m ≤ k → k < length ws → ordered (spelling_at ws k) f ≡ Greater
   all_more e k h hk = go (tri m k)
     where
-      go : Tri m k → ordered (spelling_at ws k) f ≡ More
+      go : Tri m k → ordered (spelling_at ws k) f ≡ Greater
       go (below l) =
           less_more f (spelling_at ws k)
           (less_trans f (spelling_at ws m) (spelling_at ws k) (more_less (spelling_at ws m) f e) (rising ws t m k l hk))
@@ -72,27 +71,27 @@ module _ (ws : List Word) (t : T (increasing ws)) (f : List ℕ) (m : ℕ) (hm :
       go (above l) = absurd (omega arith)
 
   -- row m spells f: no row before it does
-  pub none_before : ordered (spelling_at ws m) f ≡ Same → (k : ℕ) → k < m → ordered (spelling_at ws k) f ≡ Same → ⊥
+  pub none_before : ordered (spelling_at ws m) f ≡ Equal → (k : ℕ) → k < m → ordered (spelling_at ws k) f ≡ Equal → ⊥
   none_before e k h d = clash (ap (ordered (spelling_at ws k)) (sym (same_equal (spelling_at ws m) f e)) ∙ rising ws t k m h hm) d tt
 
 -- a row that does not spell f is passed over
-passed : (o : Order) (a b : Found) → (o ≡ Same → ⊥) → cond (is_same o) a b ≡ b
+passed : (o : Ordering) (a b : Option ℕ) → (o ≡ Equal → ⊥) → cond (is_same o) a b ≡ b
 passed Less a b n = refl
-passed Same a b n = absurd (n refl)
-passed More a b n = refl
+passed Equal a b n = absurd (n refl)
+passed Greater a b n = refl
 
 -- no row spells f
-pub absent : (ws : List Word) (f : List ℕ) → ((k : ℕ) → k < length ws → ordered (spelling_at ws k) f ≡ Same → ⊥) → meaning ws f ≡ Unknown
+pub absent : (ws : List Word) (f : List ℕ) → ((k : ℕ) → k < length ws → ordered (spelling_at ws k) f ≡ Equal → ⊥) → meaning ws f ≡ None
 absent [] f none = refl
 absent (w ∷ ws) f none =
-    passed (ordered w.spelling f) (Lexeme w.lexeme) (meaning ws f) (none 0 (suc-le-suc zero-le))
+    passed (ordered w.spelling f) (Some w.lexeme) (meaning ws f) (none 0 (suc-le-suc zero-le))
     ∙ absent ws f (λ k h. none (suc k) (suc-le-suc h))
 
 -- row m is the first that spells f
-pub present : (ws : List Word) (f : List ℕ) (m : ℕ) → m < length ws → ((k : ℕ) → k < m → ordered (spelling_at ws k) f ≡ Same → ⊥)
-    → ordered (spelling_at ws m) f ≡ Same → meaning ws f ≡ Lexeme (lexeme_at ws m)
+pub present : (ws : List Word) (f : List ℕ) (m : ℕ) → m < length ws → ((k : ℕ) → k < m → ordered (spelling_at ws k) f ≡ Equal → ⊥)
+    → ordered (spelling_at ws m) f ≡ Equal → meaning ws f ≡ Some (lexeme_at ws m)
 present [] f m h none e = absurd (not-suc-le-zero h)
-present (w ∷ ws) f zero h none e = ap (λ (o : Order). cond (is_same o) (Lexeme w.lexeme) (meaning ws f)) e
+present (w ∷ ws) f zero h none e = ap (λ (o : Ordering). cond (is_same o) (Some w.lexeme) (meaning ws f)) e
 present (w ∷ ws) f (suc m) h none e =
-    passed (ordered w.spelling f) (Lexeme w.lexeme) (meaning ws f) (none 0 (suc-le-suc zero-le))
+    passed (ordered w.spelling f) (Some w.lexeme) (meaning ws f) (none 0 (suc-le-suc zero-le))
     ∙ present ws f m (le_of_suc-le-suc h) (λ k l. none (suc k) (suc-le-suc l)) e

@@ -10,8 +10,8 @@ use lib.Ieee.Fits.{and_l, and_r}
 use lib.ListN.{length, drop, length-drop}
 use borrow.Author.Tests.{lt-ltb, le-ltb}
 use Rattle.digits.proofs.Order.{Tri, below, equal, above, tri}
-use Rattle.lexer.specs.declared.find.Order.{Order}
-use Rattle.lexer.specs.declared.find.Order.TheVariants.{Less, Same, More}
+use Rattle.std.specs.declared.cmp.Ordering.{Ordering}
+use Rattle.std.specs.declared.cmp.Ordering.TheVariants.{Less, Equal, Greater}
 use Rattle.lexer.specs.Words.{ordered, is_small, small}
 use Rattle.lexer.specs.Table.{filler, fixed, bytes_from, head_of, tail_of, by_number, by_key, compared_of, Stands}
 
@@ -49,18 +49,18 @@ filler_most n = go (eqb (n % 2) 0)
     go false = omega arith
 
 -- two numbers decide, or what follows them
-module _ (x y : ℕ) (o : Order) where
+module _ (x y : ℕ) (o : Ordering) where
   pub number_less : x < y → by_number x y o ≡ Less
   number_less h = simp (lt-ltb x y h)
 
-  pub number_more : y < x → by_number x y o ≡ More
+  pub number_more : y < x → by_number x y o ≡ Greater
   number_more h = let l : y ≤ x = omega arith in simp (le-ltb x y l, lt-ltb y x h)
 
   number_same : x ≡ y → by_number x y o ≡ o
   number_same e = let h : y ≤ x = omega arith in let l : x ≤ y = omega arith in simp (le-ltb x y h, le-ltb y x l)
 
 -- bytes behind two numbers decide where those are the same
-bytes_behind : (u v b c : ℕ) (o : Order) → b < 256 → c < 256 → by_number u v (by_number b c o) ≡ by_number (u * 256 + b) (v * 256 + c) o
+bytes_behind : (u v b c : ℕ) (o : Ordering) → b < 256 → c < 256 → by_number u v (by_number b c o) ≡ by_number (u * 256 + b) (v * 256 + c) o
 bytes_behind u v b c o hb hc = go (tri u v) (tri b c)
   where
     go : Tri u v → Tri b c → by_number u v (by_number b c o) ≡ by_number (u * 256 + b) (v * 256 + c) o
@@ -74,7 +74,7 @@ bytes_behind u v b c o hb hc = go (tri u v) (tri b c)
         number_same u v (by_number b c o) e ∙ number_more b c o k ∙ sym (number_more (u * 256 + b) (v * 256 + c) o (omega arith))
 
 -- byte order of two words' first n bytes, and what follows them
-abbrev up_to : ℕ → List ℕ → List ℕ → Order → Order
+abbrev up_to : ℕ → List ℕ → List ℕ → Ordering → Ordering
 up_to zero a w o = o
 up_to (suc n) [] [] o = by_number (filler n) (filler n) (up_to n [] [] o)
 up_to (suc n) [] (y ∷ ys) o = by_number (filler n) y (up_to n [] ys o)
@@ -82,7 +82,7 @@ up_to (suc n) (x ∷ xs) [] o = by_number x (filler n) (up_to n xs [] o)
 up_to (suc n) (x ∷ xs) (y ∷ ys) o = by_number x y (up_to n xs ys o)
 
 -- it is the order of the numbers that they say, behind any two numbers
-by_numbers : (n : ℕ) (a w : List ℕ) → Plain a → Plain w → (u v : ℕ) (o : Order)
+by_numbers : (n : ℕ) (a w : List ℕ) → Plain a → Plain w → (u v : ℕ) (o : Ordering)
     → by_number u v (up_to n a w o) ≡ by_number (bytes_from u (fixed n a)) (bytes_from v (fixed n w)) o
 by_numbers zero a w s t u v o = refl
 by_numbers (suc n) [] [] s t u v o =
@@ -102,32 +102,32 @@ by_numbers (suc n) (x ∷ xs) (y ∷ ys) s t u v o =
     ∙ by_numbers n xs ys s.1 t.1 (u * 256 + x) (v * 256 + y) o
 
 -- two words that have both ended are the same
-ended_same : (n : ℕ) → up_to n [] [] Same ≡ Same
+ended_same : (n : ℕ) → up_to n [] [] Equal ≡ Equal
 ended_same zero = refl
-ended_same (suc n) = number_same (filler n) (filler n) (up_to n [] [] Same) refl ∙ ended_same n
+ended_same (suc n) = number_same (filler n) (filler n) (up_to n [] [] Equal) refl ∙ ended_same n
 
 -- a word that has ended comes before one that has not
-module _ (n : ℕ) (y : ℕ) (h : 46 < y) (o : Order) where
+module _ (n : ℕ) (y : ℕ) (h : 46 < y) (o : Ordering) where
   ended_less : by_number (filler n) y o ≡ Less
   ended_less = number_less (filler n) y o (omega (arith, filler_most n))
 
-  ended_more : by_number y (filler n) o ≡ More
+  ended_more : by_number y (filler n) o ≡ Greater
   ended_more = number_more y (filler n) o (omega (arith, filler_most n))
 
 -- the first n bytes decide, or the rests of both words
 ordered_first : (n : ℕ) (a w : List ℕ) → Plain a → Plain w → ordered a w ≡ up_to n a w (ordered (drop n a) (drop n w))
 ordered_first zero a w s t = refl
-ordered_first (suc n) [] [] s t = sym (number_same (filler n) (filler n) (up_to n [] [] Same) refl ∙ ended_same n)
+ordered_first (suc n) [] [] s t = sym (number_same (filler n) (filler n) (up_to n [] [] Equal) refl ∙ ended_same n)
 ordered_first (suc n) [] (y ∷ ys) s t = sym (ended_less n y t.0.0 (up_to n [] ys (ordered [] (drop n ys))))
 ordered_first (suc n) (x ∷ xs) [] s t = sym (ended_more n x s.0.0 (up_to n xs [] (ordered (drop n xs) [])))
 ordered_first (suc n) (x ∷ xs) (y ∷ ys) s t = ap (by_number x y) (ordered_first n xs ys s.1 t.1)
 
 -- of a word that has fewer than n bytes they decide alone
-ordered_all : (n : ℕ) (a w : List ℕ) → Plain a → Plain w → length a < n → ordered a w ≡ up_to n a w Same
+ordered_all : (n : ℕ) (a w : List ℕ) → Plain a → Plain w → length a < n → ordered a w ≡ up_to n a w Equal
 ordered_all zero a w s t h = absurd (not-suc-le-zero h)
-ordered_all (suc n) [] [] s t h = sym (number_same (filler n) (filler n) (up_to n [] [] Same) refl ∙ ended_same n)
-ordered_all (suc n) [] (y ∷ ys) s t h = sym (ended_less n y t.0.0 (up_to n [] ys Same))
-ordered_all (suc n) (x ∷ xs) [] s t h = sym (ended_more n x s.0.0 (up_to n xs [] Same))
+ordered_all (suc n) [] [] s t h = sym (number_same (filler n) (filler n) (up_to n [] [] Equal) refl ∙ ended_same n)
+ordered_all (suc n) [] (y ∷ ys) s t h = sym (ended_less n y t.0.0 (up_to n [] ys Equal))
+ordered_all (suc n) (x ∷ xs) [] s t h = sym (ended_more n x s.0.0 (up_to n xs [] Equal))
 ordered_all (suc n) (x ∷ xs) (y ∷ ys) s t h =
     ap (by_number x y) (ordered_all n xs ys s.1 t.1 (le_of_suc-le-suc h))
 
@@ -139,8 +139,8 @@ key_ordered a w s t h =
     let sa = plain_drop 8 a s in
     let tw = plain_drop 8 w t in
     let rest = ordered (drop 8 a) (drop 8 w) in
-    let tails : rest ≡ by_number (tail_of a) (tail_of w) Same =
-    ordered_all 4 (drop 8 a) (drop 8 w) sa tw (omega (arith, length-drop 8 a)) ∙ by_numbers 4 (drop 8 a) (drop 8 w) sa tw 0 0 Same in
+    let tails : rest ≡ by_number (tail_of a) (tail_of w) Equal =
+    ordered_all 4 (drop 8 a) (drop 8 w) sa tw (omega (arith, length-drop 8 a)) ∙ by_numbers 4 (drop 8 a) (drop 8 w) sa tw 0 0 Equal in
     ordered_first 8 a w s t ∙ by_numbers 8 a w s t 0 0 rest ∙ ap (by_number (head_of a) (head_of w)) tails
 
 -- a word of small letters is stood for by its own two numbers
@@ -159,7 +159,7 @@ compared_ordered [] (y ∷ ys) s = refl
 compared_ordered (x ∷ xs) [] s = refl
 compared_ordered (x ∷ xs) (y ∷ ys) s = go (tri x y) (compared_ordered xs ys (rest_small x xs s))
   where
-    rest : Order
+    rest : Ordering
     rest = ordered xs (map compared_of ys)
 
     go : Tri x y → ordered xs ys ≡ rest → by_number x y (ordered xs ys) ≡ by_number x (compared_of y) rest

@@ -7,16 +7,17 @@ use native.Mathlib.Nat.{not-suc-le-zero, le_of_suc-le-suc}
 use native.Mathlib.Numerals.{add-one}
 use native.Mathlib.Omega.{arith}
 use lib.Dec.{T, eqb, leb, leb→le, ltb}
-use lib.Ieee.Fits.{and_i, and_l, and_r}
+use lib.Ieee.Fits.{and_i, and_r}
 use lib.ListN.{length, get_or, take, drop, drop_of_length-le, length-map}
 use lib.Seq.{drop-cons, drop-drop, length-take-le}
-use borrow.Author.Tests.{eqb-true, ne_eqb, ltb-true, ltb-false}
+use borrow.Author.Tests.{eqb-true, ltb-true, ltb-false}
 use Rattle.digits.specs.Digits.{is_digit}
 use Rattle.lexer.specs.Words.{lower_of, small, folded}
-use Rattle.lexer.specs.Classes.{Letter, is_letter, letter_of, class_of, mark_of}
+use Rattle.std.specs.Prelude.{Some, None, is_some}
+use Rattle.lexer.specs.Classes.{Gap, Letter, Digit, Mark, Stray, is_letter, letter_of, class_of, mark_of, same_class}
 use Rattle.lexer.specs.Table.{fixed, bytes_from, tail_of}
 use Rattle.lexer.specs.Lex.{run, word_from, letter_at}
-use Rattle.lexer.proofs.Runs.{run_most, run_step, run_stop, run_over}
+use Rattle.lexer.proofs.Runs.{same_not, run_most, run_step, run_stop, run_over}
 
 true_T : (b : Bool) → b ≡ true → T b
 true_T b e = rw e tt
@@ -34,34 +35,31 @@ module _ (b : ℕ) where
 
   other_class : is_letter b ≡ false → class_of b ≡ Letter → ⊥
   unfolding class_of
-  other_class e c = go (eqb b 32) (eqb b 9) (is_digit b) (eqb (mark_of b) 0) (simp e at c)
+  other_class e c = go (eqb b 32) (eqb b 9) (is_digit b) (is_some (mark_of b)) (simp e at c)
     where
-      go : (x y d m : Bool) → ◌≡◌ {A = ℕ} (cond x 0 (cond y 0 (cond d 2 (cond m 4 3)))) 1 → ⊥
-      go true y d m q = omega arith
-      go false true d m q = omega arith
-      go false false true m q = omega arith
-      go false false false true q = omega arith
-      go false false false false q = omega arith
+      go : (x y d m : Bool) → cond x Gap (cond y Gap (cond d Digit (cond m Mark Stray))) ≡ Letter → ⊥
+      go true y d m q = cc
+      go false true d m q = cc
+      go false false true m q = cc
+      go false false false true q = cc
+      go false false false false q = cc
 
-  letter_small : is_letter b ≡ true → 97 ≤ lower_of b
-  letter_small e = leb→le 97 (lower_of b) (and_l (leb 97 (lower_of b)) (leb (lower_of b) 122) (true_T (is_letter b) e))
-
-  -- what is no 0 is a letter, and what is 0 is none
-  pub letter_is : (letter_of b ≡ 0 → ⊥) → class_of b ≡ Letter
+  -- what has a small letter is of the class of letters, and nothing else is
+  pub letter_is : is_some (letter_of b) ≡ true → class_of b ≡ Letter
   unfolding letter_of
-  letter_is n = go (is_letter b) refl
+  letter_is h = go (is_letter b) refl h
     where
-      go : (x : Bool) → is_letter b ≡ x → class_of b ≡ Letter
-      go true e = letter_class e
-      go false e = absurd (n (simp e))
+      go : (x : Bool) → is_letter b ≡ x → is_some (cond x (Some (lower_of b)) None) ≡ true → class_of b ≡ Letter
+      go true e q = letter_class e
+      go false e q = absurd (false≢true q)
 
-  pub letter_not : letter_of b ≡ 0 → class_of b ≡ Letter → ⊥
+  pub letter_not : is_some (letter_of b) ≡ false → class_of b ≡ Letter → ⊥
   unfolding letter_of
-  letter_not z = go (is_letter b) refl
+  letter_not h = go (is_letter b) refl h
     where
-      go : (x : Bool) → is_letter b ≡ x → class_of b ≡ Letter → ⊥
-      go true e = absurd (let l = letter_small e in let q = simp e at z in omega arith)
-      go false e = other_class e
+      go : (x : Bool) → is_letter b ≡ x → is_some (cond x (Some (lower_of b)) None) ≡ false → class_of b ≡ Letter → ⊥
+      go true e q = absurd (false≢true (sym q))
+      go false e q = other_class e
 
 -- a letter that stands at a place
 pub record There (s : List ℕ) (a c : ℕ) : Type 0 where
@@ -71,24 +69,29 @@ pub record There (s : List ℕ) (a c : ℕ) : Type 0 where
   pub byte : c < 256
 
 module _ (s : List ℕ) (a : ℕ) where
-  pub letter_there : (letter_at s a ≡ 0 → ⊥) → There s a (letter_at s a)
+  pub letter_there : (c : ℕ) → letter_at s a ≡ Some c → There s a c
   unfolding letter_of
-  letter_there n = go (ltb a (length s)) refl (is_letter (get_or s a 0)) refl
+  letter_there c = go (ltb a (length s)) refl (is_letter (get_or s a 0)) refl
     where
-      go : (x : Bool) → ltb a (length s) ≡ x → (y : Bool) → is_letter (get_or s a 0) ≡ y → There s a (letter_at s a)
-      go true e true f =
+      go : (x : Bool) → ltb a (length s) ≡ x → (y : Bool) → is_letter (get_or s a 0) ≡ y → cond x (cond y (Some (lower_of (get_or s a 0))) None) None ≡ Some c
+          → There s a c
+      go true e true f q =
           let b = get_or s a 0 in
           let most = leb→le (lower_of b) 122 (and_r (leb 97 (lower_of b)) (leb (lower_of b) 122) (true_T (is_letter b) f)) in
-          simp (e, f) (record { within = ltb-true a (length s) e; class = letter_class b f; is = refl; byte = omega arith })
-      go true e false f = absurd (n (simp (e, f)))
-      go false e y f = absurd (n (simp e))
+          let is : c ≡ lower_of b = cc in
+          record { within = ltb-true a (length s) e; class = letter_class b f; is = is; byte = omega arith }
+      go true e false f q = absurd cc
+      go false e y f q = absurd cc
 
-  pub letter_none : letter_at s a ≡ 0 → run Letter (drop a s) ≡ 0
-  letter_none z = go (ltb a (length s)) refl
+  pub letter_none : letter_at s a ≡ None → run Letter (drop a s) ≡ 0
+  unfolding letter_of
+  letter_none = go (ltb a (length s)) refl (is_letter (get_or s a 0)) refl
     where
-      go : (x : Bool) → ltb a (length s) ≡ x → run Letter (drop a s) ≡ 0
-      go true e = run_stop Letter s a (ltb-true a (length s) e) (letter_not (get_or s a 0) (simp e at z))
-      go false e = run_over Letter s a (ltb-false a (length s) e)
+      go : (x : Bool) → ltb a (length s) ≡ x → (y : Bool) → is_letter (get_or s a 0) ≡ y → cond x (cond y (Some (lower_of (get_or s a 0))) None) None ≡ None
+          → run Letter (drop a s) ≡ 0
+      go true e true f q = absurd cc
+      go true e false f q = run_stop Letter s a (ltb-true a (length s) e) (other_class (get_or s a 0) f)
+      go false e y f q = run_over Letter s a (ltb-false a (length s) e)
 
 -- the run of letters at the front of a list, as a word
 abbrev letters_of : List ℕ → List ℕ
@@ -122,7 +125,7 @@ letters_small (b ∷ l) = go (is_letter b) refl (letters_small l)
   where
     go : (x : Bool) → is_letter b ≡ x → T (small (letters_of l)) → T (small (letters_of (b ∷ l)))
     go true e t = simp (letter_class b e) (and_i (is_letter b) (small (letters_of l)) (true_T (is_letter b) e) t)
-    go false e t = simp (ne_eqb (class_of b) Letter (other_class b e)) tt
+    go false e t = simp (same_not (class_of b) Letter (other_class b e)) tt
 
 pub word_small : (s : List ℕ) (a : ℕ) → T (small (word_from s a))
 word_small s a = rw (word_is s a) (letters_small (drop a s))
@@ -135,9 +138,9 @@ record Behind (l : List ℕ) (k : ℕ) : Type 0 where
 behind : (k : ℕ) (l : List ℕ) → k ≤ run Letter l → Behind l k
 behind zero l h = record { count = omega arith; letters = refl }
 behind (suc k) [] h = absurd (not-suc-le-zero h)
-behind (suc k) (b ∷ l) h = go (eqb (class_of b) Letter) refl h (behind k l)
+behind (suc k) (b ∷ l) h = go (same_class (class_of b) Letter) refl h (behind k l)
   where
-    go : (x : Bool) → eqb (class_of b) Letter ≡ x → suc k ≤ cond x (suc (run Letter l)) 0 → (k ≤ run Letter l → Behind l k)
+    go : (x : Bool) → same_class (class_of b) Letter ≡ x → suc k ≤ cond x (suc (run Letter l)) 0 → (k ≤ run Letter l → Behind l k)
         → Behind (b ∷ l) (suc k)
     go true e m f = let r = f (le_of_suc-le-suc m) in record { count = simp e (omega (arith, r.count)); letters = simp e r.letters }
     go false e m f = absurd (not-suc-le-zero m)

@@ -7,8 +7,8 @@ use native.Mathlib.Omega.{arith}
 use lib.Dec.{T, T_not, eqb, eqb_refl}
 use borrow.Author.Tests.{lt-ltb, le-ltb}
 use Rattle.digits.proofs.Order.{Tri, below, equal, above, tri}
-use Rattle.lexer.specs.declared.find.Order.{Order}
-use Rattle.lexer.specs.declared.find.Order.TheVariants.{Less, Same, More}
+use Rattle.std.specs.declared.cmp.Ordering.{Ordering}
+use Rattle.std.specs.declared.cmp.Ordering.TheVariants.{Less, Equal, Greater}
 use Rattle.lexer.specs.Words.{ordered}
 
 -- two counts, where the second counts all that the first does
@@ -16,14 +16,14 @@ pub counted : (t u : Bool) (n m : ℕ) → (t ≡ true → u ≡ true) → n ≤
 counted true u n m i h = rw (i refl) (suc-le-suc h)
 counted false u n m i h = zero-le
 
--- Less, Same and More by a number
-abbrev rank : Order → ℕ
+-- Less, Equal and Greater by a number
+abbrev rank : Ordering → ℕ
 rank Less = 0
-rank Same = 1
-rank More = 2
+rank Equal = 1
+rank Greater = 2
 
 -- no order is two of the three
-pub clash : {A : Type 0} {o p q : Order} → o ≡ p → o ≡ q → T (not (eqb (rank p) (rank q))) → A
+pub clash : {A : Type 0} {o p q : Ordering} → o ≡ p → o ≡ q → T (not (eqb (rank p) (rank q))) → A
 clash {p = p} {q = q} e f t = absurd (T_not (eqb (rank p) (rank q)) t (rw (sym e ∙ f) (eqb_refl (rank q))))
 
 -- the first bytes decide, or what follows them
@@ -31,28 +31,28 @@ module _ (x y : ℕ) (xs ys : List ℕ) where
   head_less : x < y → ordered (x ∷ xs) (y ∷ ys) ≡ Less
   head_less h = simp (lt-ltb x y h)
 
-  head_more : y < x → ordered (x ∷ xs) (y ∷ ys) ≡ More
+  head_more : y < x → ordered (x ∷ xs) (y ∷ ys) ≡ Greater
   head_more h = let l : y ≤ x = omega arith in simp (le-ltb x y l, lt-ltb y x h)
 
   head_same : x ≡ y → ordered (x ∷ xs) (y ∷ ys) ≡ ordered xs ys
   head_same e = let h : y ≤ x = omega arith in let l : x ≤ y = omega arith in simp (le-ltb x y h, le-ltb y x l)
 
-pub same_equal : (a b : List ℕ) → ordered a b ≡ Same → a ≡ b
+pub same_equal : (a b : List ℕ) → ordered a b ≡ Equal → a ≡ b
 same_equal [] [] h = refl
 same_equal [] (y ∷ ys) h = clash refl h tt
 same_equal (x ∷ xs) [] h = clash refl h tt
 same_equal (x ∷ xs) (y ∷ ys) h = go (tri x y) (same_equal xs ys)
   where
-    go : Tri x y → (ordered xs ys ≡ Same → xs ≡ ys) → x ∷ xs ≡ y ∷ ys
+    go : Tri x y → (ordered xs ys ≡ Equal → xs ≡ ys) → x ∷ xs ≡ y ∷ ys
     go (below l) rests = clash (head_less x y xs ys l) h tt
     go (equal e) rests = let t : xs ≡ ys = rests (sym (head_same x y xs ys e) ∙ h) in cc
     go (above l) rests = clash (head_more x y xs ys l) h tt
 
 -- the order of two words the other way round
-abbrev turned : Order → Order
-turned Less = More
-turned Same = Same
-turned More = Less
+abbrev turned : Ordering → Ordering
+turned Less = Greater
+turned Equal = Equal
+turned Greater = Less
 
 ordered_turned : (a b : List ℕ) → ordered b a ≡ turned (ordered a b)
 ordered_turned [] [] = refl
@@ -65,10 +65,10 @@ ordered_turned (x ∷ xs) (y ∷ ys) = go (tri x y) (ordered_turned xs ys)
     go (equal e) rests = head_same y x ys xs (sym e) ∙ rests ∙ sym (ap turned (head_same x y xs ys e))
     go (above l) rests = head_less y x ys xs l ∙ sym (ap turned (head_more x y xs ys l))
 
-pub more_less : (a b : List ℕ) → ordered a b ≡ More → ordered b a ≡ Less
+pub more_less : (a b : List ℕ) → ordered a b ≡ Greater → ordered b a ≡ Less
 more_less a b h = ordered_turned a b ∙ ap turned h
 
-pub less_more : (a b : List ℕ) → ordered a b ≡ Less → ordered b a ≡ More
+pub less_more : (a b : List ℕ) → ordered a b ≡ Less → ordered b a ≡ Greater
 less_more a b h = ordered_turned a b ∙ ap turned h
 
 pub less_trans : (a b c : List ℕ) → ordered a b ≡ Less → ordered b c ≡ Less → ordered a c ≡ Less

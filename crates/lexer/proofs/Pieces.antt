@@ -6,46 +6,45 @@ use mathlib.Core.List.{List, [], ◌∷◌, ◌++◌}
 use Prim.Native.Nat.{ℕ, zero, suc, ◌+◌, ◌*◌, ◌-◌, ◌/◌, ◌^◌, ◌≤◌, ◌<◌}
 use native.Mathlib.Nat.{not-suc-le-zero}
 use native.Mathlib.Omega.{arith}
-use lib.Dec.{eqb}
 use lib.ListN.{length, get_or, drop, length-drop, length-append}
 use lib.Seq.{drop-drop, get_or-drop, take_at, drop_at}
-use borrow.Author.Tests.{eq-eqb, ne_eqb, eqb-true, lt-ltb, le-ltb, le-leb}
+use borrow.Author.Tests.{lt-ltb, le-ltb, le-leb}
 use Rattle.digits.specs.Digits.{value_from, digit_of, digits_of}
 use Rattle.digits.proofs.Says.{digits_say, digit_is}
 use Rattle.digits.proofs.Widths.{digits_length}
 use Rattle.refusals.specs.Answers.{given, between}
 use Rattle.lexer.specs.Lexemes.{NUM}
 use Rattle.lexer.specs.Words.{Word, meaning, folded}
-use Rattle.lexer.specs.Classes.{Gap, Letter, Digit, Mark, class_of, mark_of}
-use Rattle.lexer.specs.Lex.{run, run_end, said_digits, word_at, number_at, token_of, token_at, Item, item, ahead, lex_from, lexed}
-use Rattle.lexer.specs.declared.find.Found.TheVariants.{Lexeme}
-use Rattle.lexer.specs.declared.lex.Token.TheVariants.{Finish, Taken}
-use Rattle.lexer.proofs.Runs.{run_most, digit_class}
+use Rattle.lexer.specs.Classes.{Gap, Letter, Digit, Mark, class_of, mark_of, same_class}
+use Rattle.lexer.specs.Lex.{run, run_end, token, said_digits, word_at, number_at, token_of, found, token_at, Item, item, ahead, lex_from, lexed}
+use Rattle.std.specs.Prelude.{Some, None, Ok}
+use Rattle.lexer.specs.declared.class.Class.{Class}
+use Rattle.lexer.proofs.Runs.{same_self, same_only, same_not, run_most, digit_class}
 use Rattle.lexer.proofs.Lines.{lex_finish, lex_taken}
 
 -- all bytes of w are of class k
-pub record All (k : ℕ) (w : List ℕ) : Type 0 where
+pub record All (k : Class) (w : List ℕ) : Type 0 where
   pub full : run k w ≡ length w
 
 -- the first byte of such bytes, and the others
-all_first : (k b : ℕ) (w : List ℕ) → All k (b ∷ w) → (class_of b ≡ k) × All k w
+all_first : (k : Class) (b : ℕ) (w : List ℕ) → All k (b ∷ w) → (class_of b ≡ k) × All k w
 all_first k b w h =
-    let c = go (eqb (class_of b) k) (run_most k w) h.full in
-    (eqb-true (class_of b) k c.0, record { full = c.1 })
+    let c = go (same_class (class_of b) k) (run_most k w) h.full in
+    (same_only (class_of b) k c.0, record { full = c.1 })
   where
     go : (t : Bool) → run k w ≤ length w → cond t (suc (run k w)) 0 ≡ suc (length w) → (t ≡ true) × (run k w ≡ length w)
     go true m e = (refl, omega arith)
     go false m e = absurd (omega arith)
 
 -- a run goes on behind them
-run_on : (k : ℕ) (w r : List ℕ) → All k w → run k (w ++ r) ≡ length w + run k r
+run_on : (k : Class) (w r : List ℕ) → All k w → run k (w ++ r) ≡ length w + run k r
 run_on k [] r h = omega arith
 run_on k (b ∷ w) r h =
     let c = all_first k b w h in
     let rest : run k (w ++ r) ≡ length w + run k r = run_on k w r c.1 in
-    rw (eq-eqb (class_of b) k c.0) (omega arith)
+    rw (c.0, same_self k) (omega arith)
 
-all_append : (k : ℕ) (w v : List ℕ) → All k w → All k v → All k (w ++ v)
+all_append : (k : Class) (w v : List ℕ) → All k w → All k v → All k (w ++ v)
 all_append k w v h g = record { full = omega (arith, run_on k w v h, length-append w v, g.full) }
 
 -- digits as they are written are digits
@@ -71,7 +70,7 @@ module _ (s : List ℕ) (at : ℕ) where
       rw none at (sym (get_or-drop at s 0 0) ∙ ap (λ l. get_or l 0 0) e)
 
   -- the bytes of class k at its front
-  ends : (k : ℕ) (w r : List ℕ) → drop at s ≡ w ++ r → All k w → run k r ≡ 0 → run_end k s at ≡ at + length w
+  ends : (k : Class) (w r : List ℕ) → drop at s ≡ w ++ r → All k w → run k r ≡ 0 → run_end k s at ≡ at + length w
   ends k w r e h z = let more = run_on k w r h in rw e (omega arith)
 
   cut : (w r : List ℕ) → drop at s ≡ w ++ r → between s at (at + length w) ≡ w
@@ -85,17 +84,17 @@ module _ (s : List ℕ) (at : ℕ) where
     unfolding token_at
     gap_token b r e c =
         let next : drop (at + 1) s ≡ r = dropped (b ∷ []) r e in
-        let same : run_end Gap s at ≡ run_end Gap s (at + 1) = rw (e, next, eq-eqb (class_of b) Gap c) (omega arith) in
+        let same : run_end Gap s at ≡ run_end Gap s (at + 1) = rw (e, next, c) (omega arith) in
         rw same
 
     -- what begins with a byte that is no gap
-    token_here : (b : ℕ) (r : List ℕ) → drop at s ≡ b ∷ r → (class_of b ≡ Gap → ⊥) → token_at ws s at ≡ token_of ws (class_of b) s at
+    token_here : (b : ℕ) (r : List ℕ) → drop at s ≡ b ∷ r → (class_of b ≡ Gap → ⊥) → token_at ws s at ≡ found (token_of ws (class_of b) s at)
     unfolding token_at
     token_here b r e c =
-        let here : run_end Gap s at ≡ at = rw (e, ne_eqb (class_of b) Gap c) (omega arith) in
+        let here : run_end Gap s at ≡ at = rw (e, same_not (class_of b) Gap c) (omega arith) in
         rw (here, lt-ltb at (length s) (inside b r e), first b r e)
 
-    finish_token : drop at s ≡ [] → token_at ws s at ≡ Finish
+    finish_token : drop at s ≡ [] → token_at ws s at ≡ Ok None
     unfolding token_at
     finish_token e =
         let here : run_end Gap s at ≡ at = rw e (omega arith) in
@@ -104,12 +103,12 @@ module _ (s : List ℕ) (at : ℕ) where
 
     -- a run of letters is one word
     word_token : (b : ℕ) (w r : List ℕ) (l : ℕ) → drop at s ≡ (b ∷ w) ++ r → All Letter (b ∷ w) → run Letter r ≡ 0
-        → meaning ws (folded (b ∷ w)) ≡ Lexeme l → token_at ws s at ≡ Taken l at (at + length (b ∷ w))
+        → meaning ws (folded (b ∷ w)) ≡ Some l → token_at ws s at ≡ Ok (Some (token l at (at + length (b ∷ w))))
     unfolding word_at
     word_token b w r l e h z m =
         let c = (all_first Letter b w h).0 in
         rw (
-          token_here b (w ++ r) e (λ g. let q : Letter ≡ Gap = sym c ∙ g in omega arith),
+          token_here b (w ++ r) e (λ g. let q : Letter ≡ Gap = sym c ∙ g in cc),
           c,
           ends Letter (b ∷ w) r e h z,
           cut (b ∷ w) r e,
@@ -118,13 +117,13 @@ module _ (s : List ℕ) (at : ℕ) where
 
     -- a run of digits is one number
     number_token : (b : ℕ) (w r : List ℕ) → drop at s ≡ (b ∷ w) ++ r → All Digit (b ∷ w) → run Digit r ≡ 0 → value_from 0 (b ∷ w) ≤ 4294967295
-        → token_at ws s at ≡ Taken (NUM * said_digits (length (b ∷ w)) + value_from 0 (b ∷ w)) at (at + length (b ∷ w))
+        → token_at ws s at ≡ Ok (Some (token (NUM * said_digits (length (b ∷ w)) + value_from 0 (b ∷ w)) at (at + length (b ∷ w))))
     unfolding number_at
     number_token b w r e h z m =
         let c = (all_first Digit b w h).0 in
         let size : at + length (b ∷ w) - at ≡ length (b ∷ w) = omega arith in
         rw (
-          token_here b (w ++ r) e (λ g. let q : Digit ≡ Gap = sym c ∙ g in omega arith),
+          token_here b (w ++ r) e (λ g. let q : Digit ≡ Gap = sym c ∙ g in cc),
           c,
           ends Digit (b ∷ w) r e h z,
           cut (b ∷ w) r e,
@@ -133,8 +132,8 @@ module _ (s : List ℕ) (at : ℕ) where
         )
 
     -- a mark is one lexeme
-    mark_token : (b : ℕ) (r : List ℕ) → drop at s ≡ b ∷ r → class_of b ≡ Mark → token_at ws s at ≡ Taken (mark_of b) at (at + 1)
-    mark_token b r e c = rw (token_here b r e (λ g. let q : Mark ≡ Gap = sym c ∙ g in omega arith), c, first b r e)
+    mark_token : (b l : ℕ) (r : List ℕ) → drop at s ≡ b ∷ r → class_of b ≡ Mark → mark_of b ≡ Some l → token_at ws s at ≡ Ok (Some (token l at (at + 1)))
+    mark_token b l r e c m = rw (token_here b r e (λ g. let q : Mark ≡ Gap = sym c ∙ g in cc), c, first b r e, m)
 
 -- a rest of a phrase is lexed whole, with room for so many lexemes, as `items` of the place where it begins
 pub record Lexes (ws : List Word) (room : ℕ) (r : List ℕ) (items : ℕ → List Item) : Type 0 where
@@ -147,7 +146,7 @@ module _ (ws : List Word) (room : ℕ) where
 
   -- a lexeme of n bytes in front of a rest that is lexed
   taken_lexes : {r : List ℕ} {items : ℕ → List Item} (n k : ℕ) (all : List ℕ)
-      → ((s : List ℕ) (at : ℕ) → drop at s ≡ all → (token_at ws s at ≡ Taken k at (at + n)) × (drop (at + n) s ≡ r))
+      → ((s : List ℕ) (at : ℕ) → drop at s ≡ all → (token_at ws s at ≡ Ok (Some (token k at (at + n)))) × (drop (at + n) s ≡ r))
       → Lexes ws room r items → Lexes ws (suc room) all (λ at. item k at ∷ items (at + n))
   taken_lexes n k all token rest =
       record {
@@ -166,11 +165,11 @@ module _ (ws : List Word) (room : ℕ) where
         go (suc n) s at e = rw (gap_token s at ws b r e c)
 
     -- a mark is one lexeme
-    pub mark_lexes : (b : ℕ) → class_of b ≡ Mark → Lexes ws room r items → Lexes ws (suc room) (b ∷ r) (λ at. item (mark_of b) at ∷ items (at + 1))
-    mark_lexes b c rest = taken_lexes 1 (mark_of b) (b ∷ r) (λ s at e. (mark_token s at ws b r e c, dropped s at (b ∷ []) r e)) rest
+    pub mark_lexes : (b l : ℕ) → class_of b ≡ Mark → mark_of b ≡ Some l → Lexes ws room r items → Lexes ws (suc room) (b ∷ r) (λ at. item l at ∷ items (at + 1))
+    mark_lexes b l c m rest = taken_lexes 1 l (b ∷ r) (λ s at e. (mark_token s at ws b l r e c m, dropped s at (b ∷ []) r e)) rest
 
     -- a known word in front of what is no letter is one lexeme
-    pub word_lexes : (w : List ℕ) (l : ℕ) → 0 < length w → All Letter w → run Letter r ≡ 0 → meaning ws (folded w) ≡ Lexeme l
+    pub word_lexes : (w : List ℕ) (l : ℕ) → 0 < length w → All Letter w → run Letter r ≡ 0 → meaning ws (folded w) ≡ Some l
         → Lexes ws room r items → Lexes ws (suc room) (w ++ r) (λ at. item l at ∷ items (at + length w))
     word_lexes [] l p h z m rest = absurd (not-suc-le-zero p)
     word_lexes (b ∷ w) l p h z m rest =

@@ -2,8 +2,8 @@
 use mathlib.Core.Path.{◌≡◌, sym, ap, ◌∙◌}
 use mathlib.Core.List.{List, [], ◌∷◌}
 use Prim.Native.Nat.{ℕ, zero, suc, ◌+◌, ◌*◌, ◌^◌, ◌≤◌, ◌<◌}
-use native.Mathlib.Nat.{le_trans, lt_of_lt_of_le, pow-succ', pow-le-pow_right, one-mul, add-mul, mul_assoc, mul-le-mul_right}
-use native.Mathlib.Nat.{mul-lt-mul_of_pos_right, le-mul_of_pos_right}
+use native.Mathlib.Nat.{le_trans, pow-succ', pow-le-pow_right, one-mul, add-mul, mul_assoc, mul-le-mul_right}
+use native.Mathlib.Nat.{le-mul_of_pos_right}
 use native.Mathlib.Omega.{arith}
 use borrow.Author.Tests.{lt-ltb}
 use lib.ListN.{length}
@@ -14,14 +14,6 @@ use Rattle.lexer.proofs.Keys.{filler_most}
 
 pow_pos : (p : ℕ) → 0 < 256 ^ p
 pow_pos p = pow-le-pow_right {n = 256} (omega arith) {i = 0} {j = p} (omega arith)
-
--- a number that is none of the first 8
-past_four : (k n : ℕ) → k ≤ n → (n ≡ k → ⊥) → (n ≡ k + 1 → ⊥) → (n ≡ k + 2 → ⊥) → (n ≡ k + 3 → ⊥) → k + 4 ≤ n
-past_four k n h a b c d = omega arith
-
-pub past_eight : (n : ℕ) → (n ≡ 0 → ⊥) → (n ≡ 1 → ⊥) → (n ≡ 2 → ⊥) → (n ≡ 3 → ⊥)
-    → (n ≡ 4 → ⊥) → (n ≡ 5 → ⊥) → (n ≡ 6 → ⊥) → (n ≡ 7 → ⊥) → 8 ≤ n
-past_eight n a b c d e f g h = past_four 4 n (past_four 0 n (omega arith) a b c d) e f g h
 
 -- at most 8 bytes have room
 pub room_begins : (n : ℕ) → n ≤ 8 → Room 0 n
@@ -62,9 +54,6 @@ weighed v p h r = go (tri p 8)
     go (below l) = simp (lt-ltb p 8 l)
     go (equal e) = let m : suc v * 256 ^ 8 ≤ 2 ^ 64 = rw e at r.most in let n : v ≡ 0 = omega arith in rw (e, n)
     go (above l) = absurd (omega arith)
-
-pub weight_below : (v p : ℕ) → p ≤ 8 → Room v p → v * weight_of p < 2 ^ 64
-weight_below v p h r = rw (weighed v p h r) (lt_of_lt_of_le (mul-lt-mul_of_pos_right (omega arith) (pow_pos p)) r.most)
 
 pub filled_is : (v p : ℕ) → p ≤ 8 → Room v p → v * weight_of p + bytes_from 0 (fixed p []) ≡ bytes_from v (fixed p [])
 filled_is v p h r = rw (weighed v p h r) (sym (rw (length-fixed p []) at (bytes_apart (fixed p []) v)))

@@ -1,57 +1,89 @@
--- Runs of bytes of one class, a byte at a time, and what a run of digits says. Assumes nothing.
+-- Runs of bytes of one class, a byte at a time. Assumes nothing.
 use mathlib.Core.Path.{◌≡◌, refl}
 use mathlib.Core.Bool.{Bool, true, false, false≢true, cond}
 use mathlib.Core.List.{List, [], ◌∷◌}
 use Prim.Native.Nat.{ℕ, suc, ◌+◌, ◌*◌, ◌-◌, ◌≤◌, ◌<◌, zero-le}
 use native.Mathlib.Numerals.{add-one}
 use native.Mathlib.Omega.{arith}
-use lib.Dec.{eqb, ltb}
 use lib.ListN.{length, get_or, drop, drop_of_length-le, length-drop}
 use lib.Seq.{drop-cons}
-use borrow.Author.Tests.{eq-eqb, ne_eqb, ltb-true, ltb-false}
 use Rattle.digits.specs.Digits.{is_digit, value_from}
-use Rattle.digits.proofs.Again.{test_digit}
-use Rattle.digits.proofs.Tabled.{steady}
+use borrow.Author.Tests.{ltb-true, ltb-false}
+use lib.Dec.{eqb, ltb}
+use Rattle.std.specs.Prelude.{is_some}
 use Rattle.refusals.specs.Answers.{between}
-use Rattle.lexer.specs.Classes.{Digit, is_letter, class_of, mark_of}
+use Rattle.digits.proofs.Again.{test_digit}
+use Rattle.digits.proofs.Tabled.{all_below, each_below}
+use Rattle.lexer.specs.Classes.{Gap, Letter, Digit, Mark, Stray, is_letter, class_of, mark_of, same_class}
 use Rattle.lexer.specs.Lex.{run, run_end, is_digit_at}
+use Rattle.lexer.specs.declared.class.Class.{Class}
 use Rattle.lexer.proofs.Order.{counted}
 
+-- a class is the same as itself
+pub same_self : (k : Class) → same_class k k ≡ true
+same_self Gap = refl
+same_self Letter = refl
+same_self Digit = refl
+same_self Mark = refl
+same_self Stray = refl
+
+-- and as no other
+pub same_only : (j k : Class) → same_class j k ≡ true → j ≡ k
+same_only Gap k e = grind arith
+same_only Letter k e = grind arith
+same_only Digit k e = grind arith
+same_only Mark k e = grind arith
+same_only Stray k e = grind arith
+
+-- two classes that differ are not the same
+pub same_not : (j k : Class) → (j ≡ k → ⊥) → same_class j k ≡ false
+same_not j k n = go (same_class j k) refl
+  where
+    go : (b : Bool) → same_class j k ≡ b → b ≡ false
+    go true e = absurd (n (same_only j k e))
+    go false e = refl
+
 -- the run of class k from e on, by the byte at e
-module _ (k : ℕ) (s : List ℕ) (e : ℕ) where
+module _ (k : Class) (s : List ℕ) (e : ℕ) where
   pub run_step : e < length s → class_of (get_or s e 0) ≡ k → run k (drop e s) ≡ suc (run k (drop (e + 1) s))
-  run_step h c = rw (drop-cons s e 0, add-one) (simp (eq-eqb (class_of (get_or s e 0)) k c))
+  run_step h c = rw (drop-cons s e 0, add-one, c) (simp (same_self k))
 
   pub run_stop : e < length s → (class_of (get_or s e 0) ≡ k → ⊥) → run k (drop e s) ≡ 0
-  run_stop h c = rw (drop-cons s e 0) (simp (ne_eqb (class_of (get_or s e 0)) k c))
+  run_stop h c = rw (drop-cons s e 0) (simp (same_not (class_of (get_or s e 0)) k c))
 
   pub run_over : length s ≤ e → run k (drop e s) ≡ 0
   run_over h = rw (drop_of_length-le s h)
 
-pub run_most : (k : ℕ) (l : List ℕ) → run k l ≤ length l
+pub run_most : (k : Class) (l : List ℕ) → run k l ≤ length l
 run_most k [] = zero-le
-run_most k (b ∷ bs) = counted (eqb (class_of b) k) true (run k bs) (length bs) (λ e. refl) (run_most k bs)
+run_most k (b ∷ bs) = counted (same_class (class_of b) k) true (run k bs) (length bs) (λ e. refl) (run_most k bs)
 
 -- a run ends within the phrase
-pub run_within : (k : ℕ) (s : List ℕ) (a : ℕ) → a ≤ length s → run_end k s a ≤ length s
+pub run_within : (k : Class) (s : List ℕ) (a : ℕ) → a ≤ length s → run_end k s a ≤ length s
 run_within k s a h = omega (arith, run_most k (drop a s), length-drop a s)
 
--- a digit is of the class of digits, and no other byte is
-module _ (b : ℕ) where
-  pub digit_class : is_digit b ≡ true → class_of b ≡ Digit
-  unfolding class_of mark_of
-  digit_class h = let d = test_digit b h in steady class_of 48 10 Digit refl b d.low (omega (arith, d.high))
+-- n bytes from i on that are all of class k, by one computation
+pub classed : (i n : ℕ) (k : Class) → all_below (λ j. same_class (class_of (i + j)) k) n ≡ true → (b : ℕ) → i ≤ b → b < i + n → class_of b ≡ k
+classed i n k all b low high =
+    let there : i + (b - i) ≡ b = omega arith in
+    same_only (class_of b) k (rw there at (each_below (λ j. same_class (class_of (i + j)) k) n all (b - i) (omega arith)))
 
-  no_digit_class : is_digit b ≡ false → class_of b ≡ Digit → ⊥
-  unfolding class_of
-  no_digit_class h c = go (eqb b 32) (eqb b 9) (is_letter b) (eqb (mark_of b) 0) (simp h at c)
-    where
-      go : (x y l m : Bool) → ◌≡◌ {A = ℕ} (cond x 0 (cond y 0 (cond l 1 (cond m 4 3)))) 2 → ⊥
-      go true y l m q = omega arith
-      go false true l m q = omega arith
-      go false false true m q = omega arith
-      go false false false true q = omega arith
-      go false false false false q = omega arith
+-- a digit is of the class of digits
+pub digit_class : (b : ℕ) → is_digit b ≡ true → class_of b ≡ Digit
+unfolding class_of mark_of
+digit_class b h = let d = test_digit b h in classed 48 10 Digit refl b d.low (omega (arith, d.high))
+
+-- no other byte is
+no_digit_class : (b : ℕ) → is_digit b ≡ false → class_of b ≡ Digit → ⊥
+unfolding class_of
+no_digit_class b h c = go (eqb b 32) (eqb b 9) (is_letter b) (is_some (mark_of b)) (simp h at c)
+  where
+    go : (x y l m : Bool) → cond x Gap (cond y Gap (cond l Letter (cond m Mark Stray))) ≡ Digit → ⊥
+    go true y l m q = cc
+    go false true l m q = cc
+    go false false true m q = cc
+    go false false false true q = cc
+    go false false false false q = cc
 
 -- the digits from e on
 module _ (s : List ℕ) (e : ℕ) where

@@ -10,8 +10,8 @@ use Rattle.lexer.specs.Words.{Word, ordered}
 use Rattle.lexer.specs.Keywords.{words_in}
 use Rattle.lexer.specs.Table.{sorted, blank, spelling_at}
 use Rattle.lexer.specs.Visits.{onward, visits_in, visits}
-use Rattle.lexer.specs.declared.find.Order.{Order}
-use Rattle.lexer.specs.declared.find.Order.TheVariants.{Less, Same, More}
+use Rattle.std.specs.declared.cmp.Ordering.{Ordering}
+use Rattle.std.specs.declared.cmp.Ordering.TheVariants.{Less, Equal, Greater}
 use Rattle.lexer.specs.declared.reading.Reading.{Reading}
 use Rattle.lexer.proofs.Rows.{rows_count, count_most}
 
@@ -25,10 +25,10 @@ take-slice (suc lo) (suc mid) (suc hi) (x ∷ l) h k =
     let less : suc mid - suc lo ≡ mid - lo = omega arith in rw less (take-slice lo mid hi l (omega arith) (omega arith))
 
 -- what is still visited is no more than behind the row or before it
-onward_most : (o : Order) (p q k : ℕ) → p ≤ k → q ≤ k → onward o p q ≤ k
+onward_most : (o : Ordering) (p q k : ℕ) → p ≤ k → q ≤ k → onward o p q ≤ k
 onward_most Less p q k h l = h
-onward_most Same p q k h l = zero-le
-onward_most More p q k h l = l
+onward_most Equal p q k h l = zero-le
+onward_most Greater p q k h l = l
 
 -- the word that is looked up
 module _ (w : List ℕ) where

@@ -1,54 +1,45 @@
 -- What a byte is to the lexer. Assumes nothing.
-use Rattle.std.specs.Prelude.{ℕ, Bool, cond, eqb}
+use Rattle.std.specs.Prelude.{ℕ, Bool, true, false, cond, eqb, Option, Some, None, is_some}
 use Prim.Native.Char.{code}
 use Rattle.digits.specs.Digits.{is_digit}
 use Rattle.lexer.specs.Lexemes.{Comma, Colon, Slash, Dash, Dot}
 use Rattle.lexer.specs.Words.{lower_of, is_small}
-
--- it separates
-abbrev pub Gap : ℕ
-Gap = 0
-
--- it is part of a word
-abbrev pub Letter : ℕ
-Letter = 1
-
--- it is part of a number
-abbrev pub Digit : ℕ
-Digit = 2
-
--- it is a lexeme by itself
-abbrev pub Mark : ℕ
-Mark = 3
-
--- it has no meaning
-abbrev pub Stray : ℕ
-Stray = 4
+use Rattle.lexer.specs.declared.class.Class.{Class}
+pub use Rattle.lexer.specs.declared.class.Class.TheVariants.{Gap, Letter, Digit, Mark, Stray}
 
 -- a to z and A to Z
 abbrev pub is_letter : ℕ → Bool
 is_letter b = is_small (lower_of b)
 
--- a letter's small one, 0 for any other byte
-unfoldable pub letter_of : ℕ → ℕ
-letter_of b = cond (is_letter b) (lower_of b) 0
+-- a letter's small one
+unfoldable pub letter_of : ℕ → Option ℕ
+letter_of b = cond (is_letter b) (Some (lower_of b)) None
 
--- "`- / . , :` are lexemes", in the order of the Rust's `match c`; 0 for any other byte
-unfoldable pub mark_of : ℕ → ℕ
+-- "`- / . , :` are lexemes", in the order of the Rust's `match c`
+unfoldable pub mark_of : ℕ → Option ℕ
 mark_of b =
-    cond (eqb b (code ",")) Comma
-    (cond (eqb b (code ":")) Colon
-    (cond (eqb b (code "/")) Slash
-    (cond (eqb b (code "-")) Dash
-    (cond (eqb b (code ".")) Dot
-    0))))
+    cond (eqb b (code ",")) (Some Comma)
+    (cond (eqb b (code ":")) (Some Colon)
+    (cond (eqb b (code "/")) (Some Slash)
+    (cond (eqb b (code "-")) (Some Dash)
+    (cond (eqb b (code ".")) (Some Dot)
+    None))))
 
 -- "space and tab separate"
-unfoldable pub class_of : ℕ → ℕ
+unfoldable pub class_of : ℕ → Class
 class_of b =
     cond (eqb b (code " ")) Gap
     (cond (eqb b (code "\t")) Gap
     (cond (is_letter b) Letter
     (cond (is_digit b) Digit
-    (cond (eqb (mark_of b) 0) Stray
-    Mark))))
+    (cond (is_some (mark_of b)) Mark
+    Stray))))
+
+-- whether two classes are the same
+abbrev pub same_class : Class → Class → Bool
+same_class Gap Gap = true
+same_class Letter Letter = true
+same_class Digit Digit = true
+same_class Mark Mark = true
+same_class Stray Stray = true
+same_class _ _ = false

@@ -1,4 +1,5 @@
 pub mod Lexemes
+pub mod Readings
 pub mod Words
 pub mod Keywords
 pub mod Table

@@ -1,15 +1,15 @@
 -- "The 133 words stand in one table in byte order": a word list as the code holds it. Assumes nothing.
 use Rattle.std.specs.Prelude.{ℕ, zero, suc, ◌+◌, ◌*◌, ◌%◌, ◌^◌, ◌≤◌, ◌<◌, min, max, ◌≡◌, Bool, true, false, cond, List, [], ◌∷◌, ◌++◌, T, eqb, ltb, length, get_or, drop}
 use Prim.Native.Char.{code}
-use Rattle.lexer.specs.declared.find.Order.{Order}
-use Rattle.lexer.specs.declared.find.Order.TheVariants.{Less, Same, More}
+use Rattle.std.specs.declared.cmp.Ordering.{Ordering}
+use Rattle.std.specs.declared.cmp.Ordering.TheVariants.{Less, Equal, Greater}
 use Rattle.lexer.specs.Words.{Word, ordered, small}
 
 -- whether the first of two spellings comes strictly before the second
-abbrev pub is_less : Order → Bool
+abbrev pub is_less : Ordering → Bool
 is_less Less = true
-is_less Same = false
-is_less More = false
+is_less Equal = false
+is_less Greater = false
 
 -- a row put before the first row that is not less
 abbrev pub insert : Word → List Word → List Word
@@ -73,12 +73,12 @@ unfoldable pub tail_of : List ℕ → ℕ
 tail_of w = bytes_from 0 (fixed 4 (drop 8 w))
 
 -- two numbers in order, or what follows where they are the same
-abbrev pub by_number : ℕ → ℕ → Order → Order
-by_number x y o = cond (ltb x y) Less (cond (ltb y x) More o)
+abbrev pub by_number : ℕ → ℕ → Ordering → Ordering
+by_number x y o = cond (ltb x y) Less (cond (ltb y x) Greater o)
 
 -- the order of a word and the one that two numbers stand for
-abbrev pub by_key : List ℕ → ℕ → ℕ → Order
-by_key w head tail = by_number (head_of w) head (by_number (tail_of w) tail Same)
+abbrev pub by_key : List ℕ → ℕ → ℕ → Ordering
+by_key w head tail = by_number (head_of w) head (by_number (tail_of w) tail Equal)
 
 -- a byte of a word as it is compared with letters and fillers: above the fillers, and at most just above the letters
 abbrev pub compared_of : ℕ → ℕ

@@ -1,16 +1,16 @@
 -- What looking a word up answers: its meaning, and how many rows it is compared with. Assumes nothing.
 use Rattle.std.specs.Prelude.{ℕ, zero, suc, ◌/◌, List, [], ◌∷◌, length, take, drop}
-use Rattle.lexer.specs.declared.find.Order.{Order}
-use Rattle.lexer.specs.declared.find.Order.TheVariants.{Less, Same, More}
+use Rattle.std.specs.declared.cmp.Ordering.{Ordering}
+use Rattle.std.specs.declared.cmp.Ordering.TheVariants.{Less, Equal, Greater}
 use Rattle.lexer.specs.declared.find.Looked.{Looked}
 use Rattle.lexer.specs.Words.{Word, ordered, meaning}
 use Rattle.lexer.specs.Table.{sorted, spelling_at}
 
 -- what is still visited behind a row that comes before the word, spells it, or comes after it: the rows behind that row, none, or those before it
-abbrev pub onward : Order → ℕ → ℕ → ℕ
+abbrev pub onward : Ordering → ℕ → ℕ → ℕ
 onward Less behind before = behind
-onward Same behind before = 0
-onward More behind before = before
+onward Equal behind before = 0
+onward Greater behind before = before
 
 -- "the middle row of those left, the lower of two", and then half of the others, with room for so many turns
 abbrev pub visits_in : ℕ → List Word → List ℕ → ℕ
@@ -26,4 +26,4 @@ visits ws w = visits_in (length ws) ws w
 
 -- "The answer carries the count"
 abbrev pub looked_up : List Word → List ℕ → Looked
-looked_up ws w = record { found = meaning ws w; count = visits (sorted ws) w }
+looked_up ws w = record { code = meaning ws w; count = visits (sorted ws) w }

@@ -1,12 +1,10 @@
 -- A word list, and what a word means by it. Assumes nothing.
-use Rattle.std.specs.Prelude.{ℕ, ◌+◌, Bool, true, false, ◌&&◌, cond, List, [], ◌∷◌, map, ltb, leb}
+use Rattle.std.specs.Prelude.{ℕ, ◌+◌, Bool, true, false, ◌&&◌, cond, List, [], ◌∷◌, map, ltb, leb, Option, Some, None}
+use Rattle.std.specs.declared.cmp.Ordering.{Ordering}
+use Rattle.std.specs.declared.cmp.Ordering.TheVariants.{Less, Equal, Greater}
 use Prim.Native.Char.{code}
 use Prim.Native.String.{String}
 use Rattle.digits.specs.Bytes.{bytes_of}
-use Rattle.lexer.specs.declared.find.Order.{Order}
-use Rattle.lexer.specs.declared.find.Order.TheVariants.{Less, Same, More}
-use Rattle.lexer.specs.declared.find.Found.{Found}
-use Rattle.lexer.specs.declared.find.Found.TheVariants.{Lexeme, Unknown}
 
 -- a row of the Rust's map: a spelling in bytes, and the lexeme that it gives
 pub record Word : Type 0 where
@@ -18,22 +16,22 @@ abbrev pub word : String → ℕ → Word
 word s l = record { spelling = bytes_of s; lexeme = l }
 
 -- byte order, as of the Rust's `[u8]`
-abbrev pub ordered : List ℕ → List ℕ → Order
-ordered [] [] = Same
+abbrev pub ordered : List ℕ → List ℕ → Ordering
+ordered [] [] = Equal
 ordered [] (y ∷ ys) = Less
-ordered (x ∷ xs) [] = More
-ordered (x ∷ xs) (y ∷ ys) = cond (ltb x y) Less (cond (ltb y x) More (ordered xs ys))
+ordered (x ∷ xs) [] = Greater
+ordered (x ∷ xs) (y ∷ ys) = cond (ltb x y) Less (cond (ltb y x) Greater (ordered xs ys))
 
 -- whether two spellings are the same, byte for byte
-abbrev pub is_same : Order → Bool
+abbrev pub is_same : Ordering → Bool
 is_same Less = false
-is_same Same = true
-is_same More = false
+is_same Equal = true
+is_same Greater = false
 
 -- `KEYWORDS.get(w)`: the lexeme of the first row that spells w (no word of the Rust's map stands twice)
-abbrev pub meaning : List Word → List ℕ → Found
-meaning [] w = Unknown
-meaning (x ∷ xs) w = cond (is_same (ordered x.spelling w)) (Lexeme x.lexeme) (meaning xs w)
+abbrev pub meaning : List Word → List ℕ → Option ℕ
+meaning [] w = None
+meaning (x ∷ xs) w = cond (is_same (ordered x.spelling w)) (Some x.lexeme) (meaning xs w)
 
 -- "Letters fold to lower case": a capital letter's small one, any other byte itself
 abbrev pub lower_of : ℕ → ℕ

@@ -4,44 +4,50 @@ ghost use Rattle.lexer.specs.Classes.{class_of, mark_of};
 
 use super::lexeme::{COLON, COMMA, DASH, DOT, SLASH};
 
-// It separates.
-pub const GAP: u8 = 0;
+// The classes of bytes.
+#[derive(Clone, Copy, PartialEq, Eq)]
+pub(crate) enum Class {
+    // It separates.
+    Gap,
 
-// It is part of a word.
-pub const LETTER: u8 = 1;
+    // It is part of a word.
+    Letter,
 
-// It is part of a number.
-pub const DIGIT: u8 = 2;
+    // It is part of a number.
+    Digit,
 
-// It is a lexeme by itself.
-pub const MARK: u8 = 3;
+    // It is a lexeme by itself.
+    Mark,
 
-// It has no meaning.
-const STRAY: u8 = 4;
+    // It has no meaning.
+    Stray,
+}
 
 // The class of a byte.
-pub(crate) fn class(b: u8) -> u8
+#[tactic(auto, unfolding(crate::specs::Classes::class_of, crate::specs::Classes::mark_of))]
+pub(crate) fn class_of(b: u8) -> Class
     ensures { result ≡ class_of b }
 {
     match b {
-        b' ' | b'\t' => GAP,
-        b'a'..=b'z' | b'A'..=b'Z' => LETTER,
-        b'0'..=b'9' => DIGIT,
-        b',' | b':' | b'/' | b'-' | b'.' => MARK,
-        _ => STRAY,
+        b' ' | b'\t' => Class::Gap,
+        b'a'..=b'z' | b'A'..=b'Z' => Class::Letter,
+        b'0'..=b'9' => Class::Digit,
+        b',' | b':' | b'/' | b'-' | b'.' => Class::Mark,
+        _ => Class::Stray,
     }
 }
 
-// The lexeme of a mark, 0 for any other byte.
-pub(crate) fn mark(b: u8) -> u64
+// The lexeme of a mark.
+#[tactic(auto, unfolding(crate::specs::Classes::mark_of))]
+pub(crate) fn mark(b: u8) -> Option<u64>
     ensures { result ≡ mark_of b }
 {
     match b {
-        b',' => COMMA,
-        b':' => COLON,
-        b'/' => SLASH,
-        b'-' => DASH,
-        b'.' => DOT,
-        _ => 0,
+        b',' => Some(COMMA),
+        b':' => Some(COLON),
+        b'/' => Some(SLASH),
+        b'-' => Some(DASH),
+        b'.' => Some(DOT),
+        _ => None,
     }
 }

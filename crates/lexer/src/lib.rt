@@ -11,3 +11,4 @@ pub mod reading;
 mod run;
 mod table;
 mod word;
+mod words;

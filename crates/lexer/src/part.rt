@@ -23,7 +23,8 @@ pub fn offending(reading: Reading, s: &[u8]) -> &[u8]
 {
     let mut codes = [0u64; 64];
     let mut starts = [0u8; 64];
-    let r = lex(reading, s, &mut codes, &mut starts);
-    let refusal = r.refusal;
-    part(s, refusal.place, refusal.end)
+    match lex(reading, s, &mut codes, &mut starts) {
+        Ok(_) => part(s, 0, 0),
+        Err(refusal) => part(s, refusal.place, refusal.end),
+    }
 }

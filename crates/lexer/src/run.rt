@@ -2,18 +2,16 @@
 ghost use Rattle.std.specs.Prelude.{◌≡◌};
 ghost use Rattle.lexer.specs.Lex.{run_end};
 
-use super::class::class;
+use super::class::{Class, class_of};
 
 // The end of the run of bytes of one class.
-pub(crate) fn run_end(s: &[u8], at: usize, k: u8) -> usize
+pub(crate) fn run_end(s: &[u8], at: usize, k: Class) -> usize
     ensures { result ≡ run_end k s.now at }
 {
-    let mut e = at;
-    while e < s.len() {
-        if class(s[e]) != k {
-            return e;
+    for end in at..s.len() {
+        if class_of(s[end]) != k {
+            return end;
         }
-        e += 1;
     }
-    e
+    s.len().max(at)
 }

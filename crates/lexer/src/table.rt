@@ -1,11 +1,9 @@
 // The words of each reading in byte order, a row of 16 bytes each: the word, filled up to 14 with dots and blanks, its length and its lexeme.
 // (Rows of 14 bytes take more to be found than they save, as was measured.)
-ghost use Rattle.std.specs.Prelude.{◌≡◌, ◌+◌, ◌≤◌, ◌<◌, length, take, drop};
-ghost use Rattle.lexer.specs.Keywords.{words_in, count_in};
+ghost use Rattle.std.specs.Prelude.{◌≡◌, ◌+◌, ◌≤◌, length, take, drop};
+ghost use Rattle.lexer.specs.Keywords.{words_in};
 ghost use Rattle.lexer.specs.declared.reading.Reading.TheVariants.{First, Second};
-ghost use Rattle.lexer.specs.Table.{sorted, cells, spelling_at, lexeme_at, bytes_from, head_of, tail_of};
-
-use super::reading::Reading;
+ghost use Rattle.lexer.specs.Table.{sorted, cells, bytes_from};
 
 static FIRST_WORDS: [u8; 2128] = *b"\
     a. . . . . . .\x01\x64\
@@ -296,50 +294,14 @@ pub(crate) fn second_rows() -> &'static [u8]
     &SECOND_WORDS
 }
 
-// How many rows a reading has.
-pub(crate) fn count_in(reading: Reading) -> usize
-    ensures { result ≡ count_in reading }
-{
-    match reading {
-        Reading::First => 133,
-        Reading::Second => 136,
-    }
-}
-
 // The n bytes from a place on as one number, the first the greatest.
-pub(crate) fn bytes_at(words: &[u8], p: usize, n: usize) -> u64
-    requires { (p + n ≤ length words.now) × (n ≤ 8) }
-    ensures { result ≡ bytes_from 0 (take n (drop p words.now)) }
+pub(crate) fn bytes_at(bytes: &[u8], p: usize, n: usize) -> u64
+    requires { (p + n ≤ length bytes.now) × (n ≤ 8) }
+    ensures { result ≡ bytes_from 0 (take n (drop p bytes.now)) }
 {
     let mut v: u64 = 0;
-    let mut j: usize = 0;
-    while j < n {
-        v = v * 256 + words[p + j] as u64;
-        j += 1;
+    for b in &bytes[p..p + n] {
+        v = v * 256 + *b as u64;
     }
     v
-}
-
-// The first 8 bytes of row i's word.
-pub(crate) fn head_at(reading: Reading, words: &[u8], i: usize) -> u64
-    requires { (words.now ≡ cells (sorted (words_in reading))) × (i < count_in reading) }
-    ensures { result ≡ head_of (spelling_at (sorted (words_in reading)) i) }
-{
-    bytes_at(words, i * 16, 8)
-}
-
-// Its next 4 bytes.
-pub(crate) fn tail_at(reading: Reading, words: &[u8], i: usize) -> u64
-    requires { (words.now ≡ cells (sorted (words_in reading))) × (i < count_in reading) }
-    ensures { result ≡ tail_of (spelling_at (sorted (words_in reading)) i) }
-{
-    bytes_at(words, i * 16 + 8, 4)
-}
-
-// What it means.
-pub(crate) fn lexeme_at(reading: Reading, words: &[u8], i: usize) -> u64
-    requires { (words.now ≡ cells (sorted (words_in reading))) × (i < count_in reading) }
-    ensures { result ≡ lexeme_at (sorted (words_in reading)) i }
-{
-    words[i * 16 + 15] as u64
 }

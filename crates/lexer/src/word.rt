@@ -5,7 +5,7 @@ ghost use Rattle.lexer.specs.Classes.{letter_of};
 ghost use Rattle.lexer.specs.Table.{fixed, bytes_from, weight_of, Room, compared_of};
 ghost use Rattle.lexer.specs.Lex.{letter_at, block_of, key_of};
 
-use super::class::LETTER;
+use super::class::Class;
 use super::run::run_end;
 
 // Letters as one number, filled up, and where they end.
@@ -26,33 +26,25 @@ pub struct Key {
 // The tail of a word that has no more than 8 letters.
 const NO_LETTERS: u64 = 539893806;
 
-// A letter's small one, 0 for any other byte.
-pub(crate) fn letter(b: u8) -> u64
+// A letter's small one.
+#[tactic(auto, unfolding(crate::specs::Classes::letter_of))]
+pub(crate) fn letter(b: u8) -> Option<u8>
     ensures { result ≡ letter_of b }
 {
-    if b'a' <= b {
-        if b <= b'z' {
-            return b as u64;
-        }
-        return 0;
+    if b.is_ascii_lowercase() {
+        Some(b)
+    } else if b.is_ascii_uppercase() {
+        Some(b + 32)
+    } else {
+        None
     }
-    if b < b'A' {
-        return 0;
-    }
-    if b <= b'Z' {
-        return b as u64 + 32;
-    }
-    0
 }
 
-// The letter at a place, 0 where there is none.
-fn letter_at(s: &[u8], at: usize) -> u64
+// The small letter at a place, if one stands there.
+fn letter_at(s: &[u8], at: usize) -> Option<u8>
     ensures { result ≡ letter_at s.now at }
 {
-    if s.len() <= at {
-        return 0;
-    }
-    letter(s[at])
+    letter(*s.get(at)?)
 }
 
 // 256 to the number of places, 0 where that is no u64.
@@ -91,6 +83,7 @@ fn fillers(places: usize) -> u64
 }
 
 // The number v with so many places behind it that a word leaves free.
+#[tactic(auto, using(crate::proofs::Rooms::filled_is, crate::proofs::Rooms::fillers_below))]
 fn filled(v: u64, places: usize) -> u64
     requires { (places ≤ 8) × Room v places }
     ensures { result ≡ bytes_from v (fixed places []) }
@@ -103,22 +96,20 @@ fn block_at(s: &[u8], at: usize, n: usize) -> Block
     requires { n ≤ 8 }
     ensures { result ≡ block_of n s.now at }
 {
-    let mut v: u64 = 0;
-    let mut e = at;
-    let mut places = n;
-    while 0 < places {
-        let c = letter_at(s, e);
-        if c == 0 {
+    let mut number: u64 = 0;
+    for i in 0..n {
+        let Some(small) = letter_at(s, at + i) else {
             return Block {
-                number: filled(v, places),
-                end: e,
+                number: filled(number, n - i),
+                end: at + i,
             };
-        }
-        v = v * 256 + c;
-        e += 1;
-        places -= 1;
+        };
+        number = number * 256 + small as u64;
     }
-    Block { number: v, end: e }
+    Block {
+        number,
+        end: at + n,
+    }
 }
 
 // The word that begins at a.
@@ -137,7 +128,7 @@ pub(crate) fn key_at(s: &[u8], a: usize) -> Key
     Key {
         head: h.number,
         tail: t.number,
-        end: run_end(s, t.end, LETTER),
+        end: run_end(s, t.end, Class::Letter),
     }
 }
 
@@ -146,19 +137,7 @@ pub(crate) fn key_at(s: &[u8], a: usize) -> Key
 fn compared(b: u8) -> u8
     ensures { result ≡ compared_of (lower_of b) }
 {
-    if b < b'/' {
-        return b'/';
-    }
-    if b < b'A' {
-        return b;
-    }
-    if b <= b'Z' {
-        return b + 32;
-    }
-    if b < b'{' {
-        return b;
-    }
-    b'{'
+    b.to_ascii_lowercase().clamp(b'/', b'{')
 }
 
 // The first 12 bytes of a word as a row has them.
@@ -166,13 +145,8 @@ pub(crate) fn row_of(word: &[u8]) -> [u8; 12]
     ensures { result ≡ fixed 12 (map compared_of (folded word.now)) }
 {
     let mut row = *b" . . . . . .";
-    let mut i: usize = 0;
-    while i < 12 {
-        if word.len() <= i {
-            return row;
-        }
+    for i in 0..word.len().min(12) {
         row[i] = compared(word[i]);
-        i += 1;
     }
     row
 }

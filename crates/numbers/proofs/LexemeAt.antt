@@ -46,10 +46,6 @@ pub at_most : (l : List ℕ) (i x : ℕ) → i + one_if (is_at l i x) ≤ max i 
 unfolding is_at
 at_most l i x = reach (ltb i (length l)) (eqb (get_or l i 0) x) i (length l) refl
 
--- the promise of such a test
-pub tested_at : (l : List ℕ) (i x : ℕ) {r : Bool} → r ≡ is_at l i x → (r ≡ is_at l i x) × (i + one_if r ≤ max i (length l))
-tested_at l i x e = (e, rw e (at_most l i x))
-
 -- a test `is_at` that held says that the lexeme is there
 pub there : {r : Bool} {i n : ℕ} → i + one_if r ≤ max i n → r ≡ true → i < n
 there h e = let g = rw e at h in omega arith

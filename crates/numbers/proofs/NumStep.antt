@@ -1,4 +1,5 @@
 -- A number that begins again is read as `num_of` reads it, since the lexemes left fall at each turn.
+use Rattle.std.specs.Prelude.{None, Ok}
 use mathlib.Core.Path.{◌≡◌}
 use mathlib.Core.List.{List}
 use Prim.Native.Nat.{ℕ, ◌+◌, ◌*◌, ◌≤◌, ◌<◌}
@@ -6,10 +7,8 @@ use native.Mathlib.Omega.{arith}
 use lib.ListN.{length, drop, length-drop}
 use Rattle.lexer.specs.Lexemes.{And}
 use Rattle.lexer.specs.declared.reading.Reading.{Reading}
-use Rattle.numbers.specs.declared.NumberFound.{NumberFound}
-use Rattle.numbers.specs.declared.NumberFound.TheVariants.{Nothing}
 use Rattle.numbers.specs.Slices.{is_at, one_if}
-use Rattle.numbers.specs.Answers.{Taken, number}
+use Rattle.numbers.specs.Answers.{NumberFound, Taken, number}
 use Rattle.numbers.specs.Numbers.{num_triple_of, num_triple_unit_of, tail_of, units_of, num_step, num_of}
 use Rattle.numbers.proofs.Again.{again_is}
 use Rattle.numbers.proofs.NumberAnswers.{wider, then_same}
@@ -39,4 +38,4 @@ module _ (N M : List ℕ → NumberFound) (l : List ℕ) (agree : (m : List ℕ)
 -- `Num::parse` calls itself
 pub num_is : (reading : Reading) (l : List ℕ) → num_of reading l ≡ num_step reading (num_of reading) l
 unfolding num_of
-num_is reading l = again_is Nothing (num_step reading) (λ N M m agree. step_agree N M m agree reading) l
+num_is reading l = again_is (Ok None) (num_step reading) (λ N M m agree. step_agree N M m agree reading) l

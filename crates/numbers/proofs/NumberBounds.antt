@@ -1,9 +1,9 @@
 -- The bounds of each number reader: how large its value is, and how many lexemes it takes.
-use mathlib.Core.Path.{◌≡◌, refl}
+use Rattle.std.specs.Prelude.{Some, None, Ok, Err}
+use mathlib.Core.Path.{refl}
 use mathlib.Core.Bool.{Bool, ◌&&◌}
 use mathlib.Core.List.{List, [], ◌∷◌}
-use Prim.Native.Nat.{ℕ, zero, suc, ◌+◌, ◌*◌, ◌%◌, ◌≤◌, ◌<◌, max}
-use native.Mathlib.Nat.{mul-le-mul}
+use Prim.Native.Nat.{ℕ, ◌+◌, ◌*◌, ◌%◌, ◌≤◌, ◌<◌, max}
 use native.Mathlib.Omega.{arith}
 use lib.Dec.{leb, eqb}
 use lib.ListN.{length, drop, length-drop}
@@ -11,25 +11,13 @@ use borrow.Author.Tests.{leb-true, le-leb}
 use Rattle.lexer.specs.Lexemes.{TH, Dash, And, Hundred, Thousand, Million, Billion, NUM, value_of}
 use Rattle.lexer.specs.declared.reading.Reading.{Reading}
 use Rattle.lexer.specs.declared.reading.Reading.TheVariants.{First, Second}
-use Rattle.numbers.specs.declared.NumberFound.{NumberFound}
-use Rattle.numbers.specs.declared.NumberFound.TheVariants.{Is, Nothing, Overflow}
 use Rattle.numbers.specs.Slices.{get, is_at, one_if, within}
-use Rattle.numbers.specs.Answers.{MAX, Bounded, Taken, Read, number, or_zero, fits_of}
+use Rattle.numbers.specs.Answers.{NumberFound, MAX, Bounded, Taken, Read, number, or_zero, fits_of}
 use Rattle.numbers.specs.Numbers.{is_ending, word_of, literal_of, literal_tokens, ones_of, teens_of, tens_of, tens_ones_of}
 use Rattle.numbers.specs.Numbers.{num_double_of, sum_of, tail_of, hundreds_of, num_triple_of, num_triple_unit_of, units_of, num_step, num_of}
 use Rattle.numbers.proofs.LexemeAt.{one-most, within_bounds, literal_bounds, at_most, there}
 use Rattle.numbers.proofs.Again.{again_keeps}
 use Rattle.numbers.proofs.NumberAnswers.{nothing, wider, read, pick_bounded, or-bounded, then_bounded}
-
--- 0, which stands for what is past the end, is no ending
-ending_pos : (x : ℕ) → one_if (is_ending x) ≤ x
-unfolding is_ending
-ending_pos zero = omega arith
-ending_pos (suc x) = let h = one-most (is_ending (suc x)) in omega arith
-
--- the promise of a test for an ending
-pub tested_ending : (x : ℕ) {r : Bool} → r ≡ is_ending x → (r ≡ is_ending x) × (one_if r ≤ x)
-tested_ending x e = (e, rw e (ending_pos x))
 
 -- an ending that is taken behind the first lexeme is there
 ending_most : (l : List ℕ) → 1 + one_if (is_ending (get l 1)) ≤ max 1 (length l)
@@ -102,9 +90,9 @@ tens_taken l =
 
 -- ones that may be missing
 zero-taken : (w : NumberFound) {k hi n : ℕ} → Taken w k hi n → Taken (or_zero w) 0 hi n
-zero-taken (Is a) h = record { bounds = let b = h.bounds in omega arith }
-zero-taken Nothing h = record { bounds = omega arith }
-zero-taken Overflow h = record { bounds = h.bounds }
+zero-taken (Ok (Some a)) h = record { bounds = let b = h.bounds in omega arith }
+zero-taken (Ok None) h = record { bounds = omega arith }
+zero-taken (Err e) h = record { bounds = h.bounds }
 
 pub tens_ones_taken : (l : List ℕ) → Taken (tens_ones_of l) 1 99 (length l)
 unfolding tens_ones_of
@@ -142,12 +130,12 @@ module _ {overflow : Type 0} {hi hi' : ℕ} (head n : ℕ)
   sum-bounded : (required : Bool) (tokens m : ℕ) (w : NumberFound) → 0 < tokens → tokens + m ≤ n
       → Bounded overflow w 1 hi m → Bounded overflow (sum_of required head tokens w) 1 hi' n
   unfolding sum_of
-  sum-bounded required tokens m (Is a) p q h =
+  sum-bounded required tokens m (Ok (Some a)) p q h =
       let b = h.bounds in
       tested (head + a.value) (tokens + a.taken) (omega arith) (omega arith) (omega arith)
-  sum-bounded required tokens m Nothing p q h =
+  sum-bounded required tokens m (Ok None) p q h =
       pick_bounded required _ _ (λ e. nothing) (λ e. tested head tokens (omega arith) (omega arith) (omega arith))
-  sum-bounded required tokens m Overflow p q h = record { bounds = h.bounds }
+  sum-bounded required tokens m (Err e) p q h = record { bounds = h.bounds }
 
 -- a tail takes no more than there is, and its sum is what the test says
 tail_bounded : {overflow : Type 0} {hi hi' : ℕ} (N : List ℕ → NumberFound) (l : List ℕ) (head t : ℕ)
@@ -188,10 +176,6 @@ num_triple_unit_taken l =
     pick_bounded (is_at l 0 Million) _ _ (λ e. record { bounds = let h = there (at_most l 0 Million) e in omega arith }) (λ e.
     pick_bounded (is_at l 0 Billion) _ _ (λ e. record { bounds = let h = there (at_most l 0 Billion) e in omega arith }) (λ e. nothing)))
 
--- a triple times a unit
-pub product : {v m : ℕ} → v ≤ 999 → m ≤ 1000000000 → v * m ≤ 999000000000
-product a b = mul-le-mul a b
-
 module _ (N : List ℕ → NumberFound) (reads : (l : List ℕ) → Read (N l) 1 (length l)) (l : List ℕ) where
   pub units_read : (triple : NumberFound) → Taken triple 0 999 (length l) → Read (units_of N l triple) 1 (length l)
   unfolding units_of
@@ -214,4 +198,4 @@ module _ (N : List ℕ → NumberFound) (reads : (l : List ℕ) → Read (N l) 1
 -- a number is a u32 of at least one lexeme and at most all
 pub num_read : (reading : Reading) (l : List ℕ) → Read (num_of reading l) 1 (length l)
 unfolding num_of
-num_read reading l = again_keeps Nothing (num_step reading) (λ m w. Read w 1 (length m)) (λ m. nothing) (λ N reads m. step_read N reads m reading) l
+num_read reading l = again_keeps (Ok None) (num_step reading) (λ m w. Read w 1 (length m)) (λ m. nothing) (λ N reads m. step_read N reads m reading) l

@@ -1,5 +1,6 @@
 -- A number's value and the lexemes that it takes do not depend on how many digits the runs had. The laws serve `simp`, which computes that
 -- a code is a word's, below NUM. That `plain_of` keeps the length is `length-map` of lib.ListN.
+use Rattle.std.specs.Prelude.{Some, None, Ok, Err}
 use mathlib.Core.Path.{◌≡◌, refl, sym, ap, ◌∙◌}
 use mathlib.Core.Bool.{Bool, true, false, cond, and-false}
 use mathlib.Core.List.{List, [], ◌∷◌}
@@ -12,11 +13,9 @@ use Rattle.lexer.specs.Lexemes.{Dash, And, NUM, value_of}
 use Rattle.lexer.specs.declared.reading.Reading.{Reading}
 use Rattle.lexer.specs.declared.reading.Reading.TheVariants.{First, Second}
 use Rattle.numbers.specs.declared.Number.{Number}
-use Rattle.numbers.specs.declared.NumberFound.{NumberFound}
-use Rattle.numbers.specs.declared.NumberFound.TheVariants.{Is, Nothing, Overflow}
 use Rattle.numbers.specs.Slices.{get, is_at, within, one_if}
 use Rattle.numbers.specs.Again.{turns, again}
-use Rattle.numbers.specs.Answers.{number, pick, or_else, and_then, or_zero}
+use Rattle.numbers.specs.Answers.{NumberFound, number, pick, or_else, and_then, or_zero}
 use Rattle.numbers.specs.Numbers.{is_ending, word_of, literal_of, literal_tokens, ones_of, teens_of, tens_of, tens_ones_of}
 use Rattle.numbers.specs.Numbers.{num_double_of, sum_of, tail_of, hundreds_of, num_triple_of, num_triple_unit_of, units_of, num_step, num_of}
 use Rattle.numbers.specs.Written.{plain, plain_of, unwritten}
@@ -90,11 +89,11 @@ module _ {A : Type 0} (nothing : A) (step : (List ℕ → A) → List ℕ → A)
 abbrev pub Alike : (List ℕ → NumberFound) → Type 0
 Alike R = (l : List ℕ) → unwritten (R (plain_of l)) ≡ unwritten (R l)
 
-module _ {B : Type 0} (f : NumberFound → B) (unread : (a : Number) → f (Is a) ≡ f (number a.value a.taken)) where
+module _ {B : Type 0} (f : NumberFound → B) (unread : (a : Number) → f (Ok (Some a)) ≡ f (number a.value a.taken)) where
   without : (w : NumberFound) → f w ≡ f (unwritten w)
-  without (Is a) = unread a
-  without Nothing = refl
-  without Overflow = refl
+  without (Ok (Some a)) = unread a
+  without (Ok None) = refl
+  without (Err e) = refl
 
   -- what does not read the digits of its answer depends on none
   pub unread_plain : (R : List ℕ → NumberFound) → Alike R → (l : List ℕ) → f (R (plain_of l)) ≡ f (R l)
@@ -107,9 +106,9 @@ unwritten_pick false v w = refl
 
 -- the digits are set aside in each alternative
 unwritten_or : (v w : NumberFound) → unwritten (or_else v w) ≡ or_else (unwritten v) (unwritten w)
-unwritten_or (Is a) w = refl
-unwritten_or Nothing w = refl
-unwritten_or Overflow w = refl
+unwritten_or (Ok (Some a)) w = refl
+unwritten_or (Ok None) w = refl
+unwritten_or (Err e) w = refl
 
 -- a test for an ending
 ending_plain : (x : ℕ) → is_ending (plain x) ≡ is_ending x
@@ -121,7 +120,7 @@ word_plain : (l : List ℕ) (lo hi t : ℕ) → ltb hi NUM ≡ true → word_of 
 unfolding word_of
 word_plain l lo hi t h =
     rw (get_plain l 0)
-    (same_plain (λ y. pick (within lo y hi) (number y t) Nothing) Nothing (λ y a. rw (not_within lo y hi h a)) (get l 0))
+    (same_plain (λ y. pick (within lo y hi) (number y t) (Ok None)) (Ok None) (λ y a. rw (not_within lo y hi h a)) (get l 0))
 
 -- each reader in turn: those whose answer is no single run are the same, and the others alike
 literal_plain : (l : List ℕ) (lo hi t : ℕ) → unwritten (literal_of (plain_of l) lo hi t) ≡ unwritten (literal_of l lo hi t)
@@ -197,9 +196,9 @@ module _ (N : List ℕ → NumberFound) (alike : Alike N) (l : List ℕ) where
 pub num_plain : (reading : Reading) → Alike (num_of reading)
 unfolding num_of
 num_plain reading l =
-    again_plain Nothing (num_step reading) (λ v w. unwritten v ≡ unwritten w) refl (λ N alike m. step_plain N alike m reading) l
+    again_plain (Ok None) (num_step reading) (λ v w. unwritten v ≡ unwritten w) refl (λ N alike m. step_plain N alike m reading) l
 
 -- nor does what reads only those of it: `num_unread parsed_number (λ a. refl)`
-pub num_unread : {B : Type 0} (f : NumberFound → B) → ((a : Number) → f (Is a) ≡ f (number a.value a.taken))
+pub num_unread : {B : Type 0} (f : NumberFound → B) → ((a : Number) → f (Ok (Some a)) ≡ f (number a.value a.taken))
     → (reading : Reading) (l : List ℕ) → f (num_of reading (plain_of l)) ≡ f (num_of reading l)
 num_unread f unread reading l = unread_plain f unread (num_of reading) (num_plain reading) l

@@ -1,12 +1,10 @@
 -- Worked cases: what `Num::parse` gives for each row of lexemes, computed.
-use Rattle.std.specs.Prelude.{◌≡◌, refl, List, [], ◌∷◌, map, ℕ, ◌+◌, ◌*◌}
+use Rattle.std.specs.Prelude.{◌≡◌, refl, None, Ok, Err, List, [], ◌∷◌, map, ℕ, ◌+◌, ◌*◌}
 use Rattle.lexer.specs.Lexemes.{One, Two, Three, Four, Five, Six, Seven, Nine, Twenty, Sixty, Ninety, Dash, And, Zero, Hundred, Thousand, Million, Billion, ST, ND, RD, TH, NUM}
 use Rattle.lexer.specs.declared.reading.Reading.{Reading}
 use Rattle.lexer.specs.declared.reading.Reading.TheVariants.{First, Second}
-use Rattle.numbers.specs.declared.NumberFound.{NumberFound}
-use Rattle.numbers.specs.declared.NumberFound.TheVariants.{Nothing, Overflow}
 use Rattle.numbers.specs.Slices.{get, is_at, within}
-use Rattle.numbers.specs.Answers.{number, written, fits_of}
+use Rattle.numbers.specs.Answers.{NumberFound, overflow, number, written, fits_of}
 use Rattle.numbers.specs.Numbers.{is_ending, word_of, literal_of, ones_of, teens_of, tens_of, tens_ones_of, num_double_of, sum_of, tail_of, hundreds_of, num_triple_of, num_triple_unit_of, units_of, num_step, num_of}
 use Rattle.numbers.specs.Again.{turns, again}
 
@@ -46,9 +44,9 @@ cases =
     ∷ row (Ninety ∷ Nine ∷ Dash ∷ []) (number 99 2)
     -- after an `and` a number has to follow
     ∷ row (One ∷ Hundred ∷ And ∷ []) (number 1 1)
-    ∷ row (Hundred ∷ And ∷ []) Nothing
+    ∷ row (Hundred ∷ And ∷ []) (Ok None)
     -- `Zero` is never a number, the digit 0 is
-    ∷ row (Zero ∷ []) Nothing
+    ∷ row (Zero ∷ []) (Ok None)
     ∷ row (Num 1 0 ∷ []) (written 0 1 1)
     -- an ending is taken with some numbers only
     ∷ row (Num 1 4 ∷ RD ∷ []) (written 4 1 2)
@@ -65,14 +63,14 @@ cases =
     -- the largest u32, and one more
     ∷ row (Num 10 4294967295 ∷ []) (written 4294967295 10 1)
     ∷ row (near_max Five) (number 4294967295 16)
-    ∷ row (near_max Six) Overflow
-    ∷ row (Thousand ∷ And ∷ Num 10 4294966296 ∷ []) Overflow
+    ∷ row (near_max Six) (Err overflow)
+    ∷ row (Thousand ∷ And ∷ Num 10 4294966296 ∷ []) (Err overflow)
     -- the product is made only once the tail has been read and not given up
     ∷ row (Four ∷ Billion ∷ []) (number 4000000000 2)
-    ∷ row (Five ∷ Billion ∷ []) Overflow
+    ∷ row (Five ∷ Billion ∷ []) (Err overflow)
     ∷ row (Five ∷ Billion ∷ And ∷ []) (number 5 1)
     -- an overflow in the number that begins again stops the reading
-    ∷ row (One ∷ Thousand ∷ And ∷ Five ∷ Billion ∷ []) Overflow
+    ∷ row (One ∷ Thousand ∷ And ∷ Five ∷ Billion ∷ []) (Err overflow)
     ∷ []
 
 -- the endings of the second reading: any behind a literal, and behind a word those of the first

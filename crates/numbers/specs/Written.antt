@@ -1,9 +1,7 @@
 -- How many digits a run had is set aside, in the lexemes and in an answer: `num_plain` says that no more of an answer depends on it.
-use Rattle.std.specs.Prelude.{ℕ, ◌+◌, cond, List, map, leb}
+use Rattle.std.specs.Prelude.{ℕ, ◌+◌, cond, Some, None, Ok, Err, List, map, leb}
 use Rattle.lexer.specs.Lexemes.{NUM, value_of}
-use Rattle.numbers.specs.declared.NumberFound.{NumberFound}
-use Rattle.numbers.specs.declared.NumberFound.TheVariants.{Is, Nothing, Overflow}
-use Rattle.numbers.specs.Answers.{number}
+use Rattle.numbers.specs.Answers.{NumberFound, number}
 
 -- a lexeme, a literal as if its run had one digit
 unfoldable pub plain : ℕ → ℕ
@@ -15,6 +13,6 @@ plain_of l = map plain l
 
 -- an answer without the digits
 abbrev pub unwritten : NumberFound → NumberFound
-unwritten (Is a) = number a.value a.taken
-unwritten Nothing = Nothing
-unwritten Overflow = Overflow
+unwritten (Ok (Some a)) = number a.value a.taken
+unwritten (Ok None) = Ok None
+unwritten (Err e) = Err e

@@ -9,12 +9,9 @@ ghost use Rattle.numbers.specs.Numbers.{num_double_of, sum_of, hundreds_of, num_
 
 use lexer::lexeme::{AND, BILLION, DASH, HUNDRED, MILLION, ND, NUM, RD, ST, TH, THOUSAND};
 use lexer::reading::Reading;
-use slices::{get, is_at, is_within, one_if, rest, take_if};
+use slices::{get, is_at, rest, take_if};
 
 pub mod slices;
-
-// The largest u32.
-const MAX: u32 = 4294967295;
 
 // A number that was read, the digits of the one run that it was written with, 0 for any other number, and the lexemes taken.
 #[derive(Clone, Copy)]
@@ -24,23 +21,25 @@ pub struct Number {
     pub taken: usize,
 }
 
-// What a number reader answers. `Overflow` is refusal 6: a sum or product in the number passes 4,294,967,295.
-#[derive(Clone, Copy)]
-pub enum NumberFound {
-    Is(Number),
-    Nothing,
-    Overflow,
-}
+// Refusal 6: a sum or product in a number passes 4,294,967,295.
+#[derive(Clone, Copy, PartialEq, Eq)]
+pub struct Overflow;
+
+// What a reader answers: a value and the lexemes taken, or that there is none, or an overflow, which stops the reading.
+pub type Found<T> = Result<Option<(T, usize)>, Overflow>;
+
+// What a number reader answers.
+pub type NumberFound = Result<Option<Number>, Overflow>;
 
 // The answer of a value, the digits that it was written with and the lexemes taken: the one function that makes a `Number`.
 fn written(value: u32, digits: u32, taken: usize) -> NumberFound
     ensures { result ≡ written value digits taken }
 {
-    NumberFound::Is(Number {
+    Ok(Some(Number {
         value,
         digits,
         taken,
-    })
+    }))
 }
 
 // The same of a number that is not one run of digits.
@@ -51,20 +50,12 @@ fn found(value: u32, taken: usize) -> NumberFound
 }
 
 // `ST | RD | ND | TH`
+#[tactic(auto, unfolding(crate::specs::Numbers::is_ending))]
 fn is_ending(x: u64) -> bool
     ensures value { result ≡ is_ending x }
     ensures result_bound { one_if result ≤ x }
 {
-    if x == ST {
-        return true;
-    }
-    if x == RD {
-        return true;
-    }
-    if x == ND {
-        return true;
-    }
-    x == TH
+    matches!(x, ST | RD | ND | TH)
 }
 
 // 1 for an ordinal's ending at i, which is taken then, and else 0.
@@ -72,32 +63,31 @@ fn take_ending(l: &[u64], i: usize) -> usize
     ensures value { result ≡ one_if (is_ending (get l.now i)) }
     ensures upper_bound { (result ≤ 1) × (i + result ≤ max i (length l.now)) }
 {
-    one_if(is_ending(get(l, i)))
+    usize::from(is_ending(get(l, i)))
 }
 
 // A number word from lo to hi, whose code is its value.
+#[tactic(auto, unfolding(crate::specs::Numbers::word_of, crate::specs::Slices::within))]
 fn word(l: &[u64], lo: u32, hi: u32, tokens: usize) -> NumberFound
     ensures { result ≡ word_of l.now lo hi tokens }
 {
     let x = get(l, 0);
-    if is_within(lo as u64, x, hi as u64) {
+    if (u64::from(lo)..=u64::from(hi)).contains(&x) {
         return found(x as u32, tokens);
     }
-    NumberFound::Nothing
+    Ok(None)
 }
 
 // `Num(n)` with lo <= n <= hi, and the digits of its run.
+#[tactic(auto, unfolding(crate::specs::Numbers::literal_of, crate::specs::Slices::within))]
 fn literal(l: &[u64], lo: u32, hi: u32, tokens: usize) -> NumberFound
     ensures { result ≡ literal_of l.now lo hi tokens }
 {
     let x = get(l, 0);
-    if x < NUM {
-        return NumberFound::Nothing;
-    }
-    if is_within(lo as u64, x % NUM, hi as u64) {
+    if NUM <= x && (u64::from(lo)..=u64::from(hi)).contains(&(x % NUM)) {
         return written((x % NUM) as u32, (x / NUM) as u32, tokens);
     }
-    NumberFound::Nothing
+    Ok(None)
 }
 
 // The lexemes of a literal that takes so many in the first reading: in the second any ending may follow it.
@@ -114,14 +104,14 @@ fn literal_tokens(reading: Reading, l: &[u64], tokens: usize) -> usize
 fn word_or_literal(l: &[u64], first: u32, last: u32, lo: u32, hi: u32, tokens: usize) -> NumberFound
     ensures { result ≡ or_else (word_of l.now first last tokens) (literal_of l.now lo hi tokens) }
 {
-    let a = word(l, first, last, tokens);
-    let NumberFound::Nothing = a else {
-        return a;
-    };
+    if let Some(n) = word(l, first, last, tokens)? {
+        return Ok(Some(n));
+    }
     literal(l, lo, hi, tokens)
 }
 
 // `Ones::parse`
+#[tactic(auto, using(crate::proofs::NumberBounds::ones_taken), unfolding(crate::specs::Numbers::ones_of))]
 fn ones(l: &[u64]) -> NumberFound
     ensures value { result ≡ ones_of l.now }
     ensures taken { Taken result 1 9 (length l.now) }
@@ -130,115 +120,100 @@ fn ones(l: &[u64]) -> NumberFound
 }
 
 // `Teens::parse`
+#[tactic(auto, unfolding(crate::specs::Numbers::teens_of))]
 fn teens(reading: Reading, l: &[u64]) -> NumberFound
-    ensures value { result ≡ teens_of reading l.now }
-    ensures taken { Taken result 1 19 (length l.now) }
+    ensures { result ≡ teens_of reading l.now }
 {
     let tokens = 1 + take_if(l, 1, TH);
-    let a = word(l, 10, 19, tokens);
-    let NumberFound::Nothing = a else {
-        return a;
-    };
+    if let Some(n) = word(l, 10, 19, tokens)? {
+        return Ok(Some(n));
+    }
     literal(l, 10, 19, literal_tokens(reading, l, tokens))
 }
 
 // `Tens::parse`
+#[tactic(auto, unfolding(crate::specs::Numbers::tens_of))]
 fn tens(l: &[u64]) -> NumberFound
     ensures value { result ≡ tens_of l.now }
     ensures taken { Taken result 1 90 (length l.now) }
 {
-    let tokens = 1 + take_if(l, 1, TH);
-    let a = word(l, 20, 90, tokens);
-    let NumberFound::Is(n) = a else {
-        return a;
-    };
-    if n.value % 10 == 0 {
-        return a;
-    }
-    NumberFound::Nothing
+    let tens = word(l, 20, 90, 1 + take_if(l, 1, TH))?;
+    Ok(tens.filter(|n| n.value % 10 == 0))
 }
 
 // The first alternative of `NumDouble::parse`: tens, a dash that may be missing, ones that may be missing.
+#[tactic(auto, unfolding(crate::specs::Numbers::tens_ones_of))]
 fn tens_ones(l: &[u64]) -> NumberFound
-    ensures value { result ≡ tens_ones_of l.now }
-    ensures taken { Taken result 1 99 (length l.now) }
+    ensures { result ≡ tens_ones_of l.now }
 {
-    let NumberFound::Is(n) = tens(l) else {
-        return NumberFound::Nothing;
+    let Some(n) = tens(l)? else {
+        return Ok(None);
     };
     let tokens = n.taken + take_if(l, n.taken, DASH);
-    let NumberFound::Is(m) = ones(rest(l, tokens)) else {
+    let Some(m) = ones(rest(l, tokens))? else {
         return found(n.value, tokens);
     };
     found(n.value + m.value, tokens + m.taken)
 }
 
 // `NumDouble::parse`
+#[tactic(auto, unfolding(crate::specs::Numbers::num_double_of))]
 fn num_double(reading: Reading, l: &[u64]) -> NumberFound
-    ensures value { result ≡ num_double_of reading l.now }
-    ensures taken { Taken result 1 99 (length l.now) }
+    ensures { result ≡ num_double_of reading l.now }
 {
-    let a = tens_ones(l);
-    let NumberFound::Nothing = a else {
-        return a;
-    };
-    let b = teens(reading, l);
-    let NumberFound::Nothing = b else {
-        return b;
-    };
-    let c = ones(l);
-    let NumberFound::Nothing = c else {
-        return c;
-    };
+    if let Some(n) = tens_ones(l)? {
+        return Ok(Some(n));
+    }
+    if let Some(n) = teens(reading, l)? {
+        return Ok(Some(n));
+    }
+    if let Some(n) = ones(l)? {
+        return Ok(Some(n));
+    }
     literal(l, 20, 99, literal_tokens(reading, l, 1))
 }
 
 // A value that passes the largest u32 is an overflow.
+#[tactic(auto, unfolding(crate::specs::Answers::fits_of))]
 fn fits(v: u64, t: usize) -> NumberFound
     ensures { result ≡ fits_of v t }
 {
-    if v <= MAX as u64 {
-        found(v as u32, t)
-    } else {
-        NumberFound::Overflow
+    match u32::try_from(v) {
+        Ok(value) => found(value, t),
+        Err(_) => Err(Overflow),
     }
 }
 
 // A head and the number behind it, which may be missing unless it is required.
+#[tactic(auto, unfolding(crate::specs::Numbers::sum_of))]
 fn sum(required: bool, head: u64, tokens: usize, num: NumberFound) -> NumberFound
     requires { (head ≤ 999000000000) × (tokens + taken_of num ≤ USIZE) }
     ensures { result ≡ sum_of required head tokens num }
 {
-    match num {
-        NumberFound::Is(n) => fits(head + n.value as u64, tokens + n.taken),
-        NumberFound::Nothing => {
-            if required {
-                NumberFound::Nothing
-            } else {
-                fits(head, tokens)
-            }
-        }
-        NumberFound::Overflow => NumberFound::Overflow,
+    match num? {
+        Some(n) => fits(head + u64::from(n.value), tokens + n.taken),
+        None if required => Ok(None),
+        None => fits(head, tokens),
     }
 }
 
 // `<ones> hundred [[and] <num_double>]` for the ones that were read.
+#[tactic(auto, unfolding(crate::specs::Numbers::hundreds_of, crate::specs::Numbers::tail_of))]
 fn hundreds(reading: Reading, l: &[u64], ones: NumberFound) -> NumberFound
     requires { Taken ones 0 9 (length l.now) }
-    ensures value { result ≡ hundreds_of reading l.now ones }
-    ensures taken { Taken result 1 999 (length l.now) }
+    ensures { result ≡ hundreds_of reading l.now ones }
 {
-    let NumberFound::Is(n) = ones else {
-        return NumberFound::Nothing;
+    let Some(n) = ones? else {
+        return Ok(None);
     };
-    if is_at(l, n.taken, HUNDRED) {
-        let head = n.value as u64 * 100;
-        let s = n.taken + 1;
-        let required = is_at(l, s, AND);
-        let tokens = s + one_if(required);
-        return sum(required, head, tokens, num_double(reading, rest(l, tokens)));
+    if !is_at(l, n.taken, HUNDRED) {
+        return Ok(None);
     }
-    NumberFound::Nothing
+    let head = u64::from(n.value) * 100;
+    let s = n.taken + 1;
+    let required = is_at(l, s, AND);
+    let tokens = s + usize::from(required);
+    sum(required, head, tokens, num_double(reading, rest(l, tokens)))
 }
 
 // The last alternative of `NumTriple::parse`: a literal from 100 to 999, with an ordinal's ending.
@@ -249,26 +224,24 @@ fn literal_hundreds(l: &[u64]) -> NumberFound
 }
 
 // `NumTriple::parse`
+#[tactic(auto, unfolding(crate::specs::Numbers::num_triple_of))]
 fn num_triple(reading: Reading, l: &[u64]) -> NumberFound
-    ensures value { result ≡ num_triple_of reading l.now }
-    ensures taken { Taken result 1 999 (length l.now) }
+    ensures { result ≡ num_triple_of reading l.now }
 {
-    let a = hundreds(reading, l, ones(l));
-    let NumberFound::Nothing = a else {
-        return a;
-    };
-    let b = hundreds(reading, l, found(1, 0));
-    let NumberFound::Nothing = b else {
-        return b;
-    };
-    let c = num_double(reading, l);
-    let NumberFound::Nothing = c else {
-        return c;
-    };
+    if let Some(n) = hundreds(reading, l, ones(l))? {
+        return Ok(Some(n));
+    }
+    if let Some(n) = hundreds(reading, l, found(1, 0))? {
+        return Ok(Some(n));
+    }
+    if let Some(n) = num_double(reading, l)? {
+        return Ok(Some(n));
+    }
     literal_hundreds(l)
 }
 
 // `NumTripleUnit::parse`
+#[tactic(auto, unfolding(crate::specs::Numbers::num_triple_unit_of))]
 fn num_triple_unit(l: &[u64]) -> NumberFound
     ensures value { result ≡ num_triple_unit_of l.now }
     ensures taken { Taken result 1 1000000000 (length l.now) }
@@ -282,76 +255,66 @@ fn num_triple_unit(l: &[u64]) -> NumberFound
     if is_at(l, 0, BILLION) {
         return found(1000000000, 1);
     }
-    NumberFound::Nothing
+    Ok(None)
 }
 
 // `<num_triple> <num_triple_unit> [[and] <num>]` for the triple that was read: the tail behind it, in which a number begins again.
 #[cycle(units_whole)]
+#[tactic(auto, unfolding(crate::specs::Numbers::units_of, crate::specs::Numbers::tail_of))]
 fn units(reading: Reading, l: &[u64], triple: NumberFound) -> NumberFound
     requires { Taken triple 0 999 (length l.now) }
-    ensures value { result ≡ units_of (num_of reading) l.now triple }
-    ensures read { Read result 1 (length l.now) }
+    ensures { result ≡ units_of (num_of reading) l.now triple }
 {
-    let NumberFound::Is(n) = triple else {
-        return NumberFound::Nothing;
+    let Some(n) = triple? else {
+        return Ok(None);
     };
-    let NumberFound::Is(unit) = num_triple_unit(rest(l, n.taken)) else {
-        return NumberFound::Nothing;
+    let Some(unit) = num_triple_unit(rest(l, n.taken))? else {
+        return Ok(None);
     };
-    let head = n.value as u64 * unit.value as u64;
+    let head = u64::from(n.value) * u64::from(unit.value);
     let s = n.taken + unit.taken;
     let required = is_at(l, s, AND);
-    let tokens = s + one_if(required);
+    let tokens = s + usize::from(required);
     sum(required, head, tokens, whole(reading, rest(l, tokens)))
 }
 
-// Does a number begin with the first lexeme? Tested in the order of the codes.
+// Does a number begin with the first lexeme?
+#[tactic(auto, unfolding(crate::specs::Numbers::begins_number, crate::specs::Slices::within))]
 fn begins_number(l: &[u64]) -> bool
     ensures { result ≡ begins_number (get l.now 0) }
 {
     let x = get(l, 0);
-    if x < HUNDRED {
-        return is_within(1, x, 90);
-    }
-    if x <= BILLION {
-        return true;
-    }
-    NUM <= x
+    (1..=90).contains(&x) || (HUNDRED..=BILLION).contains(&x) || NUM <= x
 }
 
 // `Num::parse`, each alternative; the triple is read once for both that begin with it.
+#[tactic(auto, using(crate::proofs::NumStep::num_is), unfolding(crate::specs::Numbers::num_step))]
 #[cycle(units_whole)]
 fn whole(reading: Reading, l: &[u64]) -> NumberFound
-    ensures value { result ≡ num_of reading l.now }
-    ensures read { Read result 1 (length l.now) }
+    ensures { result ≡ num_of reading l.now }
 {
     let triple = num_triple(reading, l);
-    let scaled = units(reading, l, triple);
-    let NumberFound::Nothing = scaled else {
-        return scaled;
-    };
-    let unit = units(reading, l, found(1, 0));
-    let NumberFound::Nothing = unit else {
-        return unit;
-    };
-    let NumberFound::Nothing = triple else {
-        return triple;
-    };
-    literal(l, 1000, MAX, literal_tokens(reading, l, 1))
+    if let Some(n) = units(reading, l, triple)? {
+        return Ok(Some(n));
+    }
+    if let Some(n) = units(reading, l, found(1, 0))? {
+        return Ok(Some(n));
+    }
+    if let Some(n) = triple? {
+        return Ok(Some(n));
+    }
+    literal(l, 1000, u32::MAX, literal_tokens(reading, l, 1))
 }
 
 // A literal, or a word up to nineteen, is the number where behind it stands no lexeme from `HUNDRED` to `TH`, which could belong to it.
 fn begun(reading: Reading, l: &[u64]) -> NumberFound
-    ensures value { result ≡ num_of reading l.now }
-    ensures read { Read result 1 (length l.now) }
+    ensures { result ≡ num_of reading l.now }
 {
-    if is_within(HUNDRED, get(l, 1), TH) {
-        return whole(reading, l);
+    if !(HUNDRED..=TH).contains(&get(l, 1)) {
+        if let Some(n) = word_or_literal(l, 1, 19, 0, u32::MAX, 1)? {
+            return Ok(Some(n));
+        }
     }
-    let alone = word_or_literal(l, 1, 19, 0, MAX, 1);
-    let NumberFound::Nothing = alone else {
-        return alone;
-    };
     whole(reading, l)
 }
 
@@ -363,5 +326,5 @@ pub fn num(reading: Reading, l: &[u64]) -> NumberFound
     if begins_number(l) {
         return begun(reading, l);
     }
-    NumberFound::Nothing
+    Ok(None)
 }

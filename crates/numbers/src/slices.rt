@@ -1,29 +1,23 @@
 // Reading a slice of lexemes at a place: what all readers share.
 ghost use Rattle.std.specs.Prelude.{◌≡◌, ◌+◌, ◌*◌, ◌≤◌, min, max, length, drop};
-ghost use Rattle.numbers.specs.Slices.{get, is_at, one_if, within};
+ghost use Rattle.numbers.specs.Slices.{get, is_at, one_if};
 
-// `l.get(i)`: the lexeme at i, or 0 past the end.
+// The lexeme at i, or 0 past the end.
+#[tactic(auto, unfolding(crate::specs::Slices::get))]
 pub fn get(l: &[u64], i: usize) -> u64
     ensures value { result ≡ get l.now i }
     ensures result_bound { i + min result 1 ≤ max i (length l.now) }
 {
-    if i < l.len() { l[i] } else { 0 }
+    l.get(i).copied().unwrap_or(0)
 }
 
-// `l.get(i) == Some(&x)`
+// Whether the lexeme x stands at i.
+#[tactic(auto, unfolding(crate::specs::Slices::is_at))]
 pub fn is_at(l: &[u64], i: usize, x: u64) -> bool
     ensures value { result ≡ is_at l.now i x }
     ensures result_bound { i + one_if result ≤ max i (length l.now) }
 {
-    if i < l.len() { l[i] == x } else { false }
-}
-
-// The lexemes that a test takes: one where it holds.
-pub(crate) fn one_if(b: bool) -> usize
-    ensures value { result ≡ one_if b }
-    ensures upper_bound { result ≤ 1 }
-{
-    if b { 1 } else { 0 }
+    l.get(i) == Some(&x)
 }
 
 // 1 for a lexeme x at i, which is taken then, and else 0.
@@ -31,7 +25,7 @@ pub fn take_if(l: &[u64], i: usize, x: u64) -> usize
     ensures value { result ≡ one_if (is_at l.now i x) }
     ensures upper_bound { (result ≤ 1) × (i + result ≤ max i (length l.now)) }
 {
-    one_if(is_at(l, i, x))
+    usize::from(is_at(l, i, x))
 }
 
 // `&l[t..]`
@@ -42,11 +36,4 @@ pub fn rest(l: &[u64], t: usize) -> &[u64]
     ensures own { result.ref_ptr ≡ (l.entry.ref_ptr.0, t * 8 + l.entry.ref_ptr.1) }
 {
     &l[t..]
-}
-
-// Is the lexeme x one of those from lo to hi?
-pub fn is_within(lo: u64, x: u64, hi: u64) -> bool
-    ensures { result ≡ within lo x hi }
-{
-    if lo <= x { x <= hi } else { false }
 }

@@ -2,46 +2,25 @@
 use Prim.Native.Nat.{ℕ, ◌+◌, ◌≤◌, ◌<◌}
 use native.Mathlib.Omega.{arith}
 use mathlib.Core.Path.{◌≡◌, refl, ap, sym, ◌∙◌}
-use mathlib.Core.Bool.{Bool, true, false, ◌||◌}
-use mathlib.Core.List.{List, [], ◌∷◌}
+use mathlib.Core.Bool.{Bool, true, false}
+use mathlib.Core.List.{List, []}
 use lib.ListN.{length, drop, length-drop}
 use lib.Seq.{drop-drop}
-use types.Run.{OneOf}
-use denote.Enum.Declared.{tag_of}
-use Rattle.lexer.specs.Lexemes as lexeme
+use Rattle.std.specs.Prelude.{Option, Some, None, Result, Ok, Err}
 use Rattle.lexer.specs.declared.reading.Reading.{Reading}
-use Rattle.numbers.specs.Slices.{is_at, one_if}
+use Rattle.numbers.specs.declared.Overflow.{Overflow}
+use Rattle.numbers.specs.Answers.{overflow as large}
 use Rattle.numbers.proofs.Again.{again_is}
-use Rattle.numbers.proofs.NumberAnswers.{neither}
-use Rattle.dates.specs.Parsed.{Parsed, is, nothing, overflow, if_let, and_then, stopped}
+use Rattle.dates.specs.Parsed.{Parsed, is, nothing, overflow, and_then}
 use Rattle.dates.specs.Durations.{Duration}
-use Rattle.dates.specs.Times.{time_of, parsed_time}
-use Rattle.dates.specs.declared.time.Time.{Time}
-use Rattle.dates.specs.declared.time.Time.TheVariants.{Empty}
-use Rattle.dates.specs.declared.time.TimeFound.{TimeFound}
-use Rattle.dates.specs.declared.time.TimeFound.TheVariants.{Is as IsTime, Nothing as NoTime, Overflow as TimeOverflow}
-use Rattle.dates.specs.contracts.time.TimeFound.{the_type as time-type}
-use borrow.Author.Tests.{eqb-false, lt-ltb, le-ltb}
-use Rattle.dates.proofs.Parsed.{Arm, unread, dropped}
-use Rattle.expressions.specs.Tree.{DateExpr, empty}
-use Rattle.expressions.specs.DateExprs.{date_expr_of}
-use Rattle.expressions.specs.Shapes.{shape}
-use Rattle.expressions.specs.ExprAnswers.{own_place, expr_answer}
-use Rattle.expressions.specs.declared.expr.Expr.{Expr}
-use Rattle.expressions.specs.declared.expr.Expr.TheVariants.{Empty as NoDate}
-use Rattle.expressions.specs.declared.expr.ExprTaken.{ExprTaken}
-use Rattle.expressions.specs.declared.expr.ExprTaken.TheVariants.{Is as IsExpr, Nothing as NoExpr, Overflow as ExprOverflow}
+use borrow.Author.Tests.{lt-ltb, le-ltb}
 use Rattle.phrase.specs.Tree.{DateTime, date_time, time_date, duration_after, duration_before, now, around}
-use Rattle.phrase.specs.DateTimes.{Turn, whole, ago, link, comma_or, time_behind_of, timed_turn_of, undated_turn_of, turn_of}
+use Rattle.phrase.specs.DateTimes.{Turn, whole, ago, link, turn_of}
 use Rattle.phrase.specs.DateTimes.{again_of, date_time_step, date_time_of}
-use Rattle.phrase.specs.Outlines.{link_taken, outline, count_of, tree_in, outline_answer, turn_answer, kept}
-use Rattle.phrase.specs.declared.chain.Base.TheVariants.{Now, DateTime as Dated, TimeDate as Timed}
-use Rattle.phrase.specs.declared.date_time.Count.{Count}
-use Rattle.phrase.specs.declared.date_time.Count.TheVariants.{Is, Nothing, Overflow}
+use Rattle.phrase.specs.Outlines.{link_taken, outline, outline_answer, turn_answer, kept}
 use Rattle.phrase.specs.declared.date_time.Outline.{Outline}
-use Rattle.phrase.specs.declared.date_time.TurnTaken.{TurnTaken}
-use Rattle.phrase.specs.declared.date_time.TurnTaken.TheVariants.{Whole, Ago, Link, Nothing as NoTurn, Overflow as TurnOverflow}
-use Rattle.phrase.specs.contracts.date_time.Count.{the_type as count-type}
+use Rattle.phrase.specs.declared.date_time.Turn.{Turn as TurnTaken}
+use Rattle.phrase.specs.declared.date_time.Turn.TheVariants.{Whole, Ago, Link}
 use Rattle.dates.proofs.Each.{Each}
 use Rattle.phrase.proofs.Stands.{TurnHolds, Bare, turn_holds, link_taken_lem}
 
@@ -63,10 +42,10 @@ unfolding date_time_of
 date_time_is reading l = again_is nothing (date_time_step reading) (step_agree reading) l
 
 -- the outline of what is read at l, behind m links of at lexemes
-abbrev pub linked : Reading → ℕ → ℕ → List ℕ → Parsed DateTime → Outline
-linked reading m at l (is x u) = outline reading (Is (at + u)) m l x
-linked reading m at l nothing = outline reading Nothing 0 l now
-linked reading m at l overflow = outline reading Overflow 0 l now
+abbrev pub linked : Reading → ℕ → ℕ → List ℕ → Parsed DateTime → Result (Option Outline) Overflow
+linked reading m at l (is x u) = Ok (Some (outline reading (at + u) m l x))
+linked reading m at l nothing = Ok None
+linked reading m at l overflow = Err large
 
 -- m links of at lexemes are passed
 pub record Turning (reading : Reading) (l : List ℕ) (at m : ℕ) : Type 0 where
@@ -84,7 +63,7 @@ unlinked reading l = record { outlined = go (date_time_of reading l); within = o
     go overflow = refl
 
 -- a base is the same with other links and another count
-whole_outline : (reading : Reading) (x : DateTime) → Bare x → (l : List ℕ) (k j : Count) (m n : ℕ) →
+whole_outline : (reading : Reading) (x : DateTime) → Bare x → (l : List ℕ) (k j m n : ℕ) →
     let o = outline reading j n l x in outline reading k m l x ≡ record { taken = k; base = o.base; time = o.time; own = o.own; m = m }
 whole_outline reading (date_time e t) h l k j m n = refl
 whole_outline reading (time_date t e) h l k j m n = refl
@@ -92,22 +71,20 @@ whole_outline reading (duration_after dur x) h l k j m n = absurd h
 whole_outline reading (duration_before dur x) h l k j m n = absurd h
 whole_outline reading now h l k j m n = refl
 
-pub around_outline : (reading : Reading) (back : Bool) (dur : Duration) (x : DateTime) (k : Count) (m : ℕ) (l : List ℕ) →
+pub around_outline : (reading : Reading) (back : Bool) (dur : Duration) (x : DateTime) (k m : ℕ) (l : List ℕ) →
     outline reading k m l (around back dur x) ≡ outline reading k (m + 1) (drop (link_taken reading l) l) x
 around_outline reading true dur x k m l = refl
 around_outline reading false dur x k m l = refl
 
 -- what the code's answer for a turn says of the outline
-abbrev Said : Reading → List ℕ → ℕ → ℕ → TurnTaken → Type 0
-Said reading l at m (Whole b time own t) =
-    (outline_answer reading l (date_time_of reading l) ≡ record { taken = Is (at + t); base = b; time = time; own = own; m = m }) × (at + t ≤ length l)
-Said reading l at m (Ago t) =
-    (outline_answer reading l (date_time_of reading l) ≡ record { taken = Is (at + t); base = Now; time = Empty; own = 0; m = m + 1 })
-    × (at + t ≤ length l)
-    × (m < at + t)
-Said reading l at m (Link t) = Turning reading l (at + t) (m + 1)
-Said reading l at m NoTurn = outline_answer reading l (date_time_of reading l) ≡ outline reading Nothing 0 [] now
-Said reading l at m TurnOverflow = outline_answer reading l (date_time_of reading l) ≡ outline reading Overflow 0 [] now
+abbrev Said : Reading → List ℕ → ℕ → ℕ → Result (Option (TurnTaken × ℕ)) Overflow → Type 0
+Said reading l at m (Ok (Some (Whole b time own, t))) =
+    (outline_answer reading l (date_time_of reading l) ≡ Ok (Some (record { taken = at + t; base = b; time = time; own = own; m = m }))) × (at + t ≤ length l)
+Said reading l at m (Ok (Some (Ago, t))) =
+    (outline_answer reading l (date_time_of reading l) ≡ Ok (Some (outline reading (at + t) (m + 1) [] now))) × (at + t ≤ length l) × (m < at + t)
+Said reading l at m (Ok (Some (Link, t))) = Turning reading l (at + t) (m + 1)
+Said reading l at m (Ok None) = outline_answer reading l (date_time_of reading l) ≡ Ok None
+Said reading l at m (Err o) = outline_answer reading l (date_time_of reading l) ≡ Err large
 
 module _ {reading : Reading} {l : List ℕ} {at m : ℕ} (g : Turning reading l at m) where
   abbrev left : List ℕ
@@ -117,7 +94,7 @@ module _ {reading : Reading} {l : List ℕ} {at m : ℕ} (g : Turning reading l 
       linked reading m at left (and_then w (λ x u. is (around back dur x) (t + u))) ≡ linked reading (m + 1) (at + t) (drop t left) w
   behind back dur t e (is x u) =
       let same : at + (t + u) ≡ at + t + u = omega arith in
-      rw (around_outline reading back dur x (Is (at + (t + u))) m left, e, same)
+      rw (around_outline reading back dur x (at + (t + u)) m left, e, same)
   behind back dur t e nothing = refl
   behind back dur t e overflow = refl
 
@@ -129,7 +106,7 @@ module _ {reading : Reading} {l : List ℕ} {at m : ℕ} (g : Turning reading l 
           Said reading l at m (turn_answer reading left (is x t))
       go (whole x) h e =
           let all = length-drop at l in
-          (e ∙ whole_outline reading x h.stands.1 left (Is (at + t)) (Is t) m 0, omega arith)
+          (e ∙ ap (λ o. Ok (Some o)) (whole_outline reading x h.stands.1 left (at + t) t m 0), omega arith)
       go (ago dur) h e = let all = length-drop at l in (e, omega arith, omega arith)
       go (link back dur) h e =
           let all = length-drop at l in
@@ -139,119 +116,54 @@ module _ {reading : Reading} {l : List ℕ} {at m : ℕ} (g : Turning reading l 
   turn_said overflow h e = e
 
   -- what a turn that the code took apart says
-  pub turn_learnt : {n : List ℕ} {r z : TurnTaken} → n ≡ drop at l → r ≡ turn_answer reading n (turn_of reading n) → r ≡ z → Said reading l at m z
+  pub turn_learnt : {n : List ℕ} {r z : Result (Option (TurnTaken × ℕ)) Overflow} → n ≡ drop at l → r ≡ turn_answer reading n (turn_of reading n) → r ≡ z → Said reading l at m z
   unfolding date_time_step
   turn_learnt same answer e =
       rw (← e, answer, same) (turn_said (turn_of reading left) (turn_holds reading left) (g.outlined ∙ ap (linked reading m at left) (date_time_is reading left)))
 
+  module _ {n : List ℕ} {r : Result (Option (TurnTaken × ℕ)) Overflow} (same : n ≡ drop at l) (answer : r ≡ turn_answer reading n (turn_of reading n))
+      {q : Option (TurnTaken × ℕ)} (found : r ≡ Ok q) where
+    -- a turn of t lexemes
+    pub turn_taken : {x y : TurnTaken} {t : ℕ} → q ≡ Some (x, t) → x ≡ y → Said reading l at m (Ok (Some (y, t)))
+    turn_taken {y = y} {t = t} some turn = turn_learnt {z = Ok (Some (y, t))} same answer (rw (found, some, turn))
+
+    -- it takes no more than there is
+    pub turn_within : {x : TurnTaken} {t : ℕ} → q ≡ Some (x, t) → at + t ≤ length l
+    turn_within {x} {t} some = go x (turn_taken some refl)
+      where
+        go : (x : TurnTaken) → Said reading l at m (Ok (Some (x, t))) → at + t ≤ length l
+        go (Whole b time own) h = h.1
+        go Ago h = h.1
+        go Link h = h.within
+
+    -- none
+    pub turn_none : q ≡ None → Ok None ≡ outline_answer reading l (date_time_of reading l)
+    turn_none none = sym (turn_learnt {z = Ok None} same answer (rw (found, none)))
+
 -- an outline has the count of what was read
-outline_count : (reading : Reading) (x : DateTime) (k : Count) (m : ℕ) (l : List ℕ) → (outline reading k m l x).taken ≡ k
+outline_count : (reading : Reading) (x : DateTime) (k m : ℕ) (l : List ℕ) → (outline reading k m l x).taken ≡ k
 outline_count reading (date_time e t) k m l = refl
 outline_count reading (time_date t e) k m l = refl
 outline_count reading (duration_after dur x) k m l = outline_count reading x k (m + 1) (drop (link_taken reading l) l)
 outline_count reading (duration_before dur x) k m l = outline_count reading x k (m + 1) (drop (link_taken reading l) l)
 outline_count reading now k m l = refl
 
-pub counted : (reading : Reading) (l : List ℕ) (w : Parsed DateTime) {o : Outline} → o ≡ outline_answer reading l w → o.taken ≡ count_of w
-counted reading l w answer = rw answer (outline_count reading (tree_in w) (count_of w) 0 l)
-
 -- with lexemes left, only the count is kept
-pub kept_left : (reading : Reading) (l : List ℕ) (w : Parsed DateTime) (n : ℕ) {t : ℕ} → count_of w ≡ Is t → t < n →
-    outline reading (Is t) 0 [] now ≡ outline_answer reading l (kept n w)
-kept_left reading l (is x u) n {t} e h = let same : u ≡ t = cc in rw (same, lt-ltb t n h)
-kept_left reading l nothing n e h = let z : ◌≡◌ {A = ℕ} 0 1 = cc in absurd (omega arith)
-kept_left reading l overflow n e h = let z : ◌≡◌ {A = ℕ} 0 1 = cc in absurd (omega arith)
+pub kept_left : (reading : Reading) (l : List ℕ) (w : Parsed DateTime) (n : ℕ) {o : Outline} → Ok (Some o) ≡ outline_answer reading l w → o.taken < n →
+    outline_answer reading l (kept n w) ≡ Ok (Some (outline reading o.taken 0 [] now))
+kept_left reading l (is x u) n {o} e h =
+    let same : o ≡ outline reading u 0 l x = cc in
+    let count : o.taken ≡ u = rw same (outline_count reading x u 0 l) in
+    rw (count, lt-ltb u n (omega arith))
+kept_left reading l nothing n e h = cc
+kept_left reading l overflow n e h = cc
 
--- with none left, and where nothing is read, all is kept
-pub kept_all : (w : Parsed DateTime) (n : ℕ) {t : ℕ} → count_of w ≡ Is t → n ≤ t → kept n w ≡ w
-kept_all (is x u) n {t} e h = let same : u ≡ t = cc in rw (same, le-ltb t n h)
-kept_all nothing n e h = refl
-kept_all overflow n e h = refl
-
-pub kept_none : (w : Parsed DateTime) (n : ℕ) → OneOf (1 ∷ 2 ∷ []) (tag_of count-type (count_of w)) → kept n w ≡ w
-kept_none (is x t) n k = neither 0 1 2 (eqb-false 0 1 refl) (eqb-false 0 2 refl) k
-kept_none nothing n k = refl
-kept_none overflow n k = refl
-
--- the arm of a time's answer
-time_arm : {ks : List ℕ} (w : TimeFound) → OneOf ks (tag_of time-type w) → Arm ks (parsed_time w)
-time_arm (IsTime time t) k = record { tags = k }
-time_arm NoTime k = record { tags = k }
-time_arm TimeOverflow k = record { tags = k }
-
--- where no overflow stopped a time, nothing is left to say
-pub time_dropped : (reading : Reading) (w : TimeFound) → OneOf (0 ∷ 1 ∷ []) (tag_of time-type w) → NoTurn ≡ turn_answer reading [] (stopped (parsed_time w))
-time_dropped reading w k = rw (dropped (time_arm w k))
-
--- where no time is found, what would follow is not read
-pub time_unread : (reading : Reading) (l : List ℕ) (w : TimeFound) (f : Time → ℕ → Parsed Turn) → OneOf (1 ∷ 2 ∷ []) (tag_of time-type w) →
-    turn_answer reading [] (stopped (parsed_time w)) ≡ turn_answer reading l (and_then (parsed_time w) f)
-time_unread reading l w f k = go (parsed_time w) ∙ ap (turn_answer reading l) (unread (parsed_time w) f (time_arm w k) refl)
-  where
-    go : (p : Parsed Time) → turn_answer reading [] (stopped p) ≡ turn_answer reading l (stopped p)
-    go (is time t) = refl
-    go nothing = refl
-    go overflow = refl
-
--- a time and s lexemes with it, and the date expression behind them
-abbrev timed_answer : Time → ℕ → ExprTaken → TurnTaken
-timed_answer time s (IsExpr x u p) = Whole (Timed x) time (s + p) (s + u)
-timed_answer time s NoExpr = Whole (Timed NoDate) time s s
-timed_answer time s ExprOverflow = TurnOverflow
-
-timed_is : (reading : Reading) (l m : List ℕ) {time : Time} {t : ℕ} → time_of reading l ≡ is time t → m ≡ drop (comma_or l t lexeme.On) l →
-    turn_answer reading l (timed_turn_of reading l) ≡ timed_answer time (comma_or l t lexeme.On) (expr_answer reading m (date_expr_of reading m))
-unfolding timed_turn_of
-timed_is reading l m {time} {t} e same = rw (same, e) (go (date_expr_of reading (drop (comma_or l t lexeme.On) l)))
-  where
-    go : (w : Parsed DateExpr) →
-        turn_answer reading l (if_let w (λ x u. is (whole (time_date time x)) (comma_or l t lexeme.On + u)) (is (whole (time_date time empty)) (comma_or l t lexeme.On)))
-        ≡ timed_answer time (comma_or l t lexeme.On) (expr_answer reading (drop (comma_or l t lexeme.On) l) w)
-    go (is x u) = rw e
-    go nothing = let z : comma_or l t lexeme.On + 0 ≡ comma_or l t lexeme.On = omega arith in rw (e, z)
-    go overflow = refl
-
--- the same by what the code learns on its way
-pub timed_turn : (reading : Reading) (l : List ℕ) {w : TimeFound} {time : Time} {t c : ℕ} {m : List ℕ} {r z : ExprTaken} →
-    parsed_time w ≡ time_of reading l → w ≡ IsTime time t → c ≡ one_if (is_at l t lexeme.Comma || is_at l t lexeme.On) → m ≡ drop (t + c) l →
-    r ≡ expr_answer reading m (date_expr_of reading m) → r ≡ z → timed_answer time (t + c) z ≡ turn_answer reading l (timed_turn_of reading l)
-timed_turn reading l {m = m} answer e comma here expr f =
-    let time = rw (e) at (sym answer) in
-    rw (← f, expr, comma) (sym (timed_is reading l m time (rw comma at here)))
-
--- a date expression at the place p, and the time behind it
-abbrev time_answer : Expr → ℕ → Parsed Time → TurnTaken
-time_answer x p (is time n) = Whole (Dated x) time p n
-time_answer x p nothing = NoTurn
-time_answer x p overflow = TurnOverflow
-
-pub time_stopped : (reading : Reading) (x : Expr) (p : ℕ) (w : TimeFound) {v : Parsed Time} → OneOf (1 ∷ 2 ∷ []) (tag_of time-type w) → parsed_time w ≡ v →
-    turn_answer reading [] (stopped (parsed_time w)) ≡ time_answer x p v
-time_stopped reading x p w k e = rw (← e) (go w k)
-  where
-    go : (w : TimeFound) → OneOf (1 ∷ 2 ∷ []) (tag_of time-type w) → turn_answer reading [] (stopped (parsed_time w)) ≡ time_answer x p (parsed_time w)
-    go (IsTime time t) k = neither 0 1 2 (eqb-false 0 1 refl) (eqb-false 0 2 refl) k
-    go NoTime k = refl
-    go TimeOverflow k = refl
-
-abbrev dated_answer : Reading → List ℕ → ExprTaken → TurnTaken
-dated_answer reading l (IsExpr x t p) = time_answer x p (time_behind_of reading t l)
-dated_answer reading l NoExpr = turn_answer reading l (undated_turn_of reading l)
-dated_answer reading l ExprOverflow = TurnOverflow
-
-pub dated_turn : (reading : Reading) (l : List ℕ) {b : Bool} {r z : ExprTaken} → b ≡ is_at l 0 lexeme.Now → b ≡ false →
-    r ≡ expr_answer reading l (date_expr_of reading l) → r ≡ z → dated_answer reading l z ≡ turn_answer reading l (turn_of reading l)
-unfolding turn_of
-dated_turn reading l test e expr f = rw (← f, expr, ← test, e) (sym (go (date_expr_of reading l)))
-  where
-    dated : (x : DateExpr) (w : Parsed Time) → turn_answer reading l (and_then w (λ time n. is (whole (date_time x time)) n)) ≡ time_answer (shape x) (own_place reading l x) w
-    dated x (is time n) = refl
-    dated x nothing = refl
-    dated x overflow = refl
-
-    go : (w : Parsed DateExpr) →
-        turn_answer reading l (if_let w (λ x t. and_then (time_behind_of reading t l) (λ time n. is (whole (date_time x time)) n)) (undated_turn_of reading l))
-        ≡ dated_answer reading l (expr_answer reading l w)
-    go (is x t) = dated x (time_behind_of reading t l)
-    go nothing = refl
-    go overflow = refl
+-- with none left all is kept
+pub kept_all : (reading : Reading) (l : List ℕ) (w : Parsed DateTime) (n : ℕ) {o : Outline} → Ok (Some o) ≡ outline_answer reading l w → n ≤ o.taken →
+    outline_answer reading l (kept n w) ≡ Ok (Some o)
+kept_all reading l (is x u) n {o} e h =
+    let same : o ≡ outline reading u 0 l x = cc in
+    let count : o.taken ≡ u = rw same (outline_count reading x u 0 l) in
+    rw (le-ltb u n (omega arith), same)
+kept_all reading l nothing n e h = cc
+kept_all reading l overflow n e h = cc

@@ -1,58 +1,53 @@
 -- A phrase read whole: what reading takes of lexing, where the offending part stands, and what a reading stands for.
 use Prim.Native.Nat.{ℕ, ◌≤◌, min}
 use native.Mathlib.Omega.{arith}
-use mathlib.Core.Path.{◌≡◌, refl, ap, sym, ◌∙◌}
+use mathlib.Core.Path.{◌≡◌, refl, sym, ◌∙◌}
 use mathlib.Core.Bool.{Bool, true, false, cond}
-use mathlib.Core.List.{List, []}
+use mathlib.Core.List.{List}
 use lib.Dec.{ltb}
 use lib.ListN.{length, get_or, take, replicate, length-map}
-use lib.Seq.{sets, length-sets, length-take-le}
-use borrow.Author.Tests.{ltb-true, ltb-false, ne_eqb}
-use Rattle.refusals.specs.Table as table
+use lib.Seq.{sets}
+use borrow.Author.Tests.{ltb-true, ltb-false}
+use Rattle.refusals.specs.declared.Reason.TheVariants as table
 use Rattle.refusals.specs.Answers.{given, refused, refusal_at, refuse, and_then}
-use Rattle.refusals.proofs.Holds.{Holds, of_given, of_refusal, Bounded, number_zero, number_other}
+use Rattle.refusals.proofs.Holds.{Holds, of_given, of_refusal, Bounded}
 use Rattle.lexer.specs.Keywords.{words_in}
 use Rattle.lexer.specs.Lex.{Item, Lexed, lexed, front, codes_of, starts_of, ended_of}
-use Rattle.lexer.specs.declared.lex.Ended.{Ended}
+use Rattle.refusals.specs.declared.Refusal.{Refusal}
+use Rattle.std.specs.Prelude.{Option, Some, None, Result, Ok, Err}
+use Rattle.numbers.specs.declared.Overflow.{Overflow}
 use Rattle.lexer.specs.declared.reading.Reading.{Reading}
 use Rattle.digits.proofs.Stores.{sets-taken, sets-at}
 use Rattle.lexer.proofs.Lines.{front_whole}
-use Rattle.lexer.proofs.Places.{start_below, Whole, lexed_holds, placed}
+use Rattle.lexer.proofs.Places.{start_below, Whole, lexed_holds}
 use Rattle.dates.specs.Parsed.{Parsed, is, nothing, overflow}
-use Rattle.dates.proofs.Each.{Each}
 use Rattle.phrase.specs.Tree.{DateTime, now}
 use Rattle.phrase.specs.DateTimes.{date_time_of}
 use Rattle.phrase.specs.Chains.{chain_of, tree_of, size_tree}
 use Rattle.phrase.specs.Formed.{Formed}
-use Rattle.phrase.specs.Outlines.{count_of, tree_in, kept, gathered}
-use Rattle.phrase.specs.Read.{TreeRead, ReadPhrase, reads, read_codes, read_items, read_of, count_ended, judged_of, phrase_answer}
+use Rattle.phrase.specs.Outlines.{kept, gathered}
+use Rattle.phrase.specs.Read.{TreeRead, ReadPhrase, reads, read_codes, read_items, read_of, phrase_answer}
 use Rattle.phrase.specs.declared.gather.Gathered.{Gathered}
-use Rattle.phrase.specs.declared.chain.Chain.{Chain}
 use Rattle.phrase.specs.declared.read.PhraseRead.{PhraseRead}
-use Rattle.phrase.proofs.Stands.{TreeHolds, date_time_holds}
+use Rattle.phrase.proofs.Stands.{date_time_holds}
 use Rattle.phrase.proofs.Decoded.{decoded}
 use Rattle.phrase.proofs.Formed.{formed}
 
--- the code's answer, from how reading ended
-abbrev pub ended_with : Ended → Chain → PhraseRead
-ended_with r x = record { chain = x; refusal = r.refusal; taken = r.count }
-
--- of no lexemes nothing is kept
-none_kept : (reading : Reading) (w : Parsed DateTime) → Each (TreeHolds reading []) w → tree_in (kept 0 w) ≡ now
-none_kept reading (is x t) h = let one = h.bounds.one in let most = h.bounds.most in absurd (omega arith)
-none_kept reading nothing h = refl
-none_kept reading overflow h = refl
+-- the code's answer, by what is gathered of so many lexemes
+abbrev pub judged : Result (Option Gathered) Overflow → ℕ → List ℕ → ℕ → Result PhraseRead Refusal
+judged (Ok (Some g)) count starts n =
+    cond (ltb g.taken count) (Err (refusal_at table.LeftOver (get_or starts g.taken 0) n)) (Ok (record { chain = g.chain; taken = g.taken }))
+judged (Ok None) count starts n = Err (refusal_at table.Nothing 0 0)
+judged (Err o) count starts n = Err (refusal_at table.LargeSum 0 0)
 
 -- of lexemes whose places are stored in front of an array, read as w
 codes_answer : (items : List Item) (a : List ℕ) → length items ≤ length a → (n : ℕ) (w : Parsed DateTime) →
-    ended_with (count_ended (count_of w) (length items) (sets a 0 (starts_of items)) n) (chain_of (tree_in (kept (length items) w)))
+    judged (gathered (kept (length items) w)) (length items) (sets a 0 (starts_of items)) n
     ≡ phrase_answer (read_codes w (length items) (starts_of items) n)
 codes_answer items a h n (is x t) = go (ltb t (length items)) refl
   where
     go : (b : Bool) → ltb t (length items) ≡ b →
-        ended_with
-        (cond b (ended_of (refuse table.LeftOver (get_or (sets a 0 (starts_of items)) t 0) n)) (record { refusal = refusal_at 0 0 0; count = t }))
-        (chain_of (cond b now x))
+        cond b (Err (refusal_at table.LeftOver (get_or (sets a 0 (starts_of items)) t 0) n)) (Ok (record { chain = chain_of (cond b now x); taken = t }))
         ≡ phrase_answer (cond b (refuse table.LeftOver (get_or (starts_of items) t 0) n) (reads x t))
     go true e =
         let below = ltb-true t (length items) e in
@@ -62,48 +57,37 @@ codes_answer items a h n (is x t) = go (ltb t (length items)) refl
 codes_answer items a h n nothing = refl
 codes_answer items a h n overflow = refl
 
-kept_count : (n : ℕ) (w : Parsed DateTime) → count_of (kept n w) ≡ count_of w
-kept_count n (is x t) = refl
-kept_count n nothing = refl
-kept_count n overflow = refl
-
--- the codes of what `lex` answers to a phrase and stores are as many as the lexemes, and there is room for them
-pub codes_stored : (reading : Reading) (s : List ℕ) {line : Ended} {codes : List ℕ} → line ≡ ended_of (lexed (words_in reading) s) →
-    codes ≡ sets (replicate 64 0) 0 (codes_of (front (words_in reading) s)) →
-    (line.count ≤ length codes) × (length (take line.count codes) ≡ line.count) × (line.count ≤ 64)
-codes_stored reading s {line} {codes} e f =
-    let most = (placed (words_in reading) s e).count_most in
-    let all : length codes ≡ 64 = rw (f, length-sets (replicate 64 0) 0 (codes_of (front (words_in reading) s))) in
-    (omega arith, length-take-le line.count codes (omega arith), most)
-
--- the same, read
+-- the same by what lexing and gathering say
 module _ (reading : Reading) (s : List ℕ) where
-  abbrev line_read : Ended → List Item → PhraseRead
-  line_read line items =
-      let w = date_time_of reading (take line.count (sets (replicate 64 0) 0 (codes_of items))) in
-      ended_with (judged_of line (count_of w) (sets (replicate 64 0) 0 (starts_of items)) (length s)) (chain_of (tree_in (kept line.count w)))
-
-  line_answered : line_read (ended_of (lexed (words_in reading) s)) (front (words_in reading) s) ≡ phrase_answer (read_of reading (words_in reading) s)
+  -- where lexing refuses, so does reading
+  pub lexing_refused : {r : Refusal} → Err r ≡ ended_of (lexed (words_in reading) s) → Err r ≡ phrase_answer (read_of reading (words_in reading) s)
   unfolding read_of
-  line_answered = go refl (lexed_holds (words_in reading) s)
+  lexing_refused {r} e = go (lexed (words_in reading) s) e
     where
-      go : {w : Lexed} → lexed (words_in reading) s ≡ w → Holds (Whole s) (Bounded 1 4 (min (length s) 256)) w →
-          line_read (ended_of w) (front (words_in reading) s) ≡ phrase_answer (and_then w (read_items reading (length s)))
-      go same (of_given {x = items} whole) =
-          let codes = length-map items (λ (i : Item). i.code) in
-          rw (front_whole (words_in reading) s items same, sets-taken (codes_of items) (replicate 64 0) (omega arith) (length items) codes)
-          (codes_answer items (replicate 64 0) whole.lexemes (length s) (date_time_of reading (codes_of items)))
-      go same (of_refusal {r} bounds) = rw (ne_eqb r.number 0 (λ z. omega arith), none_kept reading (date_time_of reading []) (date_time_holds reading []))
+      go : (w : Lexed) → Err r ≡ ended_of w → Err r ≡ phrase_answer (and_then w (read_items reading (length s)))
+      go (given items) e = cc
+      go (refused q) e = let same : r ≡ q = cc in rw same
 
-  pub read_answered : {line r : Ended} {codes starts : List ℕ} {x : Gathered} → line ≡ ended_of (lexed (words_in reading) s) →
+  pub read_answered : {n : ℕ} {codes starts : List ℕ} {z : Result (Option Gathered) Overflow} → Ok n ≡ ended_of (lexed (words_in reading) s) →
       codes ≡ sets (replicate 64 0) 0 (codes_of (front (words_in reading) s)) → starts ≡ sets (replicate 64 0) 0 (starts_of (front (words_in reading) s)) →
-      x ≡ gathered (kept line.count (date_time_of reading (take line.count codes))) →
-      r ≡ judged_of line x.taken starts (length s) →
-      ended_with r x.chain ≡ phrase_answer (read_of reading (words_in reading) s)
-  read_answered {line} {r} {codes} {starts} {x} e f g gives ends =
-      let w = date_time_of reading (take line.count codes) in
-      let count : x.taken ≡ count_of w = rw gives (kept_count line.count w) in
-      rw (ends, count, gives, e, f, g) line_answered
+      z ≡ gathered (kept n (date_time_of reading (take n codes))) → judged z n starts (length s) ≡ phrase_answer (read_of reading (words_in reading) s)
+  unfolding read_of
+  read_answered {n} {codes} {starts} {z} e f g h = go refl (lexed_holds (words_in reading) s) e
+    where
+      go : {w : Lexed} → lexed (words_in reading) s ≡ w → Holds (Whole s) (Bounded 1 4 (min (length s) 256)) w → Ok n ≡ ended_of w →
+          judged z n starts (length s) ≡ phrase_answer (and_then w (read_items reading (length s)))
+      go same (of_given {x = items} whole) e =
+          let count : n ≡ length items = cc in
+          let codes = length-map items (λ (i : Item). i.code) in
+          rw (
+            h,
+            f,
+            g,
+            count,
+            front_whole (words_in reading) s items same,
+            sets-taken (codes_of items) (replicate 64 0) (omega arith) (length items) codes,
+          ) (codes_answer items (replicate 64 0) whole.lexemes (length s) (date_time_of reading (codes_of items)))
+      go same (of_refusal bounds) e = cc
 
 -- a phrase that is read: its lexemes, all of them taken, and the tree that `DateTime::parse` gives, of at most 21 parts
 pub record ReadWhole (reading : Reading) (s : List ℕ) (x : TreeRead) : Type 0 where
@@ -145,7 +129,7 @@ read_holds reading s = go refl (lexed_holds (words_in reading) s)
     go h (of_given {x = items} whole) = codes_hold reading s items h whole (date_time_of reading (codes_of items)) refl
     go h (of_refusal {r} bounds) = of_refusal {r = r} (omega arith)
 
--- what `read` answers with number 0: the reading, and a formed chain that stands for its tree
+-- what `read` answers: the reading, and a formed chain that stands for its tree
 pub record WasRead (reading : Reading) (s : List ℕ) (r : PhraseRead) : Type 0 where
   pub tree_read : TreeRead
   pub is : read_of reading (words_in reading) s ≡ given tree_read
@@ -154,25 +138,28 @@ pub record WasRead (reading : Reading) (s : List ℕ) (r : PhraseRead) : Type 0 
   pub stands : tree_of r.chain ≡ tree_read.tree
   pub formed : Formed r.chain
 
--- a phrase that `read` answers with number 0 is read whole
-pub was_read : (reading : Reading) (s : List ℕ) {r : PhraseRead} → r ≡ phrase_answer (read_of reading (words_in reading) s) → r.refusal.number ≡ 0 → WasRead reading s r
-was_read reading s {r} answer z =
-    let read = number_zero (read_holds reading s) (omega arith) (rw answer at z) in
-    let x = read.value.tree in
-    let few = read.holds.few in
-    let same : r ≡ phrase_answer (given read.value) = answer ∙ ap phrase_answer read.is in
-    record {
-      tree_read = read.value;
-      is = read.is;
-      whole = read.holds;
-      taken = ap (λ (q : PhraseRead). q.taken) same;
-      stands = ap (λ (q : PhraseRead). tree_of q.chain) same ∙ decoded x few;
-      formed = rw same (formed x few);
-    }
+module _ (reading : Reading) (s : List ℕ) {answer : Result PhraseRead Refusal} (promised : answer ≡ phrase_answer (read_of reading (words_in reading) s)) where
+  -- a phrase that `read` does not refuse is read whole
+  pub was_read : {r : PhraseRead} → answer ≡ Ok r → WasRead reading s r
+  was_read {r} e = go refl (read_holds reading s) (sym e ∙ promised)
+    where
+      go : {w : ReadPhrase} → read_of reading (words_in reading) s ≡ w → ReadHolds reading s w → Ok r ≡ phrase_answer w → WasRead reading s r
+      go same-read (of_given {x} whole) e =
+          let same : r ≡ record { chain = chain_of x.tree; taken = x.taken } = cc in
+          record {
+            tree_read = x;
+            is = same-read;
+            whole = whole;
+            taken = rw same;
+            stands = rw same (decoded x.tree whole.few);
+            formed = rw same (formed x.tree whole.few);
+          }
+      go same-read (of_refusal bounds) e = cc
 
--- one that it answers with any other number is refused so
-pub was_refused :
-    (reading : Reading) (s : List ℕ) {r : PhraseRead} → r ≡ phrase_answer (read_of reading (words_in reading) s) → (r.refusal.number ≡ 0 → ⊥) →
-    read_of reading (words_in reading) s ≡ refused r.refusal
-was_refused reading s answer other =
-    number_other (read_of reading (words_in reading) s) (λ z. other (rw answer z)) ∙ ap (λ (q : PhraseRead). refused q.refusal) (sym answer)
+  -- one that it refuses is refused so
+  pub was_refused : {r : Refusal} → answer ≡ Err r → read_of reading (words_in reading) s ≡ refused r
+  was_refused {r} e = go (read_of reading (words_in reading) s) (sym e ∙ promised)
+    where
+      go : (w : ReadPhrase) → Err r ≡ phrase_answer w → w ≡ refused r
+      go (given x) e = cc
+      go (refused q) e = cc

@@ -4,7 +4,7 @@ use mathlib.Core.Bool.{Bool, true, false, cond}
 use mathlib.Core.List.{List}
 use lib.Dec.{ltb}
 use lib.ListN.{length, drop, get_or}
-use Rattle.refusals.specs.Table as table
+use Rattle.refusals.specs.declared.Reason.TheVariants as table
 use Rattle.refusals.specs.Answers.{given, refused, refuse, and_then}
 use Rattle.refusals.proofs.Holds.{Holds, of_given, of_refusal}
 use Rattle.lexer.specs.Lexemes as lexeme

@@ -6,7 +6,7 @@ use Rattle.lexer.specs.Keywords.{keywords, words_in}
 use Rattle.lexer.specs.declared.reading.Reading.{Reading}
 use Rattle.lexer.specs.declared.reading.Reading.TheVariants.{First, Second}
 use Rattle.lexer.specs.Classes.{class_of, mark_of}
-use Rattle.refusals.specs.Table as table
+use Rattle.refusals.specs.declared.Reason.TheVariants as table
 use Rattle.refusals.specs.Answers.{refuse}
 use Rattle.lexer.specs.Lex.{word_at, number_at, token_at, lexed}
 use Rattle.numbers.specs.Slices.{get, is_at, within}

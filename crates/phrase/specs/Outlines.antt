@@ -1,7 +1,9 @@
 -- The code's answers for one turn and for a whole tree: an outline is so many links, a base, and where the base's own duration begins.
-use Rattle.std.specs.Prelude.{ℕ, ◌+◌, Bool, true, false, cond, List, ltb, drop}
+use Rattle.std.specs.Prelude.{ℕ, ◌+◌, Bool, true, false, cond, Option, Some, None, Result, Ok, Err, List, ltb, drop}
 use Rattle.lexer.specs.Lexemes as lexeme
 use Rattle.lexer.specs.declared.reading.Reading.{Reading}
+use Rattle.numbers.specs.declared.Overflow.{Overflow}
+use Rattle.numbers.specs.Answers.{overflow as large}
 use Rattle.numbers.specs.Slices.{is_at}
 use Rattle.dates.specs.Parsed.{Parsed, is, nothing, overflow}
 use Rattle.dates.specs.Durations.{duration_of, rowed}
@@ -16,11 +18,9 @@ use Rattle.phrase.specs.Chains.{chain_of}
 use Rattle.phrase.specs.declared.chain.Base.{Base}
 use Rattle.phrase.specs.declared.chain.Base.TheVariants.{Now, DateTime as Dated, TimeDate as Timed}
 use Rattle.phrase.specs.declared.gather.Gathered.{Gathered}
-use Rattle.phrase.specs.declared.date_time.Count.{Count}
-use Rattle.phrase.specs.declared.date_time.Count.TheVariants.{Is, Nothing, Overflow}
 use Rattle.phrase.specs.declared.date_time.Outline.{Outline}
-use Rattle.phrase.specs.declared.date_time.TurnTaken.{TurnTaken}
-use Rattle.phrase.specs.declared.date_time.TurnTaken.TheVariants.{Whole, Ago, Link, Nothing as NoTurn, Overflow as TurnOverflow}
+use Rattle.phrase.specs.declared.date_time.Turn.{Turn as TurnTaken}
+use Rattle.phrase.specs.declared.date_time.Turn.TheVariants.{Whole, Ago, Link}
 
 -- the lexemes taken, 0 where nothing was read
 abbrev pub taken_of : {A : Type 0} → Parsed A → ℕ
@@ -36,8 +36,8 @@ link_taken reading l = taken_of (duration_of reading l) + 1
 abbrev pub time_taken : Reading → List ℕ → ℕ
 time_taken reading l = comma_or l (taken_of (time_of reading l)) lexeme.On
 
--- the outline of a tree that stands at the front of l, behind m links; the place of its base's own duration is counted from the base on
-abbrev pub outline : Reading → Count → ℕ → List ℕ → DateTime → Outline
+-- the outline of a tree of k lexemes that stands at the front of l, behind m links; the place of its base's own duration is counted from the base on
+abbrev pub outline : Reading → ℕ → ℕ → List ℕ → DateTime → Outline
 outline reading k m l (date_time e t) = record { taken = k; base = Dated (shape e); time = t; own = own_place reading l e; m = m }
 outline reading k m l (time_date t e) =
     record { taken = k; base = Timed (shape e); time = t; own = time_taken reading l + own_place reading (drop (time_taken reading l) l) e; m = m }
@@ -45,29 +45,19 @@ outline reading k m l (duration_after dur x) = outline reading k (m + 1) (drop (
 outline reading k m l (duration_before dur x) = outline reading k (m + 1) (drop (link_taken reading l) l) x
 outline reading k m l now = record { taken = k; base = Now; time = Empty; own = 0; m = m }
 
--- how a reading ended
-abbrev pub count_of : {A : Type 0} → Parsed A → Count
-count_of (is v t) = Is t
-count_of nothing = Nothing
-count_of overflow = Overflow
-
--- the tree, and now where there is none
-abbrev pub tree_in : Parsed DateTime → DateTime
-tree_in (is x t) = x
-tree_in nothing = now
-tree_in overflow = now
-
 -- the code's answer for a whole tree
-abbrev pub outline_answer : Reading → List ℕ → Parsed DateTime → Outline
-outline_answer reading l w = outline reading (count_of w) 0 l (tree_in w)
+abbrev pub outline_answer : Reading → List ℕ → Parsed DateTime → Result (Option Outline) Overflow
+outline_answer reading l (is x t) = Ok (Some (outline reading t 0 l x))
+outline_answer reading l nothing = Ok None
+outline_answer reading l overflow = Err large
 
 -- the code's answer for one turn
-abbrev pub turn_answer : Reading → List ℕ → Parsed Turn → TurnTaken
-turn_answer reading l (is (whole x) t) = let o = outline reading (Is t) 0 l x in Whole o.base o.time o.own t
-turn_answer reading l (is (ago dur) t) = Ago t
-turn_answer reading l (is (link back dur) t) = Link t
-turn_answer reading l nothing = NoTurn
-turn_answer reading l overflow = TurnOverflow
+abbrev pub turn_answer : Reading → List ℕ → Parsed Turn → Result (Option (TurnTaken × ℕ)) Overflow
+turn_answer reading l (is (whole x) t) = let o = outline reading t 0 l x in Ok (Some (Whole o.base o.time o.own, t))
+turn_answer reading l (is (ago dur) t) = Ok (Some (Ago, t))
+turn_answer reading l (is (link back dur) t) = Ok (Some (Link, t))
+turn_answer reading l nothing = Ok None
+turn_answer reading l overflow = Err large
 
 -- what is kept of a reading: the tree only where at least n lexemes are taken
 abbrev pub kept : ℕ → Parsed DateTime → Parsed DateTime
@@ -75,9 +65,11 @@ kept n (is x t) = is (cond (ltb t n) now x) t
 kept n nothing = nothing
 kept n overflow = overflow
 
--- the chain of a tree, and how reading ended
-abbrev pub gathered : Parsed DateTime → Gathered
-gathered w = record { chain = chain_of (tree_in w); taken = count_of w }
+-- the chain of a tree, and the lexemes taken
+abbrev pub gathered : Parsed DateTime → Result (Option Gathered) Overflow
+gathered (is x t) = Ok (Some (record { chain = chain_of x; taken = t }))
+gathered nothing = Ok None
+gathered overflow = Err large
 
 -- whether a duration that ends at t goes back
 abbrev pub is_back : List ℕ → ℕ → Bool

@@ -1,17 +1,15 @@
 -- A phrase read whole: refusals 1 to 7 in their order, or the tree.
-use Rattle.std.specs.Prelude.{ℕ, cond, List, eqb, ltb, length, get_or}
-use Rattle.refusals.specs.Table as table
-use Rattle.refusals.specs.Answers.{Answer, given, refused, refusal_at, refuse, and_then, refusal_of}
+use Rattle.std.specs.Prelude.{ℕ, cond, Result, Ok, Err, List, ltb, length, get_or}
+use Rattle.refusals.specs.declared.Reason.TheVariants as table
+use Rattle.refusals.specs.Answers.{Answer, given, refused, refuse, and_then}
+use Rattle.refusals.specs.declared.Refusal.{Refusal}
 use Rattle.lexer.specs.Words.{Word}
-use Rattle.lexer.specs.Lex.{Item, lexed, codes_of, starts_of, ended_of}
-use Rattle.lexer.specs.declared.lex.Ended.{Ended}
+use Rattle.lexer.specs.Lex.{Item, lexed, codes_of, starts_of}
 use Rattle.lexer.specs.declared.reading.Reading.{Reading}
 use Rattle.dates.specs.Parsed.{Parsed, is, nothing, overflow}
-use Rattle.phrase.specs.Tree.{DateTime, now}
+use Rattle.phrase.specs.Tree.{DateTime}
 use Rattle.phrase.specs.DateTimes.{date_time_of}
 use Rattle.phrase.specs.Chains.{chain_of}
-use Rattle.phrase.specs.declared.date_time.Count.{Count}
-use Rattle.phrase.specs.declared.date_time.Count.TheVariants.{Is, Nothing, Overflow}
 use Rattle.phrase.specs.declared.read.PhraseRead.{PhraseRead}
 
 -- what is read of a phrase: the tree, and the lexemes taken
@@ -42,22 +40,7 @@ read_items reading n items = read_codes (date_time_of reading (codes_of items)) 
 unfoldable pub read_of : Reading → List Word → List ℕ → ReadPhrase
 read_of reading ws s = and_then (lexed ws s) (read_items reading (length s))
 
--- how the reading of so many lexemes ended, by those that it took: as in `read_codes`
-abbrev pub count_ended : Count → ℕ → List ℕ → ℕ → Ended
-count_ended (Is t) count starts n =
-    cond (ltb t count) (ended_of (refuse table.LeftOver (get_or starts t 0) n)) (record { refusal = refusal_at 0 0 0; count = t })
-count_ended Nothing count starts n = ended_of (refuse table.Nothing 0 0)
-count_ended Overflow count starts n = ended_of (refuse table.LargeSum 0 0)
-
--- the lexer's refusal first
-abbrev pub judged_of : Ended → Count → List ℕ → ℕ → Ended
-judged_of line k starts n = cond (eqb line.refusal.number 0) (count_ended k line.count starts n) line
-
--- what is read, and now of no lexemes where the phrase is refused
-abbrev pub reading_in : ReadPhrase → TreeRead
-reading_in (given x) = x
-reading_in (refused r) = record { tree = now; taken = 0 }
-
--- the code's answer: the refusal or none, the chain of what is read, and the lexemes taken
-abbrev pub phrase_answer : ReadPhrase → PhraseRead
-phrase_answer w = record { chain = chain_of (reading_in w).tree; refusal = refusal_of w; taken = (reading_in w).taken }
+-- the code's answer: the chain of what is read and the lexemes taken, or the refusal
+abbrev pub phrase_answer : ReadPhrase → Result PhraseRead Refusal
+phrase_answer (given x) = Ok (record { chain = chain_of x.tree; taken = x.taken })
+phrase_answer (refused r) = Err r

@@ -7,20 +7,22 @@ use lib.Dec.{leb}
 use lib.ListN.{length}
 use denote.Ref.{Bor}
 use Rattle.lexer.specs.Keywords.{words_in}
-use Rattle.refusals.specs.Table as refusal
+use Rattle.std.specs.Prelude.{Option, Some, None, Result, Ok, Err}
+use Rattle.refusals.specs.declared.Reason.TheVariants as refusal
+use Rattle.refusals.specs.declared.Refusal.{Refusal}
 use Rattle.refusals.specs.Answers.{refuse}
 use Rattle.lexer.specs.Lex.{Lexed, item, ahead, if_taken, lex_from, lexed}
 use Rattle.lexer.specs.declared.lex.Token.{Token}
-use Rattle.lexer.specs.declared.lex.Token.TheVariants.{Finish, Taken, Refused}
 use Rattle.lexer.specs.declared.reading.Reading.{Reading}
 use Rattle.reader.specs.declared.Lexer.{Lexer}
 use Rattle.reader.specs.Read.{new_of, next_of, place_behind, behind_of, taken}
 
 -- what follows a lexeme is all that can differ
-same_behind : (t : Token) (g h : ℕ → ℕ → ℕ → Lexed) → ((k a e : ℕ) → t ≡ Taken k a e → g k a e ≡ h k a e) → if_taken t g ≡ if_taken t h
-same_behind Finish g h same = refl
-same_behind (Refused r) g h same = refl
-same_behind (Taken k a e) g h same = same k a e refl
+same_behind : (w : Result (Option Token) Refusal) (g h : ℕ → ℕ → ℕ → Lexed) → ((t : Token) → w ≡ Ok (Some t) → g t.code t.start t.end ≡ h t.code t.start t.end)
+    → if_taken w g ≡ if_taken w h
+same_behind (Ok None) g h same = refl
+same_behind (Err r) g h same = refl
+same_behind (Ok (Some t)) g h same = same t refl
 
 -- from any reader, with any room
 pub taken_from : (room : ℕ) (r : Lexer) → taken room r ≡ lex_from (words_in r.reading) room r.phrase.now r.at
@@ -30,7 +32,7 @@ taken_from (suc room) r =
     let s = r.phrase.now in
     let t = next_of r in
     same_behind t (λ k a e. ahead (item k a ∷ []) (taken room (behind_of r t))) (λ k a e. ahead (item k a ∷ []) (lex_from ws room s e))
-    (λ k a e q. ap (ahead (item k a ∷ [])) (taken_from room (behind_of r t) ∙ ap (λ (x : Token). lex_from ws room s (place_behind r.at x)) q))
+    (λ u q. ap (ahead (item u.code u.start ∷ [])) (taken_from room (behind_of r t) ∙ ap (λ (x : Result (Option Token) Refusal). lex_from ws room s (place_behind r.at x)) q))
 
 -- tokens taken one after the other from a new reader until the end, with room for 64 lexemes, behind the test for 256 bytes: exactly lexing's lexemes
 -- and their places, or its refusal

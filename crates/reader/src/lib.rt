@@ -4,18 +4,13 @@
 ghost use Rattle.std.specs.Prelude.{◌≡◌, ◌+◌, length, drop};
 ghost use Rattle.std.proofs.lemmas.List.Edits.{sets};
 ghost use Rattle.lexer.specs.Keywords.{words_in};
-ghost use Rattle.lexer.specs.Lex.{lexed, front_from, front, codes_of, starts_of, ended_of, Placed};
-ghost use Rattle.reader.specs.Gather.{gathered_of};
-ghost use Rattle.reader.specs.Read.{new_of, next_of, behind_of, rest_start, taken};
+ghost use Rattle.lexer.specs.Lex.{lexed, lex_from, front_from, front, codes_of, starts_of, ended_of, Placed};
+ghost use Rattle.reader.specs.Read.{new_of, next_of, behind_of, rest_start};
 
-use gather::{Gathered, begun, joined};
-use lexer::lex::{Ended, Token, refuse, token_at};
+use lexer::lex::{Token, token_at};
+use lexer::part::part;
 use lexer::reading::Reading;
-use place::{place_behind, rest_from};
-use refusals::TOO_LONG;
-
-mod gather;
-mod place;
+use refusals::{Reason, Refusal};
 
 // One of the readings, a phrase, and the place from which it is read on.
 #[derive(Clone, Copy)]
@@ -37,23 +32,23 @@ impl<'a> Lexer<'a> {
         }
     }
 
-    // The next token: the end, a lexeme or a refusal.
-    pub fn next(self) -> Token
+    // The next lexeme, none at the end, or a refusal.
+    pub fn next(self) -> Result<Option<Token>, Refusal>
         ensures { result ≡ next_of self.entry }
     {
         token_at(self.reading, self.phrase, self.at)
     }
 
-    // The reader behind a token: the same reading and borrow, at the token's end.
-    pub fn behind(self, t: Token) -> Lexer<'a>
-        ensures { result ≡ behind_of self.entry t }
+    // The reader behind what `next` gave: the same reading and borrow, at its end; past the end of the phrase there is none, and the place stays.
+    pub fn behind(self, given: Result<Option<Token>, Refusal>) -> Lexer<'a>
+        ensures { result ≡ behind_of self.entry given }
     {
-        let at = place_behind(self.at, t);
-        Lexer {
-            reading: self.reading,
-            phrase: self.phrase,
-            at,
-        }
+        let at = match given {
+            Ok(None) => self.at,
+            Ok(Some(token)) => token.end,
+            Err(refusal) => refusal.end,
+        };
+        Lexer { at, ..self }
     }
 
     // Where it stands.
@@ -63,48 +58,45 @@ impl<'a> Lexer<'a> {
         self.at
     }
 
-    // What is not read yet, as a part of the caller's phrase.
+    // What is not read yet, as a part of the caller's phrase; past the last byte nothing is.
     pub fn unread(self) -> &'a [u8]
         ensures result_value { result.now ≡ drop self.entry.at self.entry.phrase.now }
         ensures own { result.ref_ptr ≡ (self.entry.phrase.ref_ptr.0, rest_start self.entry + self.entry.phrase.ref_ptr.1) }
     {
-        rest_from(self.phrase, self.at)
+        let phrase = self.phrase;
+        part(phrase, self.at.min(phrase.len()), phrase.len())
     }
-}
-
-// The lexemes of a phrase of any length, taken one after the other from a new reader until the end or the first refusal.
-fn read(reading: Reading, phrase: &[u8]) -> Gathered
-    ensures { result ≡ gathered_of (taken 64 (new_of reading phrase.entry)) (front_from (words_in reading) 64 phrase.now 0) }
-{
-    let mut r = Lexer::new(reading, phrase);
-    let mut g = begun();
-    while g.going {
-        let t = r.next();
-        g = joined(g, t);
-        r = r.behind(t);
-    }
-    g
 }
 
 // A phrase's lexemes in one of the readings, left to right, up to the end or the first refusal, by a reader: what `lex` of the lexer answers and stores.
-pub fn lex(reading: Reading, phrase: &[u8], codes: &mut [u64; 64], starts: &mut [u8; 64]) -> Ended
+pub fn lex(
+    reading: Reading,
+    phrase: &[u8],
+    codes: &mut [u64; 64],
+    starts: &mut [u8; 64],
+) -> Result<usize, Refusal>
     ensures value { result ≡ ended_of (lexed (words_in reading) phrase.now) }
     ensures codes { codes.new ≡ sets codes.old 0 (codes_of (front (words_in reading) phrase.now)) }
     ensures starts { starts.new ≡ sets starts.old 0 (starts_of (front (words_in reading) phrase.now)) }
     ensures bounds { Placed (length phrase.now) result }
 {
     if 256 < phrase.len() {
-        return refuse(TOO_LONG, 0, 0);
+        return Err(Refusal::from(Reason::TooLong));
     }
-    let g = read(reading, phrase);
-    let n = g.count;
-    let read_codes = g.codes;
-    let read_starts = g.starts;
-    let mut i: usize = 0;
-    while i < n {
-        codes[i] = read_codes[i];
-        starts[i] = read_starts[i] as u8;
-        i += 1;
+    let mut reader = Lexer::new(reading, phrase);
+    let mut count: usize = 0;
+    while let Some(token) = reader.next()? {
+        if count == 64 {
+            return Err(Refusal {
+                reason: Reason::TooMany,
+                place: token.start,
+                end: token.end,
+            });
+        }
+        codes[count] = token.code;
+        starts[count] = token.start as u8;
+        count += 1;
+        reader = reader.behind(Ok(Some(token)));
     }
-    g.ended
+    Ok(count)
 }

@@ -6,7 +6,7 @@ use mathlib.Core.Bool.{true, cond}
 use mathlib.Core.List.{List}
 use borrow.Author.Tests.{le-leb}
 use lib.ListN.{length}
-use Rattle.refusals.specs.Table.{InvalidMoment}
+use Rattle.refusals.specs.declared.Reason.TheVariants.{InvalidMoment}
 use Rattle.refusals.specs.Answers.{given, refused, and_then}
 use Rattle.refusals.specs.declared.Refusal.{Refusal}
 use Rattle.refusals.proofs.Holds.{Holds, of_given, of_refusal, Bounded, given_holds, refusal_holds}

@@ -1,16 +1,16 @@
 -- A duration as its row of parts, one step behind a plan for each.
-use Prim.Native.Nat.{ℕ, suc, ◌+◌, ◌≤◌, ◌<◌}
+use Prim.Native.Nat.{ℕ, suc, ◌+◌, ◌-◌, ◌≤◌, ◌<◌}
 use native.Mathlib.Omega.{arith}
 use mathlib.Core.Path.{◌≡◌, refl, ap, ◌∙◌}
 use mathlib.Core.Bool.{Bool}
 use mathlib.Core.List.{List, [], ◌∷◌}
-use lib.ListN.{length, get_or}
+use lib.ListN.{length, get_or, take, drop}
 use lib.Seq.{slice, slice-cons, length-slice}
 use Rattle.dates.specs.Durations.{Duration, part, concat, size}
 use Rattle.dates.specs.declared.duration.Part.{Part}
 use Rattle.dates.specs.declared.duration.Slot.{Slot}
 use Rattle.phrase.specs.Chains.{blank_slot, duration_from, row_duration}
-use Rattle.evaluation.proofs.Rows.{over, over_row, row_steps}
+use Rattle.evaluation.proofs.Rows.{over, over_row, row_steps, cut}
 use Rattle.steps.specs.Plans.{add_to}
 use Rattle.steps.specs.declared.plan.Plan.{Plan}
 use Rattle.steps.specs.declared.plan.Step.TheVariants.{By}
@@ -41,3 +41,7 @@ module _ (l : List Slot) (i to : ℕ) (h : i < to) (k : to ≤ length l) where
   -- its steps behind a plan
   pub row_added : (back : Bool) (p : Plan) → add_duration held back p (row_duration (slice i to l)) ≡ over_row (step_behind back) (slice i to l) p
   row_added back p = duration_over back (row_duration (slice i to l)) p ∙ row_steps (step_behind back) l i to p h k
+
+-- a row of the parts from one place up to another has as many
+pub row_length : (i to : ℕ) (l : List Slot) → i < to → to ≤ length l → length (take (to - i) (drop i l)) + i ≡ to
+row_length i to l h k = rw (cut i to l h) (omega (arith, length-slice i to l k))

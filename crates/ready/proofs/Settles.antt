@@ -5,10 +5,11 @@ use mathlib.Core.Path.{◌≡◌, refl}
 use mathlib.Core.Logic.{inl}
 use mathlib.Core.Bool.{Bool, true, false, cond}
 use mathlib.Core.List.{List, [], ◌∷◌}
+use Rattle.refusals.specs.declared.Reason.TheVariants.{NoSense}
 use Rattle.calendar.specs.Moments.{IsMoment, refused, is_moment}
 use Rattle.calendar.specs.declared.moments.Moment.{Moment}
 use Rattle.calendar.proofs.Valid.{test_moment}
-use Rattle.refusals.specs.Table.{InvalidMoment, NoSense}
+use Rattle.refusals.specs.declared.Reason.TheVariants.{InvalidMoment, NoSense}
 use Rattle.refusals.specs.Answers.{refusal_at}
 use Rattle.refusals.proofs.Holds.{Holds, of_refusal, Bounded}
 use Rattle.answer.specs.Answer.{placed}
@@ -26,7 +27,7 @@ use Rattle.steps.specs.declared.plan.Step.TheVariants.{From, By, AtTime}
 
 start-leads : (s : Start) (t : Moment) → IsMoment t → Leads IsMoment (start_at s t)
 start-leads Now t v = leads v
-start-leads Senseless t v = refuses {k = 9} refl
+start-leads Senseless t v = refuses {k = NoSense} refl
 start-leads (OnDate d) t v = date_leads t v d
 start-leads (InWeek s d) t v = week_leads t v s (d % 7)
 start-leads (FromToday d) t v = on_day_leads t v _

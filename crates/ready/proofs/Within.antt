@@ -5,9 +5,8 @@ use mathlib.Core.Path.{◌≡◌, ap, ◌∙◌}
 use mathlib.Core.List.{List, [], ◌∷◌}
 use lib.ListN.{set, get_or}
 use Rattle.steps.specs.Joining.{minutes_of}
-use Rattle.steps.specs.Plans.{hold, blank_held, begun, last_of, add_to}
+use Rattle.steps.specs.Plans.{blank_step, begun, last_of, add_to}
 use Rattle.steps.specs.declared.plan.Plan.{Plan}
-use Rattle.steps.specs.declared.plan.Held.{Held}
 use Rattle.steps.specs.declared.plan.Step.{Step}
 use Rattle.steps.specs.declared.plan.Start.{Start}
 use Rattle.steps.proofs.Joined.{minutes, Meeting, refusal, apart, lengths, meeting}
@@ -20,7 +19,7 @@ pub record Grown (p q : Plan) (m : ℕ) : Type 0 where
   pub minutes : minutes_of (last_of q) ≤ minutes_of (last_of p) + m
 
 -- a slot that was written has no more minutes than the step that was put there
-written : (l : List Held) (i : ℕ) (s : Step) → minutes_of (get_or (set l i (hold s)) i blank_held).step ≤ minutes_of s
+written : (l : List Step) (i : ℕ) (s : Step) → minutes_of (get_or (set l i s) i blank_step) ≤ minutes_of s
 written [] i s = omega arith
 written (x ∷ xs) zero s = omega arith
 written (x ∷ xs) (suc i) s = written xs i s

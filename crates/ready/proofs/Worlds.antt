@@ -6,6 +6,7 @@ use mathlib.Core.Bool.{Bool, true, false, cond, ◌&&◌, and-eq-true_iff}
 use mathlib.Core.List.{List, [], ◌∷◌}
 use lib.Dec.{eqb}
 use borrow.Author.Tests.{eqb-true}
+use Rattle.refusals.specs.declared.Reason.TheVariants.{NoSense}
 use Rattle.calendar.specs.Moments.{Reach, moment, refused, and_then, Outcome}
 use Rattle.calendar.specs.declared.moments.Moment.{Moment}
 use Rattle.calendar.proofs.Outcomes.{then_same, then_moment, then_assoc}
@@ -77,7 +78,7 @@ module _ {S : Type 0} (w : World S) (Good : S → Type 0) (lawful : Lawful w Goo
   front_one :
       {x : Step} (time : Time) → Meeting x (AtTime time) → (t : Moment) → one_if (is_time_step x) ≡ 0 →
       ahead_in w (joined (join_of x (AtTime time)) x (AtTime time)) n t ≡ w.settle (timed (x ∷ []) time t)
-  front_one time (refusal e j) t h = rw (j, e) (sym (lawful.refusal_stays 9))
+  front_one time (refusal e j) t h = rw (j, e) (sym (lawful.refusal_stays NoSense))
   front_one {x} time (apart j) t h = rw j (front x [] (AtTime time ∷ []) time t h (λ u. then_moment _))
   front_one time (lengths back m k e f j) t h = let z : ◌≡◌ {A = ℕ} 0 1 = cc in absurd (omega arith)
 
@@ -89,7 +90,7 @@ module _ {S : Type 0} (w : World S) (Good : S → Type 0) (lawful : Lawful w Goo
 
   -- the steps of a date expression and their time of day
   pub lead_time : {ss : List Step} → Open ss → (time : Time) → lead_in w (add_step ss (AtTime time)) n ≡ w.settle (timed ss time (w.civil n))
-  lead_time senseless time = sym (lawful.refusal_stays 9)
+  lead_time senseless time = sym (lawful.refusal_stays NoSense)
   lead_time (dated {x} {ss} d) time =
       rw (dated_kept x ss (AtTime time), d.due)
       (ahead_time (x ∷ ss) time (w.civil n) (omega (arith, start_no_time x d.start, d.no_times)))

@@ -9,7 +9,7 @@ ghost use Rattle.steps.specs.Joining.{minutes_of};
 ghost use Rattle.steps.specs.Plans.{last_of, begun};
 ghost use Rattle.steps.specs.declared.plan.Start.TheVariants.{OnDate};
 ghost use Rattle.steps.specs.declared.plan.Step.TheVariants.{By};
-ghost use Rattle.ready.specs.Made.{length_move, move_of_part, held, add_duration, expr_steps, tree_steps};
+ghost use Rattle.ready.specs.Made.{length_move, move_of_part, held, add_duration, add_year, expr_steps, tree_steps};
 ghost use Rattle.ready.specs.Made.{date_relative_steps, unit_relative_steps, weekday_relative_steps};
 ghost use Rattle.ready.specs.Bounds.{widest, Within, Longer};
 
@@ -62,45 +62,47 @@ fn add_parts(p: Plan, parts: Parts, from: u8, to: u8, back: bool) -> Plan
     ensures value { result ≡ add_duration held back p (row_duration (slice from to parts.items)) }
     ensures longer { Longer p result from to }
 {
+    let row = &parts.items[from as usize..to as usize];
     let mut q = p;
-    let mut i = from;
-    while i < to {
-        let slot = parts.items[i as usize];
-        let part = slot.part;
-        q = add(q, Step::By(part_move(back, part)));
-        i += 1;
+    for slot in row {
+        q = add(q, Step::By(part_move(back, slot.part)));
     }
     q
+}
+
+// A year on or back, by the specifier.
+fn add_year(start: Plan, specifier: RelativeSpecifier) -> Plan
+    requires { Within start 1 }
+    ensures { (result ≡ add_year held specifier start) × Within result 2 }
+{
+    match specifier {
+        RelativeSpecifier::This => start,
+        RelativeSpecifier::Next => add(
+            start,
+            Step::By(Move::Years {
+                back: false,
+                count: 1,
+            }),
+        ),
+        RelativeSpecifier::Last => add(
+            start,
+            Step::By(Move::Years {
+                back: true,
+                count: 1,
+            }),
+        ),
+    }
 }
 
 // A month and day of a year before or after; another date or unit has no sense.
 fn date_relative(date: Date, specifier: RelativeSpecifier, unit: Unit) -> Plan
     ensures { (result ≡ date_relative_steps held date specifier unit) × Within result 2 }
 {
-    if is_year(unit) {
-        if is_month_and_day(date) {
-            let start = single(Start::OnDate(date));
-            return match specifier {
-                RelativeSpecifier::This => start,
-                RelativeSpecifier::Next => add(
-                    start,
-                    Step::By(Move::Years {
-                        back: false,
-                        count: 1,
-                    }),
-                ),
-                RelativeSpecifier::Last => add(
-                    start,
-                    Step::By(Move::Years {
-                        back: true,
-                        count: 1,
-                    }),
-                ),
-            };
-        }
-        return single(Start::Senseless);
+    if is_year(unit) && is_month_and_day(date) {
+        add_year(single(Start::OnDate(date)), specifier)
+    } else {
+        single(Start::Senseless)
     }
-    single(Start::Senseless)
 }
 
 // One unit before or after today; "this", hours and minutes have no sense.
@@ -123,9 +125,10 @@ fn weekday_relative(w: u32, specifier: RelativeSpecifier, unit: Unit) -> Plan
     ensures { (result ≡ weekday_relative_steps held w specifier unit) × Within result 2 }
 {
     if is_week(unit) {
-        return single(Start::InWeek(specifier, w));
+        single(Start::InWeek(specifier, w))
+    } else {
+        single(Start::Senseless)
     }
-    single(Start::Senseless)
 }
 
 // A date, and a duration from it.
@@ -146,8 +149,8 @@ fn expr_plan(expr: Expr, parts: Parts, own: u8) -> Plan
     match expr {
         Expr::Date(d) => single(Start::OnDate(d)),
         Expr::DateRelative(d, s, u) => date_relative(d, s, u),
-        Expr::DateExpressionAfter(d) => from_date(d, parts, own, false),
-        Expr::DateExpressionBefore(d) => from_date(d, parts, own, true),
+        Expr::DateExpressionAfter(d) | Expr::After(d) => from_date(d, parts, own, false),
+        Expr::DateExpressionBefore(d) | Expr::Before(d) => from_date(d, parts, own, true),
         Expr::UnitRelative(s, u) => unit_relative(s, u),
         Expr::RelativeWeekday(s, w) => single(Start::InWeek(s, w)),
         Expr::WeekdayRelative(w, s, u) => weekday_relative(w, s, u),
@@ -159,26 +162,21 @@ fn expr_plan(expr: Expr, parts: Parts, own: u8) -> Plan
             from_date(Date::Today, parts, own, false),
             Step::By(Move::ForwardTo(w)),
         ),
-        Expr::Before(d) => from_date(d, parts, own, true),
-        Expr::After(d) => from_date(d, parts, own, false),
         Expr::Weekday(w) => single(Start::FromToday(w)),
         Expr::Empty => single(Start::OnDate(Date::Today)),
     }
 }
 
 // The steps of what the durations stand around.
-fn base_plan(r: Chain) -> Plan
-    requires { Formed r × (size_tree (base_of r) ≤ 21) }
-    ensures { (result ≡ tree_steps held (base_of r)) × Within result (3 + size_tree (base_of r)) }
+fn base_plan(r: &Chain) -> Plan
+    requires { Formed r.now × (size_tree (base_of r.now) ≤ 21) }
+    ensures { (result ≡ tree_steps held (base_of r.now)) × Within result (3 + size_tree (base_of r.now)) }
 {
-    let base = r.base;
-    let parts = r.parts;
-    let own = r.own;
-    let time = r.time;
-    match base {
+    match r.base {
         Base::Now => single(Start::Now),
-        Base::DateTime(expr) => add(expr_plan(expr, parts, own), Step::AtTime(time)),
-        Base::TimeDate(expr) => add(expr_plan(expr, parts, own), Step::AtTime(time)),
+        Base::DateTime(expr) | Base::TimeDate(expr) => {
+            add(expr_plan(expr, r.parts, r.own), Step::AtTime(r.time))
+        }
     }
 }
 
@@ -187,13 +185,10 @@ pub(crate) fn plan_of(r: Chain) -> Plan
     requires { Formed r × (size_tree (tree_of r) ≤ 21) }
     ensures { result ≡ tree_steps held (tree_of r) }
 {
-    let parts = r.parts;
-    let mut p = base_plan(r);
-    let mut i = r.m;
-    while 0 < i {
-        i -= 1;
+    let mut p = base_plan(&r);
+    for i in (0..r.m).rev() {
         let link = r.links[i as usize];
-        p = add_parts(p, parts, link.from, link.to, link.back);
+        p = add_parts(p, r.parts, link.from, link.to, link.back);
     }
     p
 }

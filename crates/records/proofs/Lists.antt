@@ -1,13 +1,17 @@
 -- Encoding then decoding gives the steps back, and nothing but what encodes is decoded.
 use Prim.Native.Nat.{ℕ, zero, suc, ◌+◌, ◌-◌, ◌*◌, ◌/◌, ◌%◌, ◌^◌, ◌≤◌, ◌<◌}
 use native.Mathlib.Omega.{arith}
+use Rattle.std.proofs.lemmas.Bool.Decides.{nat_tests}
+use native.Mathlib.Numerals.{add-one}
 use mathlib.Core.Path.{◌≡◌, refl, ap, sym, ◌∙◌}
 use mathlib.Core.Bool.{Bool, true, false, cond, ◌&&◌, and-false, and-eq-true_iff}
 use mathlib.Core.List.{List, [], ◌∷◌, ◌++◌}
-use borrow.Author.Tests.{le-leb, lt-leb, eq-eqb, ne_eqb, eqb-true}
+use borrow.Author.Tests.{le-leb, lt-leb, ne_eqb, eqb-true}
 use lib.Dec.{leb, eqb}
-use lib.ListN.{length, drop, length-drop, take-append-drop, drop_of_length-le}
-use lib.Seq.{drop-drop, get_or-drop}
+use lib.ListN.{length, get_or, drop, length-drop, take-append-drop, drop_of_length-le}
+use lib.Seq.{sets, drop-cons, drop-drop, get_or-drop}
+use Rattle.digits.proofs.Stores.{sets-append}
+use Rattle.steps.specs.Plans.{blank_step}
 use Rattle.steps.proofs.Small.{All, none, more}
 use Rattle.steps.specs.declared.plan.Step.{Step}
 use Rattle.records.specs.Bytes.{low_first}
@@ -20,23 +24,11 @@ use Rattle.records.proofs.Fitting.{Fits, in_bytes}
 
 -- two records with the same numbers are one
 same_words_lem : (v w : Words) → same_words v w ≡ true → v ≡ w
-same_words_lem v w h =
-    let k = (and-eq-true_iff (eqb v.kind w.kind) _).0 h in
-    let f = (and-eq-true_iff (eqb v.form w.form) _).0 k.1 in
-    let a = (and-eq-true_iff (eqb v.a w.a) _).0 f.1 in
-    let b = (and-eq-true_iff (eqb v.b w.b) _).0 a.1 in
-    let kind = eqb-true v.kind w.kind k.0 in
-    let form = eqb-true v.form w.form f.0 in
-    let first = eqb-true v.a w.a a.0 in
-    let second = eqb-true v.b w.b b.0 in
-    let third = eqb-true v.c w.c b.1 in
-    let e : words v.kind v.form v.a v.b v.c ≡ words w.kind w.form w.a w.b w.c = cc in
-    e
+same_words_lem v w h = let e : words v.kind v.form v.a v.b v.c ≡ words w.kind w.form w.a w.b w.c = grind (arith, nat_tests) in e
 
 -- and one has the same numbers as itself
 same_self : (w : Words) → same_words w w ≡ true
-same_self w =
-    rw (eq-eqb w.kind _ refl, eq-eqb w.form _ refl, eq-eqb w.a _ refl, eq-eqb w.b _ refl, eq-eqb w.c _ refl)
+same_self w = grind (arith, nat_tests)
 
 -- the list behind a place is the list behind one before it, less what lies between
 behind : (l : List ℕ) (at k : ℕ) {m : List ℕ} → drop at l ≡ m → drop (at + k) l ≡ drop k m
@@ -169,3 +161,13 @@ pub steps_next :
     (n i : ℕ) (l : List ℕ) → i < n →
     steps_at (n - i) l (16 * i) ≡ step_from (words_at l (16 * i)) ∷ steps_at (n - (i + 1)) l (16 * (i + 1))
 steps_next n i l h = rw (one_less n i h, next_place i)
+
+-- a step put at its place, with those behind it still to be put
+pub put_step :
+    (l : List ℕ) (ss : List Step) (i : ℕ) → i < length ss →
+    sets (sets l (16 * i) (bytes_of_words (words_of (get_or ss i blank_step)))) (16 * (i + 1)) (encode_of (drop (i + 1) ss))
+    ≡ sets l (16 * i) (encode_of (drop i ss))
+put_step l ss i h =
+    let next = next_place i in
+    let here = drop-cons ss i blank_step in
+    rw (next, add-one, here) (sym (sets-append (bytes_of_words (words_of (get_or ss i blank_step))) (encode_of (drop (suc i) ss)) l (16 * i)))

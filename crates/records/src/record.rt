@@ -1,5 +1,5 @@
 // The records of a list of steps.
-ghost use Rattle.std.specs.Prelude.{◌≡◌, ◌+◌, ◌*◌, ◌≤◌, ◌<◌, length, get_or};
+ghost use Rattle.std.specs.Prelude.{◌≡◌, ◌+◌, ◌*◌, ◌≤◌, length};
 ghost use Rattle.std.proofs.lemmas.List.Edits.{sets};
 ghost use Rattle.steps.specs.Plans.{steps_in};
 ghost use Rattle.records.specs.Records.{bytes_of_words, encode_of, word_at, words_at, is_record};
@@ -20,10 +20,10 @@ fn put_words(b: &mut [u8], at: usize, w: Words)
     requires { at + 16 ≤ length b.old }
     ensures { b.new ≡ sets b.old at (bytes_of_words w) }
 {
-    put(b, at, 4, (w.kind as u64) + 256 * (w.form as u64));
-    put(b, at + 4, 4, w.a as u64);
-    put(b, at + 8, 4, w.b as u64);
-    put(b, at + 12, 4, w.c as u64);
+    put(b, at, u64::from(w.kind) + 256 * u64::from(w.form));
+    put(b, at + 4, u64::from(w.a));
+    put(b, at + 8, u64::from(w.b));
+    put(b, at + 12, u64::from(w.c));
 }
 
 // The records of a list, one behind the other from the start; what stands behind them stays.
@@ -31,22 +31,9 @@ pub fn encode(p: Plan, b: &mut [u8])
     requires { (p.n ≤ 24) × (16 * p.n ≤ length b.old) }
     ensures { b.new ≡ sets b.old 0 (encode_of (steps_in p)) }
 {
-    let n = p.n;
-    let mut i = 0;
-    while i < n {
-        let slot = p.slots[i];
-        let step = slot.step;
-        put_words(b, SIZE * i, words_of(step));
-        i += 1;
+    for (i, step) in p.slots[..p.n].iter().enumerate() {
+        put_words(b, SIZE * i, words_of(*step));
     }
-}
-
-// The byte at a place.
-fn byte_at(b: &[u8], at: usize) -> u32
-    requires { at < length b.now }
-    ensures { (result ≡ get_or b.now at 0) × (result < 256) }
-{
-    b[at] as u32
 }
 
 // The number of four bytes at a place.
@@ -54,13 +41,11 @@ fn word_at(b: &[u8], at: usize) -> u32
     requires { at + 4 ≤ length b.now }
     ensures { result ≡ word_at b.now at }
 {
-    byte_at(b, at)
-        + 256 * byte_at(b, at + 1)
-        + 65536 * byte_at(b, at + 2)
-        + 16777216 * byte_at(b, at + 3)
+    u32::from_le_bytes([b[at], b[at + 1], b[at + 2], b[at + 3]])
 }
 
 // The numbers of the record at a place.
+#[tactic(auto, unfolding(crate::specs::Records::words_at))]
 pub(crate) fn words_at(b: &[u8], at: usize) -> Words
     requires { at + 16 ≤ length b.now }
     ensures { result ≡ words_at b.now at }
@@ -124,31 +109,25 @@ fn has_second(kind: u32, form: u32) -> bool
 fn has_third(kind: u32, form: u32) -> bool
     ensures { result ≡ has_third kind form }
 {
-    if kind == 3 { form < 4 } else { false }
+    kind == 3 && form < 4
 }
 
-// May a record of a kind and form have these numbers? The last that is not 0 says.
-fn may_have(kind: u32, form: u32, a: u32, b: u32, c: u32) -> bool
-    ensures { result ≡ may_have kind form a b c }
+// May a record of its kind and form have these numbers? The last that is not 0 says.
+fn may_have(w: Words) -> bool
+    ensures { result ≡ may_have w.kind w.form w.a w.b w.c }
 {
-    if c != 0 {
-        return has_third(kind, form);
+    if w.c != 0 {
+        has_third(w.kind, w.form)
+    } else if w.b != 0 {
+        has_second(w.kind, w.form)
+    } else {
+        w.a == 0 || has_first(w.kind, w.form)
     }
-    if b != 0 {
-        return has_second(kind, form);
-    }
-    if a != 0 {
-        return has_first(kind, form);
-    }
-    true
 }
 
 // Does a step encode to these numbers?
 pub(crate) fn is_record(w: Words) -> bool
     ensures { result ≡ is_record w }
 {
-    if w.form < forms(w.kind) {
-        return may_have(w.kind, w.form, w.a, w.b, w.c);
-    }
-    false
+    w.form < forms(w.kind) && may_have(w)
 }

@@ -1,6 +1,6 @@
 // A step as numbers, and back.
 ghost use Rattle.std.specs.Prelude.{◌≡◌};
-ghost use Rattle.records.specs.Words.{words, date_words, week_words, start_words, direction, move_words, time_words, words_of};
+ghost use Rattle.records.specs.Words.{words, date_words, week_words, start_words, move_words, time_words, words_of};
 ghost use Rattle.records.specs.Words.{date_from, specifier_from, time_from, step_from};
 
 use dates::date::Date;
@@ -75,16 +75,6 @@ fn time_words(time: Time) -> Words
     }
 }
 
-// A direction as a number.
-fn direction(back: bool) -> u32
-    ensures { result ≡ direction back }
-{
-    if back {
-        return 1;
-    }
-    0
-}
-
 // A start as numbers.
 fn start_words(start: Start) -> Words
     ensures { result ≡ start_words start }
@@ -105,13 +95,13 @@ fn move_words(way: Move) -> Words
     match way {
         Move::Minutes { back, count } => numbers(
             6,
-            direction(back),
+            u32::from(back),
             (count % WIDE) as u32,
             (count / WIDE) as u32,
             0,
         ),
-        Move::Months { back, count } => numbers(7, direction(back), count, 0, 0),
-        Move::Years { back, count } => numbers(8, direction(back), count, 0, 0),
+        Move::Months { back, count } => numbers(7, u32::from(back), count, 0, 0),
+        Move::Years { back, count } => numbers(8, u32::from(back), count, 0, 0),
         Move::BackTo(w) => numbers(9, 0, w, 0, 0),
         Move::ForwardTo(w) => numbers(11, 0, w, 0, 0),
     }
@@ -170,22 +160,26 @@ fn time_from(form: u32, a: u32, b: u32) -> Time
 }
 
 // The only step that may have these numbers.
+#[tactic(auto, unfolding(crate::specs::Words::step_from))]
 pub(crate) fn step_from(w: Words) -> Step
     ensures { result ≡ step_from w }
 {
-    let kind = w.kind;
-    let form = w.form;
-    let a = w.a;
-    let b = w.b;
+    let Words {
+        kind,
+        form,
+        a,
+        b,
+        c,
+    } = w;
     let back = form == 1;
     match kind {
         2 => Step::From(Start::Senseless),
-        3 => Step::From(Start::OnDate(date_from(form, a, b, w.c))),
+        3 => Step::From(Start::OnDate(date_from(form, a, b, c))),
         4 => Step::From(Start::InWeek(specifier_from(form), a)),
         5 => Step::From(Start::FromToday(a)),
         6 => Step::By(Move::Minutes {
             back,
-            count: (a as u64) + WIDE * (b as u64),
+            count: u64::from(a) + WIDE * u64::from(b),
         }),
         7 => Step::By(Move::Months { back, count: a }),
         8 => Step::By(Move::Years { back, count: a }),

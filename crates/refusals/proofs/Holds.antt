@@ -2,7 +2,8 @@
 use Prim.Native.Nat.{ℕ, ◌≤◌, ◌<◌, zero-le}
 use native.Mathlib.Omega.{arith}
 use mathlib.Core.Path.{◌≡◌, refl}
-use Rattle.refusals.specs.Answers.{Answer, given, refused, and_then, refusal_of}
+use Rattle.refusals.specs.Table.{number_of}
+use Rattle.refusals.specs.Answers.{Answer, given, refused, and_then, place_of, end_of, number_in}
 use Rattle.refusals.specs.declared.Refusal.{Refusal}
 
 -- one thing of what is given, another of a refusal
@@ -12,8 +13,8 @@ pub data Holds {A : Type 0} (P : A → Type 0) (Q : Refusal → Type 0) : Answer
 
 -- a number of low to high, and a part within the first n bytes
 pub record Bounded (low high n : ℕ) (r : Refusal) : Type 0 where
-  pub least : low ≤ r.number
-  pub most : r.number ≤ high
+  pub least : low ≤ number_of r.reason
+  pub most : number_of r.reason ≤ high
   pub start : r.place ≤ r.end
   pub within : r.end ≤ n
 
@@ -46,16 +47,21 @@ pub record Given {A : Type 0} (P : A → Type 0) (w : Answer A) : Type 0 where
 
 module _ {A : Type 0} {P : A → Type 0} {low high n : ℕ} where
   -- the offending part lies within those bytes, also where nothing is refused
-  pub part_within : {w : Answer A} → Holds P (Bounded low high n) w → ((refusal_of w).place ≤ (refusal_of w).end) × ((refusal_of w).end ≤ n)
+  pub part_within : {w : Answer A} → Holds P (Bounded low high n) w → (place_of w ≤ end_of w) × (end_of w ≤ n)
   part_within (of_given p) = (zero-le, zero-le)
   part_within (of_refusal q) = (q.start, q.within)
 
   -- number 0 is an answer
-  pub number_zero : {w : Answer A} → Holds P (Bounded low high n) w → 0 < low → (refusal_of w).number ≡ 0 → Given P w
+  pub number_zero : {w : Answer A} → Holds P (Bounded low high n) w → 0 < low → number_in w ≡ 0 → Given P w
   number_zero (of_given {x} p) h z = record { value = x; is = refl; holds = p }
   number_zero (of_refusal q) h z = absurd (omega arith)
 
+-- a refusal that an answer is
+pub record Refusing {A : Type 0} (w : Answer A) : Type 0 where
+  pub refusal : Refusal
+  pub is : w ≡ refused refusal
+
 -- any other is its refusal
-pub number_other : {A : Type 0} (w : Answer A) → ((refusal_of w).number ≡ 0 → ⊥) → w ≡ refused (refusal_of w)
+pub number_other : {A : Type 0} (w : Answer A) → (number_in w ≡ 0 → ⊥) → Refusing w
 number_other (given x) z = absurd (z refl)
-number_other (refused r) z = refl
+number_other (refused r) z = record { refusal = r; is = refl }

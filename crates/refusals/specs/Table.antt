@@ -1,106 +1,59 @@
 -- The paper's table of refusal numbers, 1 to 13 "tested in this order", and those that the requests add.
 use Rattle.std.specs.Prelude.{ℕ}
+use Rattle.refusals.specs.declared.Reason.{Reason}
+use Rattle.refusals.specs.declared.Reason.TheVariants.{TooLong, Unknown, LargeDigits, TooMany, Nothing, LargeSum, LeftOver, InvalidMoment, NoSense, NoDate, NoTime, Outside, NoLeapDay, NoStamp, NoReading, NotWhole, NoRoom, NoRule, NoStart, NoNext, NoZone, PastLast, NoInstant, FullBoard, EmptySlot, NothingDue}
 
+-- a reason's number
+abbrev pub number_of : Reason → ℕ
 -- "phrase longer than 256 bytes"
-abbrev pub TooLong : ℕ
-TooLong = 1
-
+number_of TooLong = 1
 -- "a word that is no keyword, or a byte with no meaning"
-abbrev pub Unknown : ℕ
-Unknown = 2
-
+number_of Unknown = 2
 -- "a digit run above 4,294,967,295"
-abbrev pub LargeDigits : ℕ
-LargeDigits = 3
-
+number_of LargeDigits = 3
 -- "a 65th lexeme"
-abbrev pub TooMany : ℕ
-TooMany = 4
-
+number_of TooMany = 4
 -- "`DateTime::parse` reads nothing"
-abbrev pub Nothing : ℕ
-Nothing = 5
-
+number_of Nothing = 5
 -- "a sum or product in a number passes 4,294,967,295"
-abbrev pub LargeSum : ℕ
-LargeSum = 6
-
+number_of LargeSum = 6
 -- "lexemes are left after the reading"
-abbrev pub LeftOver : ℕ
-LeftOver = 7
-
+number_of LeftOver = 7
 -- "now is no date and time in years 1 to 9999"
-abbrev pub InvalidMoment : ℕ
-InvalidMoment = 8
-
+number_of InvalidMoment = 8
 -- "the reading or step list has no sense"
-abbrev pub NoSense : ℕ
-NoSense = 9
-
+number_of NoSense = 9
 -- "no such month or day"
-abbrev pub NoDate : ℕ
-NoDate = 10
-
+number_of NoDate = 10
 -- "no such time of day"
-abbrev pub NoTime : ℕ
-NoTime = 11
-
+number_of NoTime = 11
 -- "a moment outside years 1 to 9999"
-abbrev pub Outside : ℕ
-Outside = 12
-
+number_of Outside = 12
 -- "a year step from 29 February into a common year"
-abbrev pub NoLeapDay : ℕ
-NoLeapDay = 13
-
+number_of NoLeapDay = 13
 -- "any other form or an impossible date, time or offset"; in writing "an offset out of range"
-abbrev pub NoStamp : ℕ
-NoStamp = 14
-
+number_of NoStamp = 14
 -- "15 for any other reading number, before 1"
-abbrev pub NoReading : ℕ
-NoReading = 15
-
+number_of NoReading = 15
 -- "16 when second or millisecond isn't 0"
-abbrev pub NotWhole : ℕ
-NotWhole = 16
-
+number_of NotWhole = 16
 -- "a buffer too short"
-abbrev pub NoRoom : ℕ
-NoRoom = 17
-
+number_of NoRoom = 17
 -- "18 for a rule outside this"
-abbrev pub NoRule : ℕ
-NoRule = 18
-
+number_of NoRule = 18
 -- "19 for a start that doesn't match or lies past UNTIL"
-abbrev pub NoStart : ℕ
-NoStart = 19
-
+number_of NoStart = 19
 -- "20 exactly if no occurrence in years 1 to 9999 is at or after the moment"
-abbrev pub NoNext : ℕ
-NoNext = 20
-
+number_of NoNext = 20
 -- "21 for the file"
-abbrev pub NoZone : ℕ
-NoZone = 21
-
+number_of NoZone = 21
 -- "22 for a moment at or past the last transition"
-abbrev pub PastLast : ℕ
-PastLast = 22
-
+number_of PastLast = 22
 -- "23 for a time that doesn't occur"
-abbrev pub NoInstant : ℕ
-NoInstant = 23
-
+number_of NoInstant = 23
 -- "24 for a full board"
-abbrev pub FullBoard : ℕ
-FullBoard = 24
-
+number_of FullBoard = 24
 -- "25 for a slot that holds nothing"
-abbrev pub EmptySlot : ℕ
-EmptySlot = 25
-
+number_of EmptySlot = 25
 -- "26 when no entry has a moment"
-abbrev pub NothingDue : ℕ
-NothingDue = 26
+number_of NothingDue = 26

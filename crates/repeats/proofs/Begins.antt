@@ -8,7 +8,9 @@ use lib.Dec.{leb, ltb}
 use lib.ListN.{length, take}
 use lib.Seq.{take_all}
 use borrow.Author.Tests.{lt-ltb, le-ltb, ltb-true}
-use Rattle.refusals.specs.Table.{NoStart}
+use Rattle.std.proofs.Common.{Result, Ok, Err}
+use Rattle.refusals.specs.declared.Reason.{Reason}
+use Rattle.refusals.specs.declared.Reason.TheVariants.{NoStart}
 use Rattle.refusals.specs.Answers.{given, refuse}
 use Rattle.calendar.specs.Gregorian.{days}
 use Rattle.calendar.specs.Moments.{IsMoment, day_of_moment, month_number}
@@ -25,8 +27,6 @@ use Rattle.repeats.specs.Occurrences.{Repeat, month_at, holds, repeat_by, repeat
 use Rattle.repeats.specs.Occurrences.{occurs_on, occurrences, start_fits, days_of}
 use Rattle.repeats.specs.Courses.{count_of, course_of, repeat_on, repeat_in, holds_in, days_in, IsCourse, begun_of}
 use Rattle.repeats.specs.declared.courses.Course.{Course}
-use Rattle.repeats.specs.declared.courses.Begun.{Begun}
-use Rattle.repeats.specs.declared.courses.Begun.TheVariants.{Refused, From}
 use Rattle.repeats.proofs.Held.{held_short, one-most}
 
 -- what a rule's course repeats is what the rule does
@@ -98,45 +98,35 @@ module _ (r : Rule) (t : Moment) (c : Course) (e : c ≡ course_of r t) where
   unfolding start_fits
   fits_is b h = let own = rw (e, same_repeat r t) at h in rw own
 
-  pub begun_from : holds_in c c.start ≡ true → c.start < c.limit → From c ≡ begun_of r t
+  pub begun_from : holds_in c c.start ≡ true → c.start < c.limit → Ok c ≡ begun_of r t
   begun_from h l = rw (e, fits_is true h, lt-ltb _ _ (rw e at l))
 
-  pub begun_late : holds_in c c.start ≡ true → c.limit ≤ c.start → Refused ≡ begun_of r t
+  pub begun_late : holds_in c c.start ≡ true → c.limit ≤ c.start → Err NoStart ≡ begun_of r t
   begun_late h l = rw (fits_is true h, le-ltb _ _ (rw e at l))
 
-  pub begun_off : holds_in c c.start ≡ false → Refused ≡ begun_of r t
+  pub begun_off : holds_in c c.start ≡ false → Err NoStart ≡ begun_of r t
   begun_off h = rw (fits_is false h)
 
--- which variant it is
-abbrev tag_of : Begun → ℕ
-tag_of Refused = 0
-tag_of (From c) = 1
-
--- the course of one that is begun
-abbrev course_in : Course → Begun → Course
-course_in d Refused = d
-course_in d (From c) = c
-
 -- what an answer says of the start
-module _ (r : Rule) (t : Moment) (b : Begun) (e : b ≡ begun_of r t) where
-  pub not-begun : b ≡ Refused → days_of r t ≡ refuse NoStart 0 0
+module _ (r : Rule) (t : Moment) (b : Result Course Reason) (e : b ≡ begun_of r t) where
+  pub not-begun : (k : Reason) → b ≡ Err k → (k ≡ NoStart) × (days_of r t ≡ refuse NoStart 0 0)
   unfolding days_of
-  not-begun h = go (start_fits r t) (sym h ∙ e)
+  not-begun k h = go (start_fits r t) (sym h ∙ e)
     where
-      go : (x : Bool) → Refused ≡ cond x (From (course_of r t)) Refused → cond x (given (occurrences r t)) (refuse NoStart 0 0) ≡ refuse NoStart 0 0
-      go true p = absurd (let z : tag_of Refused ≡ tag_of (From (course_of r t)) = ap tag_of p in omega arith)
-      go false p = refl
+      go : (x : Bool) → Err k ≡ cond x (Ok (course_of r t)) (Err NoStart) → (k ≡ NoStart) × (cond x (given (occurrences r t)) (refuse NoStart 0 0) ≡ refuse NoStart 0 0)
+      go true p = cc
+      go false p = (cc, refl)
 
-  pub from_fits : (c : Course) → b ≡ From c → (start_fits r t ≡ true) × (c ≡ course_of r t)
+  pub from_fits : (c : Course) → b ≡ Ok c → (start_fits r t ≡ true) × (c ≡ course_of r t)
   from_fits c h = go (start_fits r t) (sym h ∙ e)
     where
-      go : (x : Bool) → From c ≡ cond x (From (course_of r t)) Refused → (x ≡ true) × (c ≡ course_of r t)
-      go true p = (refl, ap (course_in c) p)
-      go false p = absurd (let z : tag_of (From c) ≡ tag_of Refused = ap tag_of p in omega arith)
+      go : (x : Bool) → Ok c ≡ cond x (Ok (course_of r t)) (Err NoStart) → (x ≡ true) × (c ≡ course_of r t)
+      go true p = (refl, cc)
+      go false p = cc
 
-  pub begun_course : (c : Course) → b ≡ From c → IsRule r → IsMoment t → IsCourse c
+  pub begun_course : (c : Course) → b ≡ Ok c → IsRule r → IsMoment t → IsCourse c
   begun_course c h v m = let f = from_fits c h in rw f.1 (is_course r t v m f.0)
 
-  pub begun_days : (c : Course) → b ≡ From c → IsRule r → days_of r t ≡ given (days_in c)
+  pub begun_days : (c : Course) → b ≡ Ok c → IsRule r → days_of r t ≡ given (days_in c)
   unfolding days_of
   begun_days c h v = let f = from_fits c h in rw (f.0, f.1, same_list r t v)

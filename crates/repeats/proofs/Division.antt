@@ -1,11 +1,13 @@
 -- Rounding up: its bounds, its steps, and that nothing between divides.
-use mathlib.Core.Path.{◌≡◌, refl}
+use mathlib.Core.Path.{◌≡◌, refl, sym}
 use mathlib.Core.Bool.{Bool, true, false}
 use mathlib.Core.Logic.{⊎_elim}
 use Prim.Native.Nat.{ℕ, suc, ◌+◌, ◌-◌, ◌*◌, ◌/◌, ◌%◌, ◌≤◌, ◌<◌}
 use native.Mathlib.Nat.{div-eq_of_lt-le, div-add-mod, mod-lt, mul-mod_right, mul-le-mul_left}
 use native.Mathlib.Omega.{arith}
 use borrow.Author.Tests.{eq-eqb, eqb-true}
+use Rattle.std.specs.Int.{div_ceil}
+use Rattle.std.proofs.lemmas.Grind.{div_ceil_times}
 use Rattle.digits.proofs.Order.{Tri, below, equal, above, tri, le-or_lt}
 use Rattle.repeats.specs.Firsts.{up}
 use Rattle.repeats.specs.Occurrences.{divides}
@@ -35,6 +37,10 @@ up_bounds i n h =
     let a = div-add-mod (n + (i - 1)) i in
     let b = mod-lt (n + (i - 1)) h in
     record { low = omega arith; high = omega arith }
+
+-- the library's rounding up is this one
+pub ceil_up : (i n : ℕ) → 1 ≤ i → div_ceil n i ≡ up i n
+ceil_up i n h = let c = div_ceil_times n i h in sym (up_is i n (div_ceil n i) (omega arith) (omega arith))
 
 -- a number that i divides, by its quotient
 pub divided : (i n : ℕ) → divides i n ≡ true → i * (n / i) ≡ n

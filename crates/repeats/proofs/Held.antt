@@ -6,7 +6,6 @@ use mathlib.Core.List.{List, ◌∷◌, ◌++◌, []}
 use lib.ListN.{length, take}
 use Prim.Native.Nat.{ℕ, zero, suc, ◌+◌, ◌-◌, ◌≤◌, ◌<◌}
 use native.Mathlib.Nat.{eq-or-lt_of_le, zero-add, add-zero, suc-add}
-use native.Mathlib.Numerals.{add-one}
 use native.Mathlib.Omega.{arith}
 use Rattle.repeats.specs.Held.{First, between, held, keep, one, seek}
 
@@ -97,29 +96,19 @@ sought P b (suc k) = go (sought P (suc b) k) (P b) refl
       found = λ p. rest.found (omega arith);
     }
 
--- a search ends where P holds, and goes on where not
-seek_here : (P : ℕ → Bool) (b k : ℕ) → P b ≡ true → seek P b (suc k) ≡ b
-unfolding seek
-seek_here P b k e = rw (seek, e)
+-- a search ends where P holds, goes on where not, and ends where no number is left
+module _ (P : ℕ → Bool) (b k : ℕ) where
+  pub seek_at : P b ≡ true → 0 < k → seek P b k ≡ b
+  unfolding seek
+  seek_at e h = let z : k ≡ suc (k - 1) = omega arith in rw (z, seek, e)
 
-seek_next : (P : ℕ → Bool) (b k : ℕ) → P b ≡ false → seek P b (suc k) ≡ seek P (suc b) k
-unfolding seek
-seek_next P b k e = rw (seek, e)
+  pub seek_on : (c n : ℕ) → P b ≡ false → c ≡ suc b → k ≡ suc n → seek P b k ≡ seek P c n
+  unfolding seek
+  seek_on c n e p z = rw (p, z, seek, e)
 
-seek_none : (P : ℕ → Bool) (b : ℕ) → seek P b 0 ≡ b
-unfolding seek
-seek_none P b = refl
-
--- a search that has come to b, with the numbers below n left
-module _ (P : ℕ → Bool) (b n : ℕ) where
-  pub seek_at : b < n → P b ≡ true → seek P b (n - b) ≡ b
-  seek_at h e = let z : n - b ≡ suc (n - suc b) = omega arith in rw z (seek_here P b (n - suc b) e)
-
-  pub seek_on : b < n → P b ≡ false → seek P b (n - b) ≡ seek P (b + 1) (n - (b + 1))
-  seek_on h e = let z : n - b ≡ suc (n - suc b) = omega arith in rw (z, add-one) (seek_next P b (n - suc b) e)
-
-  pub seek_end : n ≤ b → seek P b (n - b) ≡ b
-  seek_end h = let z : n - b ≡ 0 = omega arith in rw z (seek_none P b)
+  pub seek_end : k ≡ 0 → seek P b k ≡ b
+  unfolding seek
+  seek_end z = rw z
 
 -- each entry of the list has Q
 abbrev pub Each : (ℕ → Type 0) → List ℕ → Type 0

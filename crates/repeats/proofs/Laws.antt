@@ -10,7 +10,7 @@ use lib.Dec.{leb, ltb}
 use lib.ListN.{length, take, drop, length-take}
 use lib.Seq.{sets, sets-eq, take-length}
 use borrow.Author.Tests.{leb-true, leb-false, ltb-true}
-use Rattle.refusals.specs.Table.{NoStart}
+use Rattle.refusals.specs.declared.Reason.TheVariants.{NoStart}
 use Rattle.refusals.specs.Answers.{given, refuse, refusal_at, and_then}
 use Rattle.refusals.proofs.Holds.{Holds, of_given, of_refusal, Bounded}
 use Rattle.calendar.specs.Gregorian.{days}
@@ -50,7 +50,7 @@ uncounted (UntilDay y m d) l u = refl
 uncounted (UntilMoment u) l x = refl
 
 -- COUNT is at least 1
-count_least : (b : Bound) → IsBound b → 1 ≤ count_of b
+pub count_least : (b : Bound) → IsBound b → 1 ≤ count_of b
 count_least Endless v = omega arith
 count_least (Count n) v = v
 count_least (UntilDay y m d) v = omega arith

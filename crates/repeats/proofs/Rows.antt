@@ -2,13 +2,12 @@
 use Prim.Native.Nat.{ℕ, suc, ◌+◌, ◌-◌, ◌*◌, ◌/◌, ◌≤◌, ◌<◌, min}
 use native.Mathlib.Nat.{zero-add}
 use native.Mathlib.Omega.{arith}
-use mathlib.Core.Path.{◌≡◌, refl, ap, sym, ◌∙◌}
-use mathlib.Core.Logic.{⊎_elim}
+use mathlib.Core.Path.{◌≡◌, ap, sym, ◌∙◌}
 use mathlib.Core.List.{List, [], ◌∷◌, ◌++◌, append-nil, append_assoc}
-use lib.ListN.{length, take, length-append, length-take}
-use lib.Seq.{sets, length-sets, take_all, take_at, take-take}
-use Rattle.digits.proofs.Order.{le-or_lt}
+use lib.ListN.{length, take, length-append}
+use lib.Seq.{sets, take_all}
 use Rattle.digits.proofs.Stores.{sets-append}
+use Rattle.digits.proofs.Takes.{take-least}
 use Rattle.calendar.specs.Gregorian.{days}
 use Rattle.calendar.specs.Moments.{at_day, seven}
 use Rattle.calendar.specs.declared.moments.Moment.{Moment}
@@ -58,64 +57,40 @@ rows_append t [] n = append-nil _
 rows_append t (m ∷ l) n = ap (λ k. seven (at_day m t) ++ k) (rows_append t l n) ∙ sym (append_assoc (seven (at_day m t)) (rows t l) (seven (at_day n t)))
 
 -- n rows are written, and what is left of the course's days begins at `next`
-pub record Listed (c : Course) (t : Moment) (before now : List ℕ) (most n next : ℕ) : Type 0 where
+pub record Listed (c : Course) (t : Moment) (before now : List ℕ) (n next : ℕ) : Type 0 where
   pub done : List ℕ
   pub count : length done ≡ n
-  pub within : n ≤ most
   pub low : c.start ≤ next
   pub left : left_from c c.start ≡ done ++ left_from c next
   pub stored : now ≡ sets before 0 (rows t done)
 
-pub listed_size : {c : Course} {t : Moment} {before now : List ℕ} {most n next : ℕ} → Listed c t before now most n next → length now ≡ length before
-listed_size {c} {t} {before} i = rw i.stored (length-sets before 0 (rows t i.done))
-
--- at the start nothing is
-pub listed_none : (c : Course) (t : Moment) (before : List ℕ) (most : ℕ) → Listed c t before before most 0 c.start
-listed_none c t before most =
-    record { done = []; count = refl; within = omega arith; low = omega arith; left = refl; stored = refl }
-
 -- a row more
-pub listed_more : (c : Course) (t : Moment) (before now : List ℕ) (most n next day : ℕ) → Listed c t before now most n next → n < most →
-    next ≤ day → left_from c next ≡ day ∷ left_from c (suc day) →
-    Listed c t before (sets now (7 * n) (seven (at_day day t))) most (n + 1) (day + 1)
-listed_more c t before now most n next day i less later e =
+pub listed_more : (c : Course) (t : Moment) (before now : List ℕ) (n next day : ℕ) → Listed c t before now n next → next ≤ day → left_from c next ≡ day ∷ left_from c (suc day) →
+    Listed c t before (sets now (7 * n) (seven (at_day day t))) (n + 1) (day + 1)
+listed_more c t before now n next day i later e =
     let low = i.low in
     let size = i.count in
     let on : day + 1 ≡ suc day = omega arith in
     record {
       done = i.done ++ (day ∷ []);
       count = rw (length-append i.done (day ∷ [])) (omega arith);
-      within = omega arith;
       low = omega arith;
       left = rw (on, i.left, e) (sym (append_assoc i.done (day ∷ []) (left_from c (suc day))));
       stored = rw (i.stored, rows_append t i.done day, sets-append (rows t i.done) (seven (at_day day t)), rows_length t i.done, size, zero-add);
     }
 
--- of what is taken at most m
-take-both : (m n : ℕ) (l : List ℕ) → take m (take n l) ≡ take (min m n) l
-take-both m n l = ⊎_elim
-    (λ (h : m ≤ n). let e : min m n ≡ m = omega arith in rw e (take-take m n l h))
-    (λ (h : n < m). let e : min m n ≡ n = omega arith in rw e (take_all m (take n l) (rw length-take (omega arith))))
-    (le-or_lt m n)
-
--- when the room or COUNT is reached, or nothing is left, what is written is all that is listed
-module _ (c : Course) (t : Moment) (before now : List ℕ) (most n next size : ℕ) (i : Listed c t before now most n next)
-    (e : most ≡ min (size / 7) c.count) where
+-- when nothing is left, what is written is all that is listed
+module _ (c : Course) (t : Moment) (before now : List ℕ) (most n next size : ℕ) (i : Listed c t before now n next)
+    (e : most ≡ min (size / 7) c.count) (w : n ≤ most) where
   taken_is : take most (left_from c c.start) ≡ i.done → take (size / 7) (days_in c) ≡ i.done
-  taken_is h = take-both (size / 7) c.count (left_from c c.start) ∙ rw (← e) h
-
-  full : most ≤ n → take (size / 7) (days_in c) ≡ i.done
-  full h = let w = i.within in let k = i.count in taken_is (rw i.left (take_at i.done (left_from c next) most (omega arith)))
+  taken_is h = take-least (size / 7) c.count (left_from c c.start) ∙ rw (← e) h
 
   ended : left_from c next ≡ [] → take (size / 7) (days_in c) ≡ i.done
-  ended h = let w = i.within in let k = i.count in taken_is (rw (i.left, h, append-nil) (take_all most i.done (omega arith)))
+  ended h = let k = i.count in taken_is (rw (i.left, h, append-nil) (take_all most i.done (omega arith)))
 
   written : take (size / 7) (days_in c) ≡ i.done →
       (n ≡ length (take (size / 7) (days_in c))) × (now ≡ sets before 0 (rows t (take (size / 7) (days_in c))))
   written h = (rw h (sym i.count), rw h i.stored)
-
-  pub written_full : most ≤ n → (n ≡ length (take (size / 7) (days_in c))) × (now ≡ sets before 0 (rows t (take (size / 7) (days_in c))))
-  written_full h = written (full h)
 
   pub written_all : left_from c next ≡ [] → (n ≡ length (take (size / 7) (days_in c))) × (now ≡ sets before 0 (rows t (take (size / 7) (days_in c))))
   written_all h = written (ended h)

@@ -1,5 +1,6 @@
 -- Worked rules: the days that are listed, and the numbers of a row.
 use Rattle.std.specs.Prelude.{ℕ, suc, ◌≡◌, refl, List, [], ◌∷◌, map}
+use Rattle.refusals.specs.declared.Reason.TheVariants.{NoStart}
 use Rattle.refusals.specs.Answers.{Answer, given, refuse}
 use Rattle.calendar.specs.Gregorian.{leap_year, month_length, days_before_month, days_of_years, day_number, years_before, month_of, year_of, day_of_year, month_of_day, day_of}
 use Rattle.calendar.specs.Moments.{moment_of}
@@ -53,10 +54,10 @@ listings =
     ∷ lists (rule Daily 1 (until 2026 2 12 9 30 15) 0 0) tuesday 700 (given (day_number 2026 2 10 ∷ day_number 2026 2 11 ∷ []))
     ∷ lists (rule Daily 1 (until 2026 2 12 9 30 16) 0 0) tuesday 700 (given (day_number 2026 2 10 ∷ day_number 2026 2 11 ∷ day_number 2026 2 12 ∷ []))
     -- a start that doesn't match, and starts past UNTIL
-    ∷ lists (rule Weekly 1 Endless 1 0) tuesday 700 (refuse 19 0 0)
-    ∷ lists (rule Monthly 1 Endless 0 31) tuesday 700 (refuse 19 0 0)
-    ∷ lists (rule Daily 1 (UntilDay 2026 2 9) 0 0) tuesday 700 (refuse 19 0 0)
-    ∷ lists (rule Daily 1 (until 2026 2 10 9 30 15) 0 0) tuesday 700 (refuse 19 0 0)
+    ∷ lists (rule Weekly 1 Endless 1 0) tuesday 700 (refuse NoStart 0 0)
+    ∷ lists (rule Monthly 1 Endless 0 31) tuesday 700 (refuse NoStart 0 0)
+    ∷ lists (rule Daily 1 (UntilDay 2026 2 9) 0 0) tuesday 700 (refuse NoStart 0 0)
+    ∷ lists (rule Daily 1 (until 2026 2 10 9 30 15) 0 0) tuesday 700 (refuse NoStart 0 0)
     -- "A month without the day is passed over"
     ∷ lists (rule Monthly 1 (UntilDay 2026 8 31) 0 0) (moment_of 2026 1 31 0 0 0 0) 700
     (given (day_number 2026 1 31 ∷ day_number 2026 3 31 ∷ day_number 2026 5 31 ∷ day_number 2026 7 31 ∷ day_number 2026 8 31 ∷ []))

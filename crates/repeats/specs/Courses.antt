@@ -1,5 +1,7 @@
 -- A rule from a start on, its missing parts filled in once: the numbers that listing and asking begin from.
-use Rattle.std.specs.Prelude.{ℕ, ◌≤◌, ◌<◌, ◌≡◌, Bool, true, cond, List, take}
+use Rattle.std.specs.Prelude.{ℕ, ◌≤◌, ◌<◌, ◌≡◌, Bool, true, cond, List, take, Result, Ok, Err}
+use Rattle.refusals.specs.declared.Reason.{Reason}
+use Rattle.refusals.specs.declared.Reason.TheVariants.{NoStart}
 use Rattle.calendar.specs.Gregorian.{days}
 use Rattle.calendar.specs.Moments.{day_of_moment, month_number}
 use Rattle.calendar.specs.declared.moments.Moment.{Moment}
@@ -11,8 +13,6 @@ use Rattle.rules.specs.declared.Rule.{Rule}
 use Rattle.repeats.specs.Held.{between}
 use Rattle.repeats.specs.Occurrences.{Repeat, daily, weekly, monthly, holds, weekdays_of, month_day_of, limit_of, month_at, start_fits}
 use Rattle.repeats.specs.declared.courses.Course.{Course}
-use Rattle.repeats.specs.declared.courses.Begun.{Begun}
-use Rattle.repeats.specs.declared.courses.Begun.TheVariants.{Refused, From}
 
 -- COUNT; without it as many as the calendar has days, which no list passes
 abbrev pub count_of : Bound → ℕ
@@ -62,5 +62,5 @@ pub record IsCourse (c : Course) : Type 0 where
   pub ends : c.limit ≤ days
 
 -- "19 for a start that doesn't match or lies past UNTIL"
-abbrev pub begun_of : Rule → Moment → Begun
-begun_of r t = cond (start_fits r t) (From (course_of r t)) Refused
+abbrev pub begun_of : Rule → Moment → Result Course Reason
+begun_of r t = cond (start_fits r t) (Ok (course_of r t)) (Err NoStart)

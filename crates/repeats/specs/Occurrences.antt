@@ -1,6 +1,6 @@
 -- What an occurrence is, by day numbers: "The start is the first occurrence", and every one has its time of day.
 use Rattle.std.specs.Prelude.{ℕ, ◌+◌, ◌-◌, ◌*◌, ◌/◌, ◌%◌, ◌^◌, Bool, cond, ◌&&◌, List, eqb, leb, ltb, take}
-use Rattle.refusals.specs.Table.{NoStart}
+use Rattle.refusals.specs.declared.Reason.TheVariants.{NoStart}
 use Rattle.refusals.specs.Answers.{Answer, given, refuse}
 use Rattle.calendar.specs.Gregorian.{year_of, month_of_day, day_of, day_number, days}
 use Rattle.calendar.specs.Moments.{day_of_moment}

@@ -1,13 +1,13 @@
 // A rule from a start on, its missing parts filled in once.
-ghost use Rattle.std.specs.Prelude.{◌≡◌, ◌<◌, ◌≤◌, ◌^◌, leb};
+ghost use Rattle.std.specs.Prelude.{◌≡◌, ◌<◌};
 ghost use Rattle.calendar.specs.Gregorian.{day_of};
 ghost use Rattle.calendar.specs.Moments.{IsMoment};
 ghost use Rattle.rules.specs.Rule.{IsBound, IsRule};
-ghost use Rattle.repeats.specs.Held.{one};
 ghost use Rattle.repeats.specs.Occurrences.{weekdays_of, month_day_of, time_of_day, limit_of};
 ghost use Rattle.repeats.specs.Courses.{count_of, course_of, holds_in, begun_of};
 
 use calendar::moments::Moment;
+use refusals::Reason;
 use rules::{Bound, Freq, Rule};
 
 // The numbers that listing and asking begin from. `start` and `month` are the start's day and month number; `days` is BYDAY's bits, 0 where
@@ -24,48 +24,23 @@ pub struct Course {
     pub count: u32,
 }
 
-// The course of a rule, or a start that doesn't match or lies past UNTIL.
-#[derive(Clone, Copy)]
-pub enum Begun {
-    Refused,
-    From(Course),
-}
-
-// Each weekday's bit.
-fn weekday_bit(w: u32) -> u32
-    requires { w < 7 }
-    ensures { (result ≡ 2 ^ w) × (1 ≤ result) }
-{
-    match w {
-        0 => 1,
-        1 => 2,
-        2 => 4,
-        3 => 8,
-        4 => 16,
-        5 => 32,
-        _ => 64,
-    }
-}
-
 // True where BYDAY has weekday w, or w is the start's own and there is no BYDAY.
 pub fn has_weekday(bits: u32, start: u32, w: u32) -> bool
     requires { w < 7 }
     ensures { result ≡ weekdays_of bits start w }
 {
     if bits == 0 {
-        return w == start % 7;
+        w == start % 7
+    } else {
+        (bits >> w) & 1 == 1
     }
-    bits / weekday_bit(w) % 2 == 1
 }
 
 // BYMONTHDAY, or the start's own day.
 fn month_day(day: u32, start: Moment) -> u32
     ensures { result ≡ month_day_of day start }
 {
-    if day == 0 {
-        return start.day;
-    }
-    day
+    if day == 0 { start.day } else { day }
 }
 
 // The milliseconds of a moment's day that have passed.
@@ -76,28 +51,17 @@ pub fn time_of_day(t: Moment) -> u32
     1000 * (60 * (60 * t.hour + t.minute) + t.second) + t.millisecond
 }
 
-// 1 where the first moment's time of day is not after the second's.
-fn one_if_in_time(t: Moment, until: Moment) -> u32
-    requires { IsMoment t × IsMoment until }
-    ensures { (result ≡ one (leb (time_of_day t) (time_of_day until))) × (result ≤ 1) }
-{
-    if time_of_day(t) <= time_of_day(until) {
-        1
-    } else {
-        0
-    }
-}
-
 // The first day too late.
 fn limit_of(bound: Bound, start: Moment) -> u32
     requires { IsBound bound × IsMoment start }
     ensures { result ≡ limit_of bound start }
 {
     match bound {
-        Bound::Endless => Moment::DAYS,
-        Bound::Count(_) => Moment::DAYS,
+        Bound::Endless | Bound::Count(_) => Moment::DAYS,
         Bound::UntilDay(y, m, d) => start.with_date(y, m, d).day_number() + 1,
-        Bound::UntilMoment(until) => until.day_number() + one_if_in_time(start, until),
+        Bound::UntilMoment(until) => {
+            until.day_number() + u32::from(time_of_day(start) <= time_of_day(until))
+        }
     }
 }
 
@@ -106,10 +70,8 @@ fn count_of(bound: Bound) -> u32
     ensures { result ≡ count_of bound }
 {
     match bound {
-        Bound::Endless => Moment::DAYS,
         Bound::Count(n) => n,
-        Bound::UntilDay(_, _, _) => Moment::DAYS,
-        Bound::UntilMoment(_) => Moment::DAYS,
+        Bound::Endless | Bound::UntilDay(_, _, _) | Bound::UntilMoment(_) => Moment::DAYS,
     }
 }
 
@@ -118,17 +80,15 @@ fn course_of(rule: Rule, start: Moment) -> Course
     requires { IsRule rule × IsMoment start }
     ensures { result ≡ course_of rule start }
 {
-    let freq = rule.freq;
-    let bound = rule.bound;
     Course {
-        freq: freq,
+        freq: rule.freq,
         interval: rule.interval,
         start: start.day_number(),
         month: start.month_number(),
         days: rule.days,
         day: month_day(rule.day, start),
-        limit: limit_of(bound, start),
-        count: count_of(bound),
+        limit: limit_of(rule.bound, start),
+        count: count_of(rule.bound),
     }
 }
 
@@ -137,8 +97,7 @@ fn matches(c: Course, day: u32) -> bool
     requires { day_of c.start ≡ day }
     ensures { result ≡ holds_in c c.start }
 {
-    let freq = c.freq;
-    match freq {
+    match c.freq {
         Freq::Daily => true,
         Freq::Weekly => has_weekday(c.days, c.start, c.start % 7),
         Freq::Monthly => day == c.day,
@@ -146,16 +105,14 @@ fn matches(c: Course, day: u32) -> bool
 }
 
 // The course of a rule: 19 for a start that doesn't match or lies past UNTIL.
-pub fn begin(rule: Rule, start: Moment) -> Begun
+pub fn begin(rule: Rule, start: Moment) -> Result<Course, Reason>
     requires { IsRule rule × IsMoment start }
     ensures { result ≡ begun_of rule start }
 {
     let c = course_of(rule, start);
-    if matches(c, start.day) {
-        if c.start < c.limit {
-            return Begun::From(c);
-        }
-        return Begun::Refused;
+    if matches(c, start.day) && c.start < c.limit {
+        Ok(c)
+    } else {
+        Err(Reason::NoStart)
     }
-    Begun::Refused
 }

@@ -19,7 +19,7 @@ pub fn rounded_up(i: u32, n: u32) -> u32
     requires { (1 ≤ i) × (i ≤ 999) × (n ≤ days) }
     ensures { (result ≡ up i n) × (i * result < n + i) }
 {
-    (n + (i - 1)) / i
+    n.div_ceil(i)
 }
 
 // The day from b on that is a multiple of the interval away from the start.
@@ -35,14 +35,12 @@ fn next_weekday(bits: u32, s: u32, w: u32) -> u32
     requires { w ≤ 7 }
     ensures { (result ≡ seek (weekdays_of bits s) w (7 - w)) × (result ≤ 7) }
 {
-    let mut k = w;
-    while k < 7 {
+    for k in w..7 {
         if has_weekday(bits, s, k) {
             return k;
         }
-        k += 1;
     }
-    k
+    7
 }
 
 // The set's first day in the next week that counts, so many weeks behind the start's.
@@ -66,7 +64,6 @@ fn first_weekly(c: Course, b: u32) -> u32
         if here < 7 {
             return 7 * (b / 7) + here;
         }
-        return later_week(c, weeks);
     }
     later_week(c, weeks)
 }
@@ -95,10 +92,7 @@ pub fn month_from(d: u32, b: u32) -> u32
     ensures { (result ≡ month_from d b) × (result ≤ months) }
 {
     let t = Moment::first().at_day(b);
-    if d < t.day {
-        return t.month_number() + 1;
-    }
-    t.month_number()
+    t.month_number() + u32::from(d < t.day)
 }
 
 // The first of a course's months, from a turn on, that has the day.
@@ -106,16 +100,14 @@ fn month_with_day(c: Course, turn: u32) -> u32
     requires { (1 ≤ c.day) × (c.interval ≤ 999) × (c.month + c.interval * turn ≤ 200000) }
     ensures { let i = c.interval in let m = c.month in result ≡ m + i * seek (λ t. has_day c.day (m + i * t)) turn 16 }
 {
-    let mut n = c.month + c.interval * turn;
-    let mut k = 0u32;
-    while k < TURNS {
+    let first = c.month + c.interval * turn;
+    for k in 0..TURNS {
+        let n = first + c.interval * k;
         if has_day(c.day, n) {
             return n;
         }
-        n += c.interval;
-        k += 1;
     }
-    n
+    first + c.interval * TURNS
 }
 
 // The day in the first of the course's months from b's on that has it, or the calendar's end.
@@ -126,19 +118,10 @@ fn first_monthly(c: Course, b: u32) -> u32
     let turn = rounded_up(c.interval, month_from(c.day, b) - c.month);
     let n = month_with_day(c, turn);
     if (n as u64) < Moment::MONTHS {
-        return day_in(c.day, n);
+        day_in(c.day, n)
+    } else {
+        Moment::DAYS
     }
-    Moment::DAYS
-}
-
-// A day, or the calendar's end where it lies past that.
-fn within(n: u32) -> u32
-    ensures { result ≡ min n days }
-{
-    if n < Moment::DAYS {
-        return n;
-    }
-    Moment::DAYS
 }
 
 // The least day from b on at which the course holds, or the calendar's end.
@@ -146,10 +129,9 @@ pub fn first_from(c: Course, b: u32) -> u32
     requires { IsCourse c × (c.start ≤ b) × (b < days) }
     ensures { result ≡ min (first_from (repeat_in c) c.interval c.start b) days }
 {
-    let freq = c.freq;
-    match freq {
-        Freq::Daily => within(first_daily(c.interval, c.start, b)),
-        Freq::Weekly => within(first_weekly(c, b)),
+    match c.freq {
+        Freq::Daily => first_daily(c.interval, c.start, b).min(Moment::DAYS),
+        Freq::Weekly => first_weekly(c, b).min(Moment::DAYS),
         Freq::Monthly => first_monthly(c, b),
     }
 }

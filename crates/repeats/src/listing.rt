@@ -7,10 +7,10 @@ ghost use Rattle.rules.specs.Rule.{IsRule};
 ghost use Rattle.repeats.specs.Courses.{IsCourse, days_in};
 ghost use Rattle.repeats.specs.Listing.{rows, list_of, rows_after};
 
-use super::courses::{Begun, Course, begin};
+use super::courses::{Course, begin};
 use super::days::first_from;
 use calendar::moments::{MOMENT_NUMBERS, Moment};
-use refusals::{NO_START, Wrote};
+use refusals::Reason;
 use rules::Rule;
 
 // The seven numbers of a moment, written from a place on.
@@ -18,24 +18,7 @@ fn put_row(moments: &mut [u32], at: usize, t: Moment)
     requires { at + moment_numbers ≤ length moments.old }
     ensures { moments.new ≡ sets moments.old at (seven t) }
 {
-    moments[at] = t.year;
-    moments[at + 1] = t.month;
-    moments[at + 2] = t.day;
-    moments[at + 3] = t.hour;
-    moments[at + 4] = t.minute;
-    moments[at + 5] = t.second;
-    moments[at + 6] = t.millisecond;
-}
-
-// The most rows: as many as so many numbers have room for, and at most COUNT.
-fn most_rows(size: usize, count: u32) -> usize
-    ensures { (result ≡ min (size / moment_numbers) count) × (moment_numbers * result ≤ size) }
-{
-    let room = size / MOMENT_NUMBERS;
-    if room < count as usize {
-        return room;
-    }
-    count as usize
+    moments[at..at + MOMENT_NUMBERS].copy_from_slice(&<[u32; MOMENT_NUMBERS]>::from(t));
 }
 
 // A course's days at the front of a lent buffer, a row each at a moment's time of day, as many as it has room for; their count.
@@ -44,10 +27,9 @@ fn put_rows(c: Course, t: Moment, moments: &mut [u32]) -> usize
     ensures value { result ≡ length (take (length moments.old / moment_numbers) (days_in c)) }
     ensures buffer { let before = moments.old in moments.new ≡ sets before 0 (rows t (take (length before / moment_numbers) (days_in c))) }
 {
-    let most = most_rows(moments.len(), c.count);
-    let mut n = 0;
+    let most = (moments.len() / MOMENT_NUMBERS).min(c.count as usize);
     let mut from = c.start;
-    while n < most {
+    for n in 0..most {
         if c.limit <= from {
             return n;
         }
@@ -56,27 +38,17 @@ fn put_rows(c: Course, t: Moment, moments: &mut [u32]) -> usize
             return n;
         }
         put_row(moments, MOMENT_NUMBERS * n, t.at_day(day));
-        n += 1;
         from = day + 1;
     }
-    n
+    most
 }
 
 // The occurrences of a rule from its start on, in order, up to the buffer's room: 19 for a start that doesn't match or lies past UNTIL.
-pub fn list(rule: Rule, start: Moment, moments: &mut [u32]) -> Wrote
+pub fn list(rule: Rule, start: Moment, moments: &mut [u32]) -> Result<usize, Reason>
     requires { IsRule rule × IsMoment start }
     ensures value { result ≡ wrote_of (list_of rule start (length moments.old)) }
     ensures buffer { let before = moments.old in moments.new ≡ rows_after start before (list_of rule start (length before)) }
 {
-    let begun = begin(rule, start);
-    match begun {
-        Begun::Refused => Wrote {
-            number: NO_START,
-            count: 0,
-        },
-        Begun::From(c) => Wrote {
-            number: 0,
-            count: put_rows(c, start, moments),
-        },
-    }
+    let c = begin(rule, start)?;
+    Ok(put_rows(c, start, moments))
 }

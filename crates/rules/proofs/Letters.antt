@@ -5,7 +5,9 @@ use mathlib.Core.Path.{◌≡◌, refl, sym, ap, ap₂, ◌∙◌}
 use mathlib.Core.Bool.{Bool, true, false, ◌&&◌, cond, and-eq-true_iff, and-false}
 use mathlib.Core.List.{List, [], ◌∷◌, map}
 use lib.Bits.{bit_or}
-use lib.Dec.{eqb, leb}
+use lib.Dec.{eqb, ltb, leb}
+use Rattle.std.proofs.Common.{Some, None}
+use Rattle.std.specs.Option.{option_and_then}
 use lib.ListN.{length, get_or, take, drop, get_or-map}
 use borrow.Author.Tests.{eq-eqb, ne_eqb, eqb-true, eqb-false, leb-true, lt-leb}
 use Rattle.digits.specs.Bytes.{bytes_of, capital_of}
@@ -19,8 +21,7 @@ use Rattle.rules.specs.Numbers.{all_digits, number_in, number_to, without_plus}
 use Rattle.rules.specs.Days.{day_bit, bits_of, days_in}
 use Rattle.rules.specs.Untils.{count_in, day_in, moment_in, until_in}
 use Rattle.rules.specs.Parts.{named, part_of}
-use Rattle.rules.specs.Rules.{begun, put, read_parts, read_pieces, read_rule}
-use Rattle.rules.specs.declared.Bound.TheVariants.{Endless}
+use Rattle.rules.specs.Rules.{begun, put, read_parts, read_pieces, rule_answer, read_rule}
 use Rattle.rules.specs.declared.draft.Draft.{Draft}
 use Rattle.rules.proofs.Orders.{same_then}
 
@@ -120,7 +121,7 @@ in_capitals s = rw (all_capitals s) (go (all_digits s) refl)
 
 number_capitals : (m : ℕ) (s : List ℕ) → number_to m (capitals s) ≡ number_to m s
 unfolding number_to
-number_capitals m s = ap (λ n. cond (leb n m) n 0) (in_capitals s)
+number_capitals m s = ap (λ n. cond (ltb 0 n && leb n m) (Some n) None) (in_capitals s)
 
 plus_capitals : (s : List ℕ) → without_plus (capitals s) ≡ capitals (without_plus s)
 plus_capitals [] = refl
@@ -146,7 +147,8 @@ day_capitals p =
 
 bits_capitals : (n : ℕ) (ps : List (List ℕ)) → bits_of n (map capitals ps) ≡ bits_of n ps
 bits_capitals n [] = refl
-bits_capitals n (p ∷ ps) = rw (day_capitals p) (ap (λ x. cond (eqb (day_bit p) 0) 0 x) (bits_capitals (bit_or n (day_bit p)) ps))
+bits_capitals n (p ∷ ps) =
+    rw (day_capitals p) (same_then (day_bit p) (λ b. bits_of (bit_or n b) (map capitals ps)) (λ b. bits_of (bit_or n b) ps) (λ b. bits_capitals (bit_or n b) ps))
 
 days_capitals : (s : List ℕ) → days_in (capitals s) ≡ days_in s
 unfolding days_in
@@ -169,7 +171,7 @@ until_capitals s =
     (go (of_form (bytes_of "00000000") s) refl (of_form (bytes_of "00000000T000000") s) refl)
   where
     go : (x : Bool) → of_form (bytes_of "00000000") s ≡ x → (y : Bool) → of_form (bytes_of "00000000T000000") s ≡ y
-        → cond x (day_in (capitals s)) (cond y (moment_in (capitals s)) Endless) ≡ cond x (day_in s) (cond y (moment_in s) Endless)
+        → cond x (day_in (capitals s)) (cond y (moment_in (capitals s)) None) ≡ cond x (day_in s) (cond y (moment_in s) None)
     go true h y i =
         let two = two_stay (bytes_of "00000000") s h in
         rw (two 0 (omega arith) refl refl, two 2 (omega arith) refl refl, two 4 (omega arith) refl refl, two 6 (omega arith) refl refl)
@@ -217,7 +219,7 @@ begun_capitals p =
 parts_capitals : (ps : List (List ℕ)) (d : Draft) → read_parts d (map capitals ps) ≡ read_parts d ps
 parts_capitals [] d = refl
 parts_capitals (p ∷ ps) d =
-    rw (part_capitals p) (same_then (put d (part_of p)) (λ e. read_parts e (map capitals ps)) (λ e. read_parts e ps) (parts_capitals ps))
+    rw (part_capitals p) (same_then (option_and_then (put d) (part_of p)) (λ e. read_parts e (map capitals ps)) (λ e. read_parts e ps) (parts_capitals ps))
 
 read_capitals : (ps : List (List ℕ)) → read_pieces (map capitals ps) ≡ read_pieces ps
 read_capitals [] = refl
@@ -226,7 +228,7 @@ read_capitals (p ∷ ps) =
 
 in_capitals_read : (s : List ℕ) → read_rule (capitals s) ≡ read_rule s
 unfolding read_rule
-in_capitals_read s = ap read_pieces (pieces_capitals 59 s (omega arith)) ∙ read_capitals (pieces 59 s)
+in_capitals_read s = ap rule_answer (ap read_pieces (pieces_capitals 59 s (omega arith)) ∙ read_capitals (pieces 59 s))
 
 -- "letters in either case": texts that differ only in that are read the same
 pub case_changes_nothing : (s t : List ℕ) → map capital_of s ≡ map capital_of t → read_rule s ≡ read_rule t

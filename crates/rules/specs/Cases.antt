@@ -1,5 +1,6 @@
 -- Worked texts: each rule of reading on both sides.
 use Rattle.std.specs.Prelude.{ℕ, ◌≡◌, refl, List, [], ◌∷◌, map}
+use Rattle.refusals.specs.declared.Reason.TheVariants.{NoRule}
 use Rattle.refusals.specs.Answers.{Answer, given, refuse}
 use Rattle.digits.specs.Bytes.{bytes_of}
 use Rattle.calendar.specs.Gregorian.{leap_year, month_length}
@@ -28,7 +29,7 @@ abbrev reads : List ℕ → Rule → Text
 reads s r = record { text = s; reading = given r }
 
 abbrev refuses : List ℕ → Text
-refuses s = record { text = s; reading = refuse 18 0 0 }
+refuses s = record { text = s; reading = refuse NoRule 0 0 }
 
 unfoldable pub texts : List Text
 texts =

@@ -1,5 +1,5 @@
 -- A part's number: decimal digits, and "Numbers may have leading zeros". Assumes nothing.
-use Rattle.std.specs.Prelude.{ℕ, Bool, true, ◌&&◌, cond, List, [], ◌∷◌, eqb, leb}
+use Rattle.std.specs.Prelude.{ℕ, Bool, true, ◌&&◌, cond, List, [], ◌∷◌, eqb, ltb, leb, Option, Some, None}
 use Prim.Native.Char.{code}
 use Rattle.digits.specs.Digits.{is_digit, value_from}
 
@@ -12,9 +12,9 @@ all_digits (b ∷ s) = is_digit b && all_digits s
 abbrev pub number_in : List ℕ → ℕ
 number_in s = cond (all_digits s) (value_from 0 s) 0
 
--- the same, and 0 for more than m
-unfoldable pub number_to : ℕ → List ℕ → ℕ
-number_to m s = cond (leb (number_in s) m) (number_in s) 0
+-- the same, if it is from 1 to m
+unfoldable pub number_to : ℕ → List ℕ → Option ℕ
+number_to m s = cond (ltb 0 (number_in s) && leb (number_in s) m) (Some (number_in s)) None
 
 -- "monthdaynum = [plus / minus] ordmoday", of which "one positive" is taken: what is behind the plus, if there is one
 abbrev pub without_plus : List ℕ → List ℕ

@@ -3,13 +3,12 @@
 
 use calendar::moments::Moment;
 
-mod cut;
 mod draft;
 mod part;
 pub mod read;
 
 // FREQ.
-#[derive(Clone, Copy)]
+#[derive(Clone, Copy, PartialEq, Eq)]
 pub enum Freq {
     Daily,
     Weekly,

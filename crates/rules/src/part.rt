@@ -1,20 +1,21 @@
 // One part of a rule: a name and its value.
-ghost use Rattle.std.specs.Prelude.{◌≡◌, ◌≤◌, length, drop};
+ghost use Rattle.std.specs.Prelude.{◌≡◌, ◌≤◌, length, drop, true, false, MatchOption};
 ghost use Rattle.rules.specs.Numbers.{number_to, without_plus};
-ghost use Rattle.rules.specs.Days.{later_bit, day_bit, days_in};
-ghost use Rattle.rules.specs.Untils.{bound_of, year_at, day_in, moment_at, moment_in, until_in};
+ghost use Rattle.rules.specs.Days.{day_bit, days_in};
+ghost use Rattle.rules.specs.Untils.{count_in, year_at, day_in, moment_at, moment_in, until_in};
 ghost use Rattle.rules.specs.Parts.{named, week_part, month_part, day_part, until_part, count_part, part_of};
 
 use super::Bound;
-use super::cut::cut_end;
 use calendar::moments::{Moment, valid_date};
 use digits::digit::{is_digit, two, with_digit};
 use digits::form::of_form;
 
-// A part with its value: 0, or a bound that is endless, where the text is no value.
+// The weekdays in the order of their bits.
+const WEEKDAYS: [[u8; 2]; 7] = [*b"MO", *b"TU", *b"WE", *b"TH", *b"FR", *b"SA", *b"SU"];
+
+// A part with its value.
 #[derive(Clone, Copy)]
 pub enum Part {
-    Unknown,
     Interval(u32),
     Bounded(Bound),
     Days(u32),
@@ -22,110 +23,57 @@ pub enum Part {
     Monday,
 }
 
-// The number that digits say, 0 for any other text and above the most that is taken.
-fn number(s: &[u8], most: u32) -> u32
+// The number that digits say, if it is one from 1 to the most that is taken.
+fn number(s: &[u8], most: u32) -> Option<u32>
     ensures { result ≡ number_to most s.now }
 {
     let mut v: u64 = 0;
-    let mut i: usize = 0;
-    while i < s.len() {
-        if is_digit(s[i]) {
-            v = with_digit(v, s[i]);
-            i += 1;
-        } else {
-            return 0;
+    for b in s {
+        if !is_digit(*b) {
+            return None;
         }
+        v = with_digit(v, *b);
     }
-    if v <= most as u64 {
-        return v as u32;
+    if 0 < v && v <= u64::from(most) {
+        Some(v as u32)
+    } else {
+        None
     }
-    0
-}
-
-// What is behind a place.
-fn rest(s: &[u8], at: usize) -> &[u8]
-    requires { at ≤ length s.now }
-    ensures { result.now ≡ drop at s.now }
-{
-    &s[at..]
 }
 
 // A text without the plus in front, if there is one.
 fn without_plus(s: &[u8]) -> &[u8]
     ensures { result.now ≡ without_plus s.now }
 {
-    if s.len() == 0 {
-        return s;
-    }
-    if s[0] == b'+' {
-        return rest(s, 1);
-    }
-    s
+    s.strip_prefix(b"+").unwrap_or(s)
 }
 
-// The bit of a weekday from Thursday on, 0 for any other text.
-fn later_bit(s: &[u8]) -> u32
-    ensures { result ≡ later_bit s.now }
-{
-    if of_form(b"TH", s) {
-        return 8;
-    }
-    if of_form(b"FR", s) {
-        return 16;
-    }
-    if of_form(b"SA", s) {
-        return 32;
-    }
-    if of_form(b"SU", s) {
-        return 64;
-    }
-    0
-}
-
-// The bit of a weekday, Monday's the lowest, 0 for any other text.
-fn day_bit(s: &[u8]) -> u32
+// The bit of a weekday, Monday's the lowest.
+#[tactic(auto, unfolding(crate::specs::Days::day_bit))]
+fn day_bit(s: &[u8]) -> Option<u32>
     ensures { result ≡ day_bit s.now }
 {
-    if of_form(b"MO", s) {
-        return 1;
-    }
-    if of_form(b"TU", s) {
-        return 2;
-    }
-    if of_form(b"WE", s) {
-        return 4;
-    }
-    later_bit(s)
+    let place = WEEKDAYS.iter().position(|day| of_form(day, s))?;
+    Some(1 << place)
 }
 
-// The bits of a list of weekdays, 0 where one is none.
-fn days_in(s: &[u8]) -> u32
+// The bits of a list of weekdays.
+fn days_in(s: &[u8]) -> Option<u32>
     ensures { result ≡ days_in s.now }
 {
     let mut bits: u32 = 0;
-    let mut at: usize = 0;
-    loop {
-        let e = cut_end(s, at, b',');
-        let bit = day_bit(&s[at..e]);
-        if bit == 0 {
-            return 0;
-        }
-        bits = bits | bit;
-        if s.len() <= e {
-            return bits;
-        }
-        at = e + 1;
+    for day in s.split(|b| *b == b',') {
+        bits |= day_bit(day)?;
     }
+    Some(bits)
 }
 
-// COUNT's bound, endless for 0.
-fn bound_of(n: u32) -> Bound
-    ensures { result ≡ bound_of n }
+// COUNT's bound.
+#[tactic(auto, unfolding(crate::specs::Untils::count_in))]
+fn count_in(s: &[u8]) -> Option<Bound>
+    ensures { result ≡ count_in s.now }
 {
-    if n == 0 {
-        return Bound::Endless;
-    }
-    Bound::Count(n)
+    Some(Bound::Count(number(s, u32::MAX)?))
 }
 
 // The year of a date.
@@ -137,7 +85,7 @@ fn year_at(s: &[u8]) -> u32
 }
 
 // A date as UNTIL, if it exists.
-fn day_in(s: &[u8]) -> Bound
+fn day_in(s: &[u8]) -> Option<Bound>
     requires { 8 ≤ length s.now }
     ensures { result ≡ day_in s.now }
 {
@@ -145,9 +93,10 @@ fn day_in(s: &[u8]) -> Bound
     let month = two(s, 4);
     let day = two(s, 6);
     if valid_date(year, month, day) {
-        return Bound::UntilDay(year, month, day);
+        Some(Bound::UntilDay(year, month, day))
+    } else {
+        None
     }
-    Bound::Endless
 }
 
 // The numbers of a date-time in their places.
@@ -160,97 +109,102 @@ fn moment_at(s: &[u8]) -> Moment
 }
 
 // A date-time as UNTIL, if it exists.
-fn moment_in(s: &[u8]) -> Bound
+fn moment_in(s: &[u8]) -> Option<Bound>
     requires { 15 ≤ length s.now }
     ensures { result ≡ moment_in s.now }
 {
     let moment = moment_at(s);
     if moment.valid() {
-        return Bound::UntilMoment(moment);
+        Some(Bound::UntilMoment(moment))
+    } else {
+        None
     }
-    Bound::Endless
 }
 
-// UNTIL's bound, endless for a text that is none.
-fn until_in(s: &[u8]) -> Bound
+// UNTIL's bound.
+#[tactic(auto, unfolding(crate::specs::Untils::until_in))]
+fn until_in(s: &[u8]) -> Option<Bound>
     ensures { result ≡ until_in s.now }
 {
     if of_form(b"00000000", s) {
-        return day_in(s);
+        day_in(s)
+    } else if of_form(b"00000000T000000", s) {
+        moment_in(s)
+    } else {
+        None
     }
-    if of_form(b"00000000T000000", s) {
-        return moment_in(s);
-    }
-    Bound::Endless
 }
 
-// True for a part that begins with a name and its "=".
-fn named(name: &[u8], part: &[u8]) -> bool
-    ensures { result ≡ named name.now part.now }
+// The value of a part that begins with a name and its "=".
+fn value_of<'a>(name: &[u8], part: &'a [u8]) -> Option<&'a [u8]>
+    ensures { MatchOption result (named name.now part.now ≡ false) (λ v. (named name.now part.now ≡ true) × (v.now ≡ drop (length name.now) part.now)) }
 {
-    let n = name.len();
-    if part.len() < n {
-        return false;
+    let (front, value) = part.split_at_checked(name.len())?;
+    if of_form(name, front) {
+        Some(value)
+    } else {
+        None
     }
-    of_form(name, &part[..n])
 }
 
 // WKST, only as Monday.
-fn week_part(part: &[u8]) -> Part
+fn week_part(part: &[u8]) -> Option<Part>
     ensures { result ≡ week_part part.now }
 {
     if of_form(b"WKST=MO", part) {
-        return Part::Monday;
+        Some(Part::Monday)
+    } else {
+        None
     }
-    Part::Unknown
 }
 
 // BYMONTHDAY, or what is behind it in the list of parts.
-fn month_part(part: &[u8]) -> Part
+fn month_part(part: &[u8]) -> Option<Part>
     ensures { result ≡ month_part part.now }
 {
-    if named(b"BYMONTHDAY=", part) {
-        return Part::Day(number(without_plus(rest(part, 11)), 31));
+    match value_of(b"BYMONTHDAY=", part) {
+        Some(value) => Some(Part::Day(number(without_plus(value), 31)?)),
+        None => week_part(part),
     }
-    week_part(part)
 }
 
 // BYDAY, or what is behind it in the list of parts.
-fn day_part(part: &[u8]) -> Part
+fn day_part(part: &[u8]) -> Option<Part>
     ensures { result ≡ day_part part.now }
 {
-    if named(b"BYDAY=", part) {
-        return Part::Days(days_in(rest(part, 6)));
+    match value_of(b"BYDAY=", part) {
+        Some(value) => Some(Part::Days(days_in(value)?)),
+        None => month_part(part),
     }
-    month_part(part)
 }
 
 // UNTIL, or what is behind it in the list of parts.
-fn until_part(part: &[u8]) -> Part
+fn until_part(part: &[u8]) -> Option<Part>
     ensures { result ≡ until_part part.now }
 {
-    if named(b"UNTIL=", part) {
-        return Part::Bounded(until_in(rest(part, 6)));
+    match value_of(b"UNTIL=", part) {
+        Some(value) => Some(Part::Bounded(until_in(value)?)),
+        None => day_part(part),
     }
-    day_part(part)
 }
 
 // COUNT, or what is behind it in the list of parts.
-fn count_part(part: &[u8]) -> Part
+fn count_part(part: &[u8]) -> Option<Part>
     ensures { result ≡ count_part part.now }
 {
-    if named(b"COUNT=", part) {
-        return Part::Bounded(bound_of(number(rest(part, 6), 4294967295)));
+    match value_of(b"COUNT=", part) {
+        Some(value) => Some(Part::Bounded(count_in(value)?)),
+        None => until_part(part),
     }
-    until_part(part)
 }
 
-// A part by its name.
-pub(crate) fn part_of(part: &[u8]) -> Part
+// A part by its name, with its value.
+#[tactic(auto, unfolding(crate::specs::Parts::part_of))]
+pub(crate) fn part_of(part: &[u8]) -> Option<Part>
     ensures { result ≡ part_of part.now }
 {
-    if named(b"INTERVAL=", part) {
-        return Part::Interval(number(rest(part, 9), 999));
+    match value_of(b"INTERVAL=", part) {
+        Some(value) => Some(Part::Interval(number(value, 999)?)),
+        None => count_part(part),
     }
-    count_part(part)
 }

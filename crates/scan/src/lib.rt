@@ -10,10 +10,8 @@ pub fn find(s: &[u8], start: usize, end: usize, b: u8) -> usize
     ensures value { result ≡ start + index_of b (slice start end s.now) }
     ensures bounds { (start ≤ result) × (result ≤ end) }
 {
-    for i in start..end {
-        if s[i] == b {
-            return i;
-        }
+    match s[start..end].iter().position(|x| *x == b) {
+        Some(i) => start + i,
+        None => end,
     }
-    end
 }

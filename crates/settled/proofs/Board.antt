@@ -3,7 +3,7 @@ use mathlib.Core.Path.{ap}
 use mathlib.Core.List.{[]}
 use Rattle.board.specs.Boards.{Memory, head_from}
 use Rattle.settled.proofs.Settled.{Same, Settled, same, through}
-use Rattle.settled.proofs.Values.{earliest_one}
+use Rattle.settled.proofs.Values.{head_one}
 use Rattle.board.proofs.calls.make.Reads as make'
 use Rattle.board.proofs.calls.add.Reads as add'
 use Rattle.board.proofs.calls.remove.Reads as remove'
@@ -48,7 +48,7 @@ again = (
 )
 
 pub head : Settled head'.Post
-head = through head'.Post (λ κs. head_from) (λ κs. earliest_one) (same head'.Post _ _ (λ κs a z e p. p [] []))
+head = through head'.Post (λ κs. head_from) (λ κs. head_one) (same head'.Post _ _ (λ κs a z e p. p [] []))
 
 pub order : Settled order'.Post × Same order'.Post (λ κs z e. e.1.1.0.now)
 order = (

@@ -1,6 +1,8 @@
 -- The promises of `calendar`. Assumes nothing.
 use Rattle.settled.proofs.Settled.{Same, Settled, same, through}
 use Rattle.settled.proofs.Values.{reached_one}
+use Rattle.calendar.proofs.moments.MomentFromArrayU32MOMENTNUMBERS.from.Reads as moment_from'
+use Rattle.calendar.proofs.moments.ArrayU32MOMENTNUMBERSFromMoment.from.Reads as numbers_from'
 use Rattle.calendar.proofs.moments.weekday_of.Reads as weekday_of'
 use Rattle.calendar.proofs.moments.valid_day.Reads as valid_day'
 use Rattle.calendar.proofs.moments.valid_date.Reads as valid_date'
@@ -21,6 +23,12 @@ use Rattle.calendar.proofs.moments.Moment.months_step.Reads as months_step'
 use Rattle.calendar.proofs.moments.Moment.years_step.Reads as years_step'
 use Rattle.calendar.proofs.fixed.put_moment.Reads as put_moment'
 use Rattle.calendar.proofs.fixed.moment_in.Reads as moment_in'
+
+pub moment_from : Settled moment_from'.Post
+moment_from = same moment_from'.Post _ _ (λ κs a z e p. p)
+
+pub numbers_from : Settled numbers_from'.Post
+numbers_from = same numbers_from'.Post _ _ (λ κs a z e p. p)
 
 pub weekday_of : Settled weekday_of'.Post
 weekday_of = same weekday_of'.Post _ _ (λ κs a z e p. p)

@@ -1,7 +1,7 @@
 -- The promises of `lexer`. Assumes nothing.
 use Rattle.settled.proofs.Settled.{Same, Settled, same}
+use Rattle.lexer.proofs.reading.ReadingTryFromU32.try_from.Reads as try_from'
 use Rattle.lexer.proofs.lex.token_at.Reads as token_at'
-use Rattle.lexer.proofs.lex.refuse.Reads as refuse'
 use Rattle.lexer.proofs.lex.lex.Reads as lex'
 use Rattle.lexer.proofs.part.part.Reads as part'
 use Rattle.lexer.proofs.part.offending.Reads as offending'
@@ -10,8 +10,8 @@ use Rattle.lexer.proofs.find.look_up.Reads as look_up'
 pub token_at : Settled token_at'.Post
 token_at = same token_at'.Post _ _ (λ κs a z e p. p)
 
-pub refuse : Settled refuse'.Post
-refuse = same refuse'.Post _ _ (λ κs a z e p. p)
+pub try_from : Settled try_from'.Post
+try_from = same try_from'.Post _ _ (λ κs a z e p. p)
 
 pub lex : Settled lex'.Post × Same lex'.Post (λ κs z e. e.1.1.0.now) × Same lex'.Post (λ κs z e. e.1.1.1.0.now)
 lex = (

@@ -1,5 +1,6 @@
 pub mod Settled
 pub mod Values
+pub mod Refusals
 pub mod Digits
 pub mod Scan
 pub mod Calendar

@@ -5,7 +5,6 @@ use Rattle.numbers.proofs.slices.get.Reads as get'
 use Rattle.numbers.proofs.slices.is_at.Reads as is_at'
 use Rattle.numbers.proofs.slices.take_if.Reads as take-if'
 use Rattle.numbers.proofs.slices.rest.Reads as rest'
-use Rattle.numbers.proofs.slices.is_within.Reads as is_within'
 
 pub num : Settled num'.Post
 num = same num'.Post _ _ (λ κs a z e p. p.0)
@@ -21,6 +20,3 @@ take-if = same take-if'.Post _ _ (λ κs a z e p. p.0)
 
 pub rest : Same rest'.Post (λ κs z e. z.now) × Same rest'.Post (λ κs z e. z.ref_ptr)
 rest = (same rest'.Post _ _ (λ κs a z e p. p.0), same rest'.Post _ _ (λ κs a z e p. p.1.1))
-
-pub is_within : Settled is_within'.Post
-is_within = same is_within'.Post _ _ (λ κs a z e p. p)

@@ -1,6 +1,6 @@
 -- The promises of `zones`. Assumes nothing.
 use Rattle.settled.proofs.Settled.{Settled, same, through}
-use Rattle.settled.proofs.Values.{resolved_one, arrived_one}
+use Rattle.settled.proofs.Values.{reach_one}
 use Rattle.zones.proofs.civil.in_years.Reads as in_years'
 use Rattle.zones.proofs.civil.moment_of_second.Reads as moment_of_second'
 use Rattle.zones.proofs.civil.second_of_moment.Reads as second_of_moment'
@@ -27,13 +27,13 @@ pub civil_of : Settled civil_of'.Post
 civil_of = same civil_of'.Post _ _ (λ κs a z e p. p)
 
 pub resolve : Settled resolve'.Post
-resolve = through resolve'.Post _ (λ κs. resolved_one) (same resolve'.Post _ _ (λ κs a z e p. p))
+resolve = through resolve'.Post _ (λ κs. reach_one) (same resolve'.Post _ _ (λ κs a z e p. p))
 
 pub fixed_step : Settled fixed_step'.Post
-fixed_step = through fixed_step'.Post _ (λ κs. arrived_one) (same fixed_step'.Post _ _ (λ κs a z e p. p.0))
+fixed_step = through fixed_step'.Post _ (λ κs. reach_one) (same fixed_step'.Post _ _ (λ κs a z e p. p.0))
 
 pub clock_of : Settled clock_of'.Post
 clock_of = same clock_of'.Post _ _ (λ κs a z e p. p.0)
 
 pub settle : Settled settle'.Post
-settle = through settle'.Post _ (λ κs. arrived_one) (same settle'.Post _ _ (λ κs a z e p. p.0))
+settle = through settle'.Post _ (λ κs. reach_one) (same settle'.Post _ _ (λ κs a z e p. p.0))

@@ -19,7 +19,7 @@ use Rattle.calendar.proofs.Months.{month}
 use Rattle.calendar.proofs.Valid.{day_passes, time_passes, moment_passes}
 use Rattle.lexer.specs.Lexemes.{January, At, Colon}
 use Rattle.lexer.specs.Keywords.{words_in}
-use Rattle.lexer.specs.Classes.{Letter, Digit, class_of, mark_of}
+use Rattle.lexer.specs.Classes.{class_of, mark_of}
 use Rattle.lexer.specs.Lex.{run, Item, item, lexed}
 use Rattle.lexer.specs.declared.reading.Reading.{Reading}
 use Rattle.lexer.specs.declared.reading.Reading.TheVariants.{First, Second}
@@ -71,16 +71,17 @@ abbrev tree_of : Moment → DateTime
 tree_of t = date_time (date (MonthDayYear t.month t.day t.year)) (HourMin t.hour t.minute)
 
 module _ (reading : Reading) where
-  -- a number in front of a rest that does not begin with a digit
-  number : (room : ℕ) {r : List ℕ} {items : ℕ → List Item} (n : ℕ) → n < 10000 → run Digit r ≡ 0 → Lexes (words_in reading) room r items
+  -- a number in front of a rest that does not begin with a digit, as "0" is one
+  number : (room : ℕ) {r : List ℕ} {items : ℕ → List Item} (n : ℕ) → n < 10000 → run (class_of (code "0")) r ≡ 0 → Lexes (words_in reading) room r items
       → Lexes (words_in reading) (suc room) (decimal_of n ++ r) (λ a. item (literal (plainly n)) a ∷ items (a + width_of n))
-  unfolding width_of
+  unfolding width_of class_of
   number room n h z rest =
       digits_lexes (words_in reading) room (width_of n) n (width_some 19 n) (omega (arith, width_limit n)) (wide_enough 19 n (omega arith)) (omega arith) z rest
 
-  -- a known word in front of a rest that does not begin with a letter
-  named : (room : ℕ) {r : List ℕ} {items : ℕ → List Item} (w : List ℕ) (k : ℕ) → Named reading w k → run Letter r ≡ 0
+  -- a known word in front of a rest that does not begin with a letter, as "a" is one
+  named : (room : ℕ) {r : List ℕ} {items : ℕ → List Item} (w : List ℕ) (k : ℕ) → Named reading w k → run (class_of (code "a")) r ≡ 0
       → Lexes (words_in reading) room r items → Lexes (words_in reading) (suc room) (w ++ r) (λ a. item k a ∷ items (a + length w))
+  unfolding class_of
   named room w k h z rest = word_lexes (words_in reading) room w k h.least h.letters z h.known rest
 
   blank : (room : ℕ) {r : List ℕ} {items : ℕ → List Item} → Lexes (words_in reading) room r items
@@ -117,7 +118,7 @@ module _ (t : Moment) (v : IsMoment t) where
     unfolding class_of mark_of
     clock_lexes =
         let h = v.time.hour in
-        number reading 59 t.hour (omega arith) refl (mark_lexes (words_in reading) 58 (code ":") refl minute_lexes)
+        number reading 59 t.hour (omega arith) refl (mark_lexes (words_in reading) 58 (code ":") Colon refl refl minute_lexes)
 
     phrase_lexes : Lexes (words_in reading) 64 (phrase_text t) (items_from t)
     unfolding phrase_text class_of

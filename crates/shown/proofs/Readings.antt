@@ -5,6 +5,7 @@ use mathlib.Core.List.{List, [], ◌∷◌}
 use Prim.Native.Nat.{ℕ, ◌+◌, ◌-◌, ◌≤◌, ◌<◌}
 use native.Mathlib.Omega.{arith}
 use lib.Dec.{leb}
+use Rattle.std.proofs.Common.{None, Ok}
 use borrow.Author.Tests.{le-leb, lt-leb, ne_eqb}
 use Rattle.lexer.specs.Lexemes as lexeme
 use Rattle.lexer.specs.declared.reading.Reading.{Reading}
@@ -12,7 +13,6 @@ use Rattle.lexer.specs.declared.reading.Reading.TheVariants.{First, Second}
 use Rattle.numbers.specs.Slices.{get, is_at, within}
 use Rattle.numbers.specs.Answers.{MAX, written}
 use Rattle.numbers.specs.Numbers.{begins_number, num_of}
-use Rattle.numbers.specs.declared.NumberFound.TheVariants.{Nothing}
 use Rattle.numbers.proofs.Alone.{literal_num}
 use Rattle.numbers.proofs.Begins.{not_at, no_num}
 use Rattle.numbers.proofs.Plain.{not_within}
@@ -72,7 +72,7 @@ module _ (reading : Reading) where
     )
 
   -- no tail of a date begins with "at"
-  no_number : (r : List ℕ) → num_of reading (lexeme.At ∷ r) ≡ Nothing
+  no_number : (r : List ℕ) → num_of reading (lexeme.At ∷ r) ≡ Ok None
   unfolding begins_number within get
   no_number r = no_num reading (lexeme.At ∷ r) refl
 
@@ -110,7 +110,7 @@ module _ (reading : Reading) where
       not_at codes 0 lexeme.Yesterday (λ e. omega arith),
     )
 
-    no_day_first : num_of reading codes ≡ Nothing
+    no_day_first : num_of reading codes ≡ Ok None
     unfolding begins_number within get
     no_day_first = no_num reading codes
         (rw (

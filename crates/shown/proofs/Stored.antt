@@ -1,32 +1,17 @@
 -- A month's name, and the text behind it: how long that is, and what storing it piece by piece leaves. Assumes nothing.
-use Prim.Native.Nat.{ℕ, zero, suc, ◌+◌, ◌≤◌, ◌<◌}
+use Prim.Native.Nat.{ℕ, ◌+◌}
 use Prim.Native.Char.{code}
 use native.Mathlib.Omega.{arith}
 use mathlib.Core.Path.{◌≡◌, refl, ◌∙◌}
-use mathlib.Core.List.{List, [], ◌∷◌, ◌++◌}
-use lib.ListN.{length, length-append, get_or-eq_default}
+use mathlib.Core.List.{List, ◌∷◌, ◌++◌}
+use lib.ListN.{length, length-append}
 use lib.Seq.{sets}
 use Rattle.digits.specs.Bytes.{bytes_of}
 use Rattle.digits.specs.Digits.{marked, width_of, decimal_of}
 use Rattle.digits.proofs.Stores.{sets-append}
 use Rattle.digits.proofs.Widths.{digits_length}
 use Rattle.calendar.specs.declared.moments.Moment.{Moment}
-use Rattle.shown.specs.Phrases.{month_names, month_name, rest_text}
-
--- x is none of 1 to n, as the last arm of a `match` has it
-abbrev NoneOf : ℕ → ℕ → Type 0
-NoneOf x zero = Unit {0}
-NoneOf x (suc n) = NoneOf x n × (x ≡ suc n → ⊥)
-
-past : (x n : ℕ) → NoneOf x n → 1 ≤ x → n < x
-past x zero h low = low
-past x (suc n) h low = omega (arith, past x n h.0 low, h.1)
-
--- no number but those of the twelve months has a name
-pub nameless : (m : ℕ) → NoneOf m 12 → month_name m ≡ []
-unfolding month_name month_names
-nameless zero h = refl
-nameless (suc m) h = get_or-eq_default ([] ∷ month_names) [] (past (suc m) 12 h (omega arith))
+use Rattle.shown.specs.Phrases.{rest_text}
 
 -- how long it is
 pub rest_length : (t : Moment) → length (rest_text t) ≡ 9 + width_of t.day + width_of t.year + width_of t.hour

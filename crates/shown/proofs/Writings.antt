@@ -7,7 +7,9 @@ use mathlib.Core.List.{List}
 use lib.Dec.{eqb, leb}
 use lib.ListN.{length}
 use borrow.Author.Tests.{eqb-true, leb-true}
-use Rattle.refusals.specs.Table.{InvalidMoment, NotWhole, NoRoom}
+use Rattle.refusals.specs.declared.Reason.{Reason}
+use Rattle.refusals.specs.Table.{number_of}
+use Rattle.refusals.specs.declared.Reason.TheVariants.{InvalidMoment, NotWhole, NoRoom}
 use Rattle.refusals.specs.Answers.{given, refuse, refusal_at}
 use Rattle.refusals.proofs.Holds.{Holds, of_given, of_refusal, Bounded, given_holds}
 use Rattle.calendar.specs.Moments.{IsMoment, is_moment}
@@ -38,7 +40,7 @@ pub writing : (t : Moment) (room : ℕ) → Holds (TextOf t room) (Bounded 8 17 
 unfolding shown_of
 writing t room = go (is_moment t) refl (is_whole t) refl (leb (length (phrase_text t)) room) refl
   where
-    none : {k : ℕ} → 8 ≤ k → k ≤ 17 → Holds (TextOf t room) (Bounded 8 17 0) (refuse k 0 0)
+    none : {k : Reason} → 8 ≤ number_of k → number_of k ≤ 17 → Holds (TextOf t room) (Bounded 8 17 0) (refuse k 0 0)
     none {k} l h = of_refusal {r = refusal_at k 0 0} (record { least = l; most = h; start = omega arith; within = omega arith })
 
     go : (a : Bool) → is_moment t ≡ a → (b : Bool) → is_whole t ≡ b → (c : Bool) → leb (length (phrase_text t)) room ≡ c →

@@ -1,7 +1,7 @@
 -- A moment as a phrase: "march 4 2026 at 9:05". Assumes nothing.
 use Rattle.std.specs.Prelude.{ℕ, ◌≡◌, Bool, ◌&&◌, cond, List, [], ◌∷◌, ◌++◌, eqb, get_or}
 use Prim.Native.Char.{code}
-use Rattle.refusals.specs.Table.{InvalidMoment, NotWhole}
+use Rattle.refusals.specs.declared.Reason.TheVariants.{InvalidMoment, NotWhole}
 use Rattle.refusals.specs.Answers.{Answer, refuse}
 use Rattle.refusals.specs.Writings.{fitted}
 use Rattle.digits.specs.Bytes.{bytes_of}

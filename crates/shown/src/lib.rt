@@ -5,21 +5,18 @@ ghost use Rattle.std.specs.Prelude.{◌≡◌, ◌∷◌, ◌++◌, ◌+◌, ◌
 ghost use Rattle.std.proofs.lemmas.List.Edits.{sets};
 ghost use Rattle.refusals.specs.Writings.{fitted, wrote_of, buffer_of};
 ghost use Rattle.digits.specs.Digits.{width_of, decimal_of};
-ghost use Rattle.shown.specs.Phrases.{rest_text, phrase_text, is_whole, shown_of};
+ghost use Rattle.shown.specs.Phrases.{rest_text, month_name, phrase_text, is_whole, shown_of};
 
 use calendar::moments::Moment;
 use digits::digit::width;
 use digits::put::{put_bytes, put_number, put_pair};
-use refusals::{INVALID_MOMENT, NO_ROOM, NOT_WHOLE, Wrote};
+use refusals::Reason;
 
 // True where second and millisecond are 0.
 fn is_whole(t: Moment) -> bool
     ensures { result ≡ is_whole t }
 {
-    if t.second == 0 {
-        return t.millisecond == 0;
-    }
-    false
+    t.second == 0 && t.millisecond == 0
 }
 
 // How many bytes stand behind the month's name: two blanks, " at " and a colon with two digits, and three numbers.
@@ -50,66 +47,54 @@ fn put_rest(out: &mut [u8], at: usize, t: Moment)
     put_pair(out, colon, b':', t.minute);
 }
 
-// A phrase that begins with the month's name, at the front of a lent buffer: 17 where that is too short.
-fn put_phrase(out: &mut [u8], name: &[u8], t: Moment) -> Wrote
-    requires { length name.now ≤ 9 }
-    ensures value { result ≡ wrote_of (fitted (name.now ++ rest_text t) (length out.old)) }
-    ensures buffer { out.new ≡ buffer_of out.old (fitted (name.now ++ rest_text t) (length out.old)) }
+// The name of month m, and none for any other number.
+#[tactic(auto, unfolding(crate::specs::Phrases::month_name, crate::specs::Phrases::month_names))]
+fn month_name(m: u32) -> &'static [u8]
+    ensures { (result.now ≡ month_name m) × (length result.now ≤ 9) }
 {
-    let n = name.len() + rest_size(t);
-    if out.len() < n {
-        return Wrote {
-            number: NO_ROOM,
-            count: 0,
-        };
-    }
-    put_bytes(out, 0, name);
-    put_rest(out, name.len(), t);
-    Wrote {
-        number: 0,
-        count: n,
+    match m {
+        1 => b"january",
+        2 => b"february",
+        3 => b"march",
+        4 => b"april",
+        5 => b"may",
+        6 => b"june",
+        7 => b"july",
+        8 => b"august",
+        9 => b"september",
+        10 => b"october",
+        11 => b"november",
+        12 => b"december",
+        _ => b"",
     }
 }
 
-// The phrase with the name of the month.
-fn put_named(out: &mut [u8], t: Moment) -> Wrote
+// The phrase at the front of a lent buffer: 17 where that is too short.
+fn put_phrase(out: &mut [u8], t: Moment) -> Result<usize, Reason>
     ensures value { result ≡ wrote_of (fitted (phrase_text t) (length out.old)) }
     ensures buffer { out.new ≡ buffer_of out.old (fitted (phrase_text t) (length out.old)) }
 {
-    let month = t.month;
-    match month {
-        1 => put_phrase(out, b"january", t),
-        2 => put_phrase(out, b"february", t),
-        3 => put_phrase(out, b"march", t),
-        4 => put_phrase(out, b"april", t),
-        5 => put_phrase(out, b"may", t),
-        6 => put_phrase(out, b"june", t),
-        7 => put_phrase(out, b"july", t),
-        8 => put_phrase(out, b"august", t),
-        9 => put_phrase(out, b"september", t),
-        10 => put_phrase(out, b"october", t),
-        11 => put_phrase(out, b"november", t),
-        12 => put_phrase(out, b"december", t),
-        _ => put_phrase(out, b"", t),
+    let name = month_name(t.month);
+    let n = name.len() + rest_size(t);
+    if out.len() < n {
+        return Err(Reason::NoRoom);
     }
+    put_bytes(out, 0, name);
+    put_rest(out, name.len(), t);
+    Ok(n)
 }
 
 // A moment as a phrase at the front of a lent buffer: 8 for no moment, 16 where second or millisecond isn't 0, 17 for a buffer too short.
-pub fn write_phrase(t: Moment, out: &mut [u8]) -> Wrote
+#[tactic(auto, unfolding(crate::specs::Phrases::shown_of))]
+pub fn write_phrase(t: Moment, out: &mut [u8]) -> Result<usize, Reason>
     ensures value { result ≡ wrote_of (shown_of t (length out.old)) }
     ensures buffer { out.new ≡ buffer_of out.old (shown_of t (length out.old)) }
 {
-    if t.valid() {
-        if is_whole(t) {
-            return put_named(out, t);
-        }
-        return Wrote {
-            number: NOT_WHOLE,
-            count: 0,
-        };
+    if !t.valid() {
+        return Err(Reason::InvalidMoment);
     }
-    Wrote {
-        number: INVALID_MOMENT,
-        count: 0,
+    if !is_whole(t) {
+        return Err(Reason::NotWhole);
     }
+    put_phrase(out, t)
 }

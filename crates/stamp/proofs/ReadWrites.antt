@@ -153,8 +153,8 @@ read_again s st h = go (one_of_three s)
     go (stamp there m o e) =
         let same : stamp_in s ≡ st = cc in
         rw (← same) (record { moment = m; offset = o; text = text there })
-    go (year_zero there z e) = let z : ◌≡◌ {A = ℕ} 0 1 = cc in absurd (omega arith)
-    go (no_stamp none e) = let z : ◌≡◌ {A = ℕ} 0 1 = cc in absurd (omega arith)
+    go (year_zero there z e) = absurd cc
+    go (no_stamp none e) = absurd cc
 
 -- so what is read is written as that text where there are 29 bytes of room
 pub read_writes : (s : List ℕ) (st : Stamp) (room : ℕ) → stamp_of s ≡ given st → 29 ≤ room → written_of st room ≡ given (plain s)

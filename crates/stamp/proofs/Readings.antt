@@ -8,7 +8,7 @@ use mathlib.Core.List.{List}
 use lib.Dec.{eqb}
 use lib.ListN.{take, drop, get_or, take-append-drop}
 use borrow.Author.Tests.{eqb-true, eqb-false, le-leb}
-use Rattle.refusals.specs.Table.{Outside, NoStamp}
+use Rattle.refusals.specs.declared.Reason.TheVariants.{Outside, NoStamp}
 use Rattle.refusals.specs.Answers.{Answer, given, refuse}
 use Rattle.digits.specs.Digits.{two_at}
 use Rattle.calendar.specs.Moments.{IsMoment, is_day_of_month, is_date, is_time}
@@ -67,6 +67,6 @@ one_of_three s =
     go true p true q true r false e =
         let there : Exists s = record { form = p; moment = q; offset = r } in
         stamp there (is_moment_lem s there (eqb-false _ _ e)) (is_offset_lem (drop (offset_place s) s) r) refl
-    go true p true q false r d e = no_stamp (λ h. let z : ◌≡◌ {A = ℕ} 0 1 = cc in omega arith) refl
-    go true p false q c r d e = no_stamp (λ h. let z : ◌≡◌ {A = ℕ} 0 1 = cc in omega arith) refl
-    go false p b q c r d e = no_stamp (λ h. let z : ◌≡◌ {A = ℕ} 0 1 = cc in omega arith) refl
+    go true p true q false r d e = no_stamp (λ h. cc) refl
+    go true p false q c r d e = no_stamp (λ h. cc) refl
+    go false p b q c r d e = no_stamp (λ h. cc) refl

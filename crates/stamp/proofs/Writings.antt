@@ -8,7 +8,9 @@ use mathlib.Core.Logic.{⊎_elim}
 use lib.Dec.{leb}
 use lib.ListN.{length, length-append}
 use borrow.Author.Tests.{leb-true}
-use Rattle.refusals.specs.Table.{InvalidMoment, NoStamp, NoRoom}
+use Rattle.refusals.specs.declared.Reason.{Reason}
+use Rattle.refusals.specs.Table.{number_of}
+use Rattle.refusals.specs.declared.Reason.TheVariants.{InvalidMoment, NoStamp, NoRoom}
 use Rattle.refusals.specs.Answers.{given, refuse, refusal_at}
 use Rattle.refusals.proofs.Holds.{Holds, of_given, of_refusal, Bounded}
 use Rattle.calendar.specs.Moments.{IsMoment, is_moment}
@@ -40,7 +42,7 @@ unfolding written_of
 writing st room =
     go (is_moment st.moment) refl (is_offset st.offset) refl (leb (length (stamp_text st)) room) refl
   where
-    none : {k : ℕ} → 8 ≤ k → k ≤ 17 → Holds (TextOf st room) (Bounded 8 17 0) (refuse k 0 0)
+    none : {k : Reason} → 8 ≤ number_of k → number_of k ≤ 17 → Holds (TextOf st room) (Bounded 8 17 0) (refuse k 0 0)
     none {k} l h = of_refusal {r = refusal_at k 0 0} (record { least = l; most = h; start = omega arith; within = omega arith })
 
     go : (a : Bool) → is_moment st.moment ≡ a → (b : Bool) → is_offset st.offset ≡ b → (c : Bool) → leb (length (stamp_text st)) room ≡ c →

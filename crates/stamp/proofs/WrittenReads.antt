@@ -10,7 +10,7 @@ use lib.Dec.{eqb}
 use lib.ListN.{length, drop, length-append}
 use lib.Seq.{take_at, drop_at}
 use borrow.Author.Tests.{eqb-true, ne_eqb, lt-ltb, le-ltb}
-use Rattle.refusals.specs.Table.{NoStamp}
+use Rattle.refusals.specs.declared.Reason.TheVariants.{NoStamp}
 use Rattle.refusals.specs.Answers.{Answer, given, refuse}
 use Rattle.refusals.proofs.Holds.{given_holds}
 use Rattle.digits.specs.Bytes.{bytes_of}

@@ -1,5 +1,6 @@
 -- Worked texts and stamps: each rule of reading and writing on both sides.
 use Rattle.std.specs.Prelude.{ℕ, ◌≡◌, refl, List, [], ◌∷◌, ◌++◌, map}
+use Rattle.refusals.specs.declared.Reason.TheVariants.{InvalidMoment, Outside, NoStamp, NoRoom}
 use Rattle.refusals.specs.Answers.{Answer, given, refuse}
 use Rattle.digits.specs.Bytes.{bytes_of}
 use Rattle.calendar.specs.Gregorian.{leap_year, month_length}
@@ -39,21 +40,21 @@ texts =
     ∷ reads (bytes_of "2024-02-29T23:59:59-00:00") (given (leap 1 0))
     ∷ reads (bytes_of "2024-02-29T23:59:59+23:59") (given (leap 0 1439))
     ∷ reads (bytes_of "2024-02-29T23:59:59-23:59") (given (leap 1 1439))
-    ∷ reads (bytes_of "2024-02-29T23:59:59+24:00") (refuse 14 0 0)
-    ∷ reads (bytes_of "2024-02-29T23:59:59-24:00") (refuse 14 0 0)
-    ∷ reads (bytes_of "2024-02-29T23:59:59+23:60") (refuse 14 0 0)
+    ∷ reads (bytes_of "2024-02-29T23:59:59+24:00") (refuse NoStamp 0 0)
+    ∷ reads (bytes_of "2024-02-29T23:59:59-24:00") (refuse NoStamp 0 0)
+    ∷ reads (bytes_of "2024-02-29T23:59:59+23:60") (refuse NoStamp 0 0)
     -- dates and times that do not exist
-    ∷ reads (bytes_of "2026-02-29T23:59:59Z") (refuse 14 0 0)
-    ∷ reads (bytes_of "2024-00-29T23:59:59Z") (refuse 14 0 0)
-    ∷ reads (bytes_of "2024-13-29T23:59:59Z") (refuse 14 0 0)
-    ∷ reads (bytes_of "2024-02-00T23:59:59Z") (refuse 14 0 0)
-    ∷ reads (bytes_of "2024-02-29T24:00:00Z") (refuse 14 0 0)
-    ∷ reads (bytes_of "2024-02-29T23:60:59Z") (refuse 14 0 0)
-    ∷ reads (bytes_of "2024-02-29T23:59:60Z") (refuse 14 0 0)
+    ∷ reads (bytes_of "2026-02-29T23:59:59Z") (refuse NoStamp 0 0)
+    ∷ reads (bytes_of "2024-00-29T23:59:59Z") (refuse NoStamp 0 0)
+    ∷ reads (bytes_of "2024-13-29T23:59:59Z") (refuse NoStamp 0 0)
+    ∷ reads (bytes_of "2024-02-00T23:59:59Z") (refuse NoStamp 0 0)
+    ∷ reads (bytes_of "2024-02-29T24:00:00Z") (refuse NoStamp 0 0)
+    ∷ reads (bytes_of "2024-02-29T23:60:59Z") (refuse NoStamp 0 0)
+    ∷ reads (bytes_of "2024-02-29T23:59:60Z") (refuse NoStamp 0 0)
     -- 14 before 12
-    ∷ reads (bytes_of "0000-02-29T00:00:00Z") (refuse 12 0 0)
-    ∷ reads (bytes_of "0000-02-30T00:00:00Z") (refuse 14 0 0)
-    ∷ reads (bytes_of "0000-02-29T00:00:00+24:00") (refuse 14 0 0)
+    ∷ reads (bytes_of "0000-02-29T00:00:00Z") (refuse Outside 0 0)
+    ∷ reads (bytes_of "0000-02-30T00:00:00Z") (refuse NoStamp 0 0)
+    ∷ reads (bytes_of "0000-02-29T00:00:00+24:00") (refuse NoStamp 0 0)
     -- fractions of one to three digits, with each offset
     ∷ reads (bytes_of "2024-02-29T23:59:59.5Z") (given (behind 500 0 0))
     ∷ reads (bytes_of "2024-02-29T23:59:59.05z") (given (behind 50 0 0))
@@ -61,19 +62,19 @@ texts =
     ∷ reads (bytes_of "2024-02-29T23:59:59.999-00:00") (given (behind 999 1 0))
     ∷ reads (bytes_of "2024-02-29T23:59:59.0-01:00") (given (behind 0 1 60))
     -- other fractions: no digit, four, a comma, a digit missing in front of the offset; and 60 is no second with one
-    ∷ reads (bytes_of "2024-02-29T23:59:59.Z") (refuse 14 0 0)
-    ∷ reads (bytes_of "2024-02-29T23:59:59.+01:00") (refuse 14 0 0)
-    ∷ reads (bytes_of "2024-02-29T23:59:59.0000Z") (refuse 14 0 0)
-    ∷ reads (bytes_of "2024-02-29T23:59:59,5Z") (refuse 14 0 0)
-    ∷ reads (bytes_of "2024-02-29T23:59:59.123") (refuse 14 0 0)
-    ∷ reads (bytes_of "2024-02-29T23:59:60.5Z") (refuse 14 0 0)
+    ∷ reads (bytes_of "2024-02-29T23:59:59.Z") (refuse NoStamp 0 0)
+    ∷ reads (bytes_of "2024-02-29T23:59:59.+01:00") (refuse NoStamp 0 0)
+    ∷ reads (bytes_of "2024-02-29T23:59:59.0000Z") (refuse NoStamp 0 0)
+    ∷ reads (bytes_of "2024-02-29T23:59:59,5Z") (refuse NoStamp 0 0)
+    ∷ reads (bytes_of "2024-02-29T23:59:59.123") (refuse NoStamp 0 0)
+    ∷ reads (bytes_of "2024-02-29T23:59:60.5Z") (refuse NoStamp 0 0)
     -- other forms: a blank for "T", 19, 21 and 26 bytes, a line feed behind, nothing
-    ∷ reads (bytes_of "2024-02-29 23:59:59Z") (refuse 14 0 0)
-    ∷ reads (bytes_of "2024-02-29T23:59:59") (refuse 14 0 0)
-    ∷ reads (bytes_of "2024-02-29T23:59:59ZZ") (refuse 14 0 0)
-    ∷ reads (bytes_of "2024-02-29T23:59:59+00:000") (refuse 14 0 0)
-    ∷ reads (bytes_of "2024-02-29T23:59:59Z" ++ (10 ∷ [])) (refuse 14 0 0)
-    ∷ reads [] (refuse 14 0 0)
+    ∷ reads (bytes_of "2024-02-29 23:59:59Z") (refuse NoStamp 0 0)
+    ∷ reads (bytes_of "2024-02-29T23:59:59") (refuse NoStamp 0 0)
+    ∷ reads (bytes_of "2024-02-29T23:59:59ZZ") (refuse NoStamp 0 0)
+    ∷ reads (bytes_of "2024-02-29T23:59:59+00:000") (refuse NoStamp 0 0)
+    ∷ reads (bytes_of "2024-02-29T23:59:59Z" ++ (10 ∷ [])) (refuse NoStamp 0 0)
+    ∷ reads [] (refuse NoStamp 0 0)
     ∷ []
 
 -- each text is read as listed
@@ -94,25 +95,25 @@ unfoldable pub writings : List Writing
 writings =
     -- exactly enough room, and a byte too few
     writes (leap 0 0) 20 (given (bytes_of "2024-02-29T23:59:59Z"))
-    ∷ writes (leap 0 0) 19 (refuse 17 0 0)
+    ∷ writes (leap 0 0) 19 (refuse NoRoom 0 0)
     ∷ writes (leap 0 1439) 25 (given (bytes_of "2024-02-29T23:59:59+23:59"))
-    ∷ writes (leap 0 1439) 24 (refuse 17 0 0)
+    ∷ writes (leap 0 1439) 24 (refuse NoRoom 0 0)
     -- the unknown offset is apart from "Z"
     ∷ writes (leap 1 0) 25 (given (bytes_of "2024-02-29T23:59:59-00:00"))
     ∷ writes (leap 1 61) 25 (given (bytes_of "2024-02-29T23:59:59-01:01"))
     -- three digits of a fraction
     ∷ writes (behind 500 0 0) 24 (given (bytes_of "2024-02-29T23:59:59.500Z"))
-    ∷ writes (behind 500 0 0) 23 (refuse 17 0 0)
+    ∷ writes (behind 500 0 0) 23 (refuse NoRoom 0 0)
     ∷ writes (behind 5 1 0) 29 (given (bytes_of "2024-02-29T23:59:59.005-00:00"))
-    ∷ writes (behind 5 1 0) 28 (refuse 17 0 0)
+    ∷ writes (behind 5 1 0) 28 (refuse NoRoom 0 0)
     -- 14 before 17
-    ∷ writes (leap 2 0) 0 (refuse 14 0 0)
-    ∷ writes (leap 0 1440) 0 (refuse 14 0 0)
+    ∷ writes (leap 2 0) 0 (refuse NoStamp 0 0)
+    ∷ writes (leap 0 1440) 0 (refuse NoStamp 0 0)
     -- 8 before 14
-    ∷ writes (record { moment = february 2026 29 59; offset = (leap 2 0).offset }) 0 (refuse 8 0 0)
-    ∷ writes (record { moment = february 2024 29 60; offset = (leap 0 0).offset }) 20 (refuse 8 0 0)
-    ∷ writes (behind 1000 2 0) 29 (refuse 8 0 0)
-    ∷ writes (record { moment = february 0 29 59; offset = (leap 0 0).offset }) 20 (refuse 8 0 0)
+    ∷ writes (record { moment = february 2026 29 59; offset = (leap 2 0).offset }) 0 (refuse InvalidMoment 0 0)
+    ∷ writes (record { moment = february 2024 29 60; offset = (leap 0 0).offset }) 20 (refuse InvalidMoment 0 0)
+    ∷ writes (behind 1000 2 0) 29 (refuse InvalidMoment 0 0)
+    ∷ writes (record { moment = february 0 29 59; offset = (leap 0 0).offset }) 20 (refuse InvalidMoment 0 0)
     ∷ []
 
 -- each stamp is written as listed

@@ -1,7 +1,8 @@
 -- A stamp: a civil moment as written, with its offset; how a text is read as one, and one is written. Assumes nothing.
-use Rattle.std.specs.Prelude.{ℕ, ◌+◌, ◌-◌, ◌*◌, ◌/◌, ◌%◌, ◌≤◌, ◌<◌, Bool, true, ◌&&◌, cond, List, [], ◌∷◌, ◌++◌, map, eqb, leb, ltb, length, get_or, take, drop}
+use Rattle.std.specs.Prelude.{ℕ, ◌+◌, ◌-◌, ◌*◌, ◌/◌, ◌%◌, ◌≤◌, ◌<◌, Bool, true, ◌&&◌, cond, List, [], ◌∷◌, ◌++◌, map, eqb, leb, ltb, length, get_or, take, drop, Result, Ok, Err}
 use Prim.Native.Char.{code}
-use Rattle.refusals.specs.Table.{InvalidMoment, Outside, NoStamp}
+use Rattle.refusals.specs.declared.Reason.TheVariants.{InvalidMoment, Outside, NoStamp}
+use Rattle.refusals.specs.declared.Reason.{Reason}
 use Rattle.refusals.specs.Answers.{Answer, given, refuse}
 use Rattle.refusals.specs.Writings.{fitted}
 use Rattle.digits.specs.Bytes.{bytes_of, capital_of, same}
@@ -12,8 +13,6 @@ use Rattle.calendar.specs.declared.moments.Moment.{Moment}
 use Rattle.stamp.specs.Grammar.{date_time, is_of}
 use Rattle.stamp.specs.declared.Offset.{Offset}
 use Rattle.stamp.specs.declared.Stamp.{Stamp}
-use Rattle.stamp.specs.declared.read.StampRead.{StampRead}
-use Rattle.stamp.specs.declared.read.StampRead.TheVariants.{Is, Refused}
 
 -- "Z" and "+00:00": the offset is zero
 abbrev pub zulu : Offset
@@ -77,9 +76,9 @@ unfoldable pub stamp_of : List ℕ → Answer Stamp
 stamp_of s = cond (is_of date_time s) (judged s) (refuse NoStamp 0 0)
 
 -- the code's answer
-abbrev pub stamp_answer : StampRead → Answer Stamp
-stamp_answer (Is st) = given st
-stamp_answer (Refused k) = refuse k 0 0
+abbrev pub stamp_answer : Result Stamp Reason → Answer Stamp
+stamp_answer (Ok st) = given st
+stamp_answer (Err k) = refuse k 0 0
 
 -- offset zero, and not the unknown one
 abbrev pub is_zulu : Offset → Bool

@@ -1,5 +1,5 @@
 // A text read as a stamp.
-ghost use Rattle.std.specs.Prelude.{◌≡◌, [], ◌∷◌, ◌≤◌, length};
+ghost use Rattle.std.specs.Prelude.{◌≡◌, ◌≤◌, length};
 ghost use Rattle.stamp.specs.Grammar.{date_time, is_of};
 ghost use Rattle.stamp.specs.Stamps.{offset_place, fraction_digit, millisecond_in, west_of, offset_in, offset_exists, stamp_at};
 ghost use Rattle.stamp.specs.Stamps.{moment_exists, in_years, judged, stamp_of, stamp_answer};
@@ -9,72 +9,36 @@ use calendar::fixed::moment_in;
 use calendar::moments::{Moment, valid_day, valid_time};
 use digits::digit::{two, value};
 use digits::form::of_form;
-use refusals::{NO_STAMP, OUTSIDE};
+use refusals::Reason;
 
-// A stamp, or a refusal's number.
-#[derive(Clone, Copy)]
-pub enum StampRead {
-    Is(Stamp),
-    Refused(u32),
-}
+// The texts of the grammar: without a fraction, or with one of one to three digits, and with each of three offsets.
+const DATE_TIMES: [&[u8]; 12] = [
+    b"0000-00-00T00:00:00Z",
+    b"0000-00-00T00:00:00+00:00",
+    b"0000-00-00T00:00:00-00:00",
+    b"0000-00-00T00:00:00.0Z",
+    b"0000-00-00T00:00:00.0+00:00",
+    b"0000-00-00T00:00:00.0-00:00",
+    b"0000-00-00T00:00:00.00Z",
+    b"0000-00-00T00:00:00.00+00:00",
+    b"0000-00-00T00:00:00.00-00:00",
+    b"0000-00-00T00:00:00.000Z",
+    b"0000-00-00T00:00:00.000+00:00",
+    b"0000-00-00T00:00:00.000-00:00",
+];
 
-// True for a text of one of three forms.
-fn of_three(first: &[u8], second: &[u8], third: &[u8], text: &[u8]) -> bool
-    ensures { result ≡ is_of (first.now ∷ second.now ∷ third.now ∷ []) text.now }
-{
-    if of_form(first, text) {
-        return true;
-    }
-    if of_form(second, text) {
-        return true;
-    }
-    of_form(third, text)
-}
-
-// True for a text of the grammar: without a fraction, or with one of one to three digits, and with each of three offsets.
+// True for a text of the grammar.
 fn is_date_time(text: &[u8]) -> bool
     ensures { result ≡ is_of date_time text.now }
 {
-    if of_three(
-        b"0000-00-00T00:00:00Z",
-        b"0000-00-00T00:00:00+00:00",
-        b"0000-00-00T00:00:00-00:00",
-        text,
-    ) {
-        return true;
-    }
-    if of_three(
-        b"0000-00-00T00:00:00.0Z",
-        b"0000-00-00T00:00:00.0+00:00",
-        b"0000-00-00T00:00:00.0-00:00",
-        text,
-    ) {
-        return true;
-    }
-    if of_three(
-        b"0000-00-00T00:00:00.00Z",
-        b"0000-00-00T00:00:00.00+00:00",
-        b"0000-00-00T00:00:00.00-00:00",
-        text,
-    ) {
-        return true;
-    }
-    of_three(
-        b"0000-00-00T00:00:00.000Z",
-        b"0000-00-00T00:00:00.000+00:00",
-        b"0000-00-00T00:00:00.000-00:00",
-        text,
-    )
+    DATE_TIMES.iter().any(|form| of_form(form, text))
 }
 
 // True where the month has the day, and the day the time.
 fn moment_exists(t: Moment) -> bool
     ensures { result ≡ moment_exists t }
 {
-    if valid_day(t.year, t.month, t.day) {
-        return valid_time(t.hour, t.minute, t.second, t.millisecond);
-    }
-    false
+    valid_day(t.year, t.month, t.day) && valid_time(t.hour, t.minute, t.second, t.millisecond)
 }
 
 // Where the offset of a text of the grammar begins: its last byte, or its last six.
@@ -82,20 +46,17 @@ fn offset_place(text: &[u8]) -> usize
     requires { 20 ≤ length text.now }
     ensures { (result ≡ offset_place text.now) × (19 ≤ result) × (result ≤ length text.now) }
 {
-    if text.len() < 25 {
-        return text.len() - 1;
-    }
-    text.len() - 6
+    text.len() - if text.len() < 25 { 1 } else { 6 }
 }
 
 // Digit i behind a fraction's point, 0 where there is none.
 fn fraction_digit(fraction: &[u8], i: usize) -> u32
     ensures { (result ≡ fraction_digit fraction.now i) × (result ≤ 207) }
 {
-    if fraction.len() <= i {
-        return 0;
+    match fraction.get(i) {
+        Some(digit) => value(*digit),
+        None => 0,
     }
-    value(fraction[i])
 }
 
 // The milliseconds of a fraction.
@@ -111,17 +72,14 @@ fn millisecond_in(fraction: &[u8]) -> u32
 fn offset_exists(offset: &[u8]) -> bool
     ensures { result ≡ offset_exists offset.now }
 {
-    if offset.len() < 6 {
-        return true;
-    }
-    valid_time(two(offset, 1), two(offset, 4), 0, 0)
+    offset.len() < 6 || valid_time(two(offset, 1), two(offset, 4), 0, 0)
 }
 
 // 1 for a minus.
 fn west_of(sign: u8) -> u32
     ensures { result ≡ west_of sign }
 {
-    if sign == b'-' { 1 } else { 0 }
+    u32::from(sign == b'-')
 }
 
 // What an offset says.
@@ -129,14 +87,15 @@ fn offset_in(offset: &[u8]) -> Offset
     ensures { result ≡ offset_in offset.now }
 {
     if offset.len() < 6 {
-        return Offset {
+        Offset {
             west: 0,
             minutes: 0,
-        };
-    }
-    Offset {
-        west: west_of(offset[0]),
-        minutes: 60 * two(offset, 1) + two(offset, 4),
+        }
+    } else {
+        Offset {
+            west: west_of(offset[0]),
+            minutes: 60 * two(offset, 1) + two(offset, 4),
+        }
     }
 }
 
@@ -151,37 +110,38 @@ fn stamp_at(text: &[u8], p: usize) -> Stamp
 }
 
 // A stamp whose numbers exist, if its year is not 0000.
-fn in_years(stamp: Stamp) -> StampRead
+fn in_years(stamp: Stamp) -> Result<Stamp, Reason>
     ensures { stamp_answer result ≡ in_years stamp }
 {
     if stamp.moment.year == 0 {
-        return StampRead::Refused(OUTSIDE);
+        Err(Reason::Outside)
+    } else {
+        Ok(stamp)
     }
-    StampRead::Is(stamp)
 }
 
 // What a text of the grammar says: its numbers are judged before its year.
-fn judge(text: &[u8]) -> StampRead
+fn judge(text: &[u8]) -> Result<Stamp, Reason>
     requires { 20 ≤ length text.now }
     ensures { stamp_answer result ≡ judged text.now }
 {
     let p = offset_place(text);
     let stamp = stamp_at(text, p);
-    if moment_exists(stamp.moment) {
-        if offset_exists(&text[p..]) {
-            return in_years(stamp);
-        }
-        return StampRead::Refused(NO_STAMP);
+    if moment_exists(stamp.moment) && offset_exists(&text[p..]) {
+        in_years(stamp)
+    } else {
+        Err(Reason::NoStamp)
     }
-    StampRead::Refused(NO_STAMP)
 }
 
 // A text as a stamp: 14 for any other form or an impossible date, time or offset, then 12 for year 0000.
-pub fn read_stamp(text: &[u8]) -> StampRead
+#[tactic(auto, unfolding(crate::specs::Stamps::stamp_of))]
+pub fn read_stamp(text: &[u8]) -> Result<Stamp, Reason>
     ensures { stamp_answer result ≡ stamp_of text.now }
 {
     if is_date_time(text) {
-        return judge(text);
+        judge(text)
+    } else {
+        Err(Reason::NoStamp)
     }
-    StampRead::Refused(NO_STAMP)
 }

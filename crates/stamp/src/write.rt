@@ -7,26 +7,20 @@ ghost use Rattle.stamp.specs.Stamps.{is_zulu, sign_of, offset_text, fraction_tex
 use super::{Offset, Stamp};
 use calendar::fixed::put_moment;
 use digits::put::{put_digits, put_pair};
-use refusals::{INVALID_MOMENT, NO_ROOM, NO_STAMP, Wrote};
+use refusals::Reason;
 
 // True for an offset up to 23:59, east or west.
 fn valid_offset(o: Offset) -> bool
     ensures { result ≡ is_offset o }
 {
-    if o.west <= 1 {
-        return o.minutes < 1440;
-    }
-    false
+    o.west <= 1 && o.minutes < 1440
 }
 
 // True for the offset that "Z" says.
 fn is_zulu(o: Offset) -> bool
     ensures { result ≡ is_zulu o }
 {
-    if o.west == 0 {
-        return o.minutes == 0;
-    }
-    false
+    o.west == 0 && o.minutes == 0
 }
 
 // How many bytes an offset takes.
@@ -55,11 +49,10 @@ fn put_fraction(out: &mut [u8], ms: u32)
     requires { 19 + length (fraction_text ms) ≤ length out.old }
     ensures { out.new ≡ sets out.old 19 (fraction_text ms) }
 {
-    if ms == 0 {
-        return;
+    if ms > 0 {
+        out[19] = b'.';
+        put_digits(out, 20, 3, u64::from(ms));
     }
-    out[19] = b'.';
-    put_digits(out, 20, 3, ms as u64);
 }
 
 // An offset, written from a place on.
@@ -69,10 +62,10 @@ fn put_offset(out: &mut [u8], at: usize, o: Offset)
 {
     if is_zulu(o) {
         out[at] = b'Z';
-        return;
+    } else {
+        put_pair(out, at, sign_of(o.west), o.minutes / 60);
+        put_pair(out, at + 3, b':', o.minutes % 60);
     }
-    put_pair(out, at, sign_of(o.west), o.minutes / 60);
-    put_pair(out, at + 3, b':', o.minutes % 60);
 }
 
 // A stamp's text, written at the front.
@@ -94,32 +87,21 @@ fn size(stamp: Stamp) -> usize
 }
 
 // A stamp as text at the front of a lent buffer: 8 for no moment, 14 for an offset out of range, 17 for a buffer too short.
-pub fn write_stamp(stamp: Stamp, out: &mut [u8]) -> Wrote
+#[tactic(auto, unfolding(crate::specs::Stamps::written_of))]
+pub fn write_stamp(stamp: Stamp, out: &mut [u8]) -> Result<usize, Reason>
     ensures value { result ≡ wrote_of (written_of stamp (length out.old)) }
     ensures buffer { out.new ≡ buffer_of out.old (written_of stamp (length out.old)) }
 {
-    if stamp.moment.valid() {
-        if valid_offset(stamp.offset) {
-            let n = size(stamp);
-            if out.len() < n {
-                return Wrote {
-                    number: NO_ROOM,
-                    count: 0,
-                };
-            }
-            put_stamp(out, stamp);
-            return Wrote {
-                number: 0,
-                count: n,
-            };
-        }
-        return Wrote {
-            number: NO_STAMP,
-            count: 0,
-        };
+    if !stamp.moment.valid() {
+        return Err(Reason::InvalidMoment);
     }
-    Wrote {
-        number: INVALID_MOMENT,
-        count: 0,
+    if !valid_offset(stamp.offset) {
+        return Err(Reason::NoStamp);
     }
+    let n = size(stamp);
+    if out.len() < n {
+        return Err(Reason::NoRoom);
+    }
+    put_stamp(out, stamp);
+    Ok(n)
 }

@@ -5,11 +5,12 @@ use mathlib.Core.Path.{◌≡◌, refl, ap, sym, subst, ◌∙◌}
 use mathlib.Core.Bool.{Bool, true, false, cond, beq}
 use mathlib.Core.List.{List, [], ◌∷◌}
 use lib.ListN.{length}
+use Rattle.std.specs.Prelude.{Option, Some, None}
 use Rattle.calendar.specs.Moments.{Reach, moment, and_then}
 use Rattle.numbers.specs.Slices.{one_if}
 use Rattle.calendar.proofs.Outcomes.{then_same, then_moment, then_assoc}
 use Rattle.evaluation.specs.Worlds.{World, Lawful}
-use Rattle.steps.specs.Joining.{refuses, fixed_of, together, join_of, joined, add_step, are_apart, all_apart}
+use Rattle.steps.specs.Joining.{refuses, fixed, fixed_of, together, join_of, joined, add_step, are_apart, all_apart}
 use Rattle.steps.specs.Running.{start_in, move_in, act_in, walk_in, is_start, is_time_step, count_of, starts, times}
 use Rattle.steps.specs.declared.plan.Start.{Start}
 use Rattle.steps.specs.declared.plan.Start.TheVariants.{Now, Senseless, OnDate, InWeek, FromToday}
@@ -17,8 +18,7 @@ use Rattle.steps.specs.declared.plan.Move.{Move}
 use Rattle.steps.specs.declared.plan.Move.TheVariants.{Minutes, Months, Years, BackTo, ForwardTo}
 use Rattle.steps.specs.declared.plan.Step.{Step}
 use Rattle.steps.specs.declared.plan.Step.TheVariants.{From, By, AtTime}
-use Rattle.steps.specs.declared.plan.Fixed.{Fixed}
-use Rattle.steps.specs.declared.plan.Fixed.TheVariants.{Other, Length}
+use Rattle.steps.specs.declared.plan.Length.{Length}
 use Rattle.steps.specs.declared.plan.Join.{Join}
 use Rattle.steps.specs.declared.plan.Join.TheVariants.{Alone, Apart, One}
 
@@ -30,7 +30,7 @@ minutes back m = By (Minutes back m)
 pub data Meeting (x s : Step) : Type 0 where
   refusal : x ≡ From Senseless → join_of x s ≡ Alone → Meeting x s
   apart : join_of x s ≡ Apart → Meeting x s
-  lengths : (back : Bool) (m k : ℕ) → x ≡ minutes back m → s ≡ minutes back k → join_of x s ≡ One back (m + k) → Meeting x s
+  lengths : (back : Bool) (m k : ℕ) → x ≡ minutes back m → s ≡ minutes back k → join_of x s ≡ One (fixed back (m + k)) → Meeting x s
 
 behind_minutes : (back : Bool) (m : ℕ) (s : Step) → Meeting (minutes back m) s
 behind_minutes back m (From s) = apart refl
@@ -98,7 +98,7 @@ module _ {S : Type 0} (w : World S) (Good : S → Type 0) (lawful : Lawful w Goo
 joined_length : (j : Join) (x s : Step) → (0 < length (joined j x s)) × (length (joined j x s) ≤ 2)
 joined_length Alone x s = (omega arith, omega arith)
 joined_length Apart x s = (omega arith, omega arith)
-joined_length (One back m) x s = (omega arith, omega arith)
+joined_length (One m) x s = (omega arith, omega arith)
 
 pub length-add : (ss : List Step) (s : Step) → (0 < length (add_step ss s)) × (length (add_step ss s) ≤ suc (length ss))
 length-add [] s = (omega arith, omega arith)
@@ -109,16 +109,17 @@ length-add (x ∷ y ∷ ys) s = (omega arith, omega (arith, length-add (y ∷ ys
 any_length : (w : Step) (back : Bool) (k m : ℕ) → are_apart (join_of w (minutes back k)) ≡ are_apart (join_of w (minutes back m))
 any_length w back k m = by_test (refuses w) (fixed_of w)
   where
-    one : (b too : Bool) (a : ℕ) → are_apart (cond b (One too (a + k)) Apart) ≡ are_apart (cond b (One too (a + m)) Apart)
+    one :
+        (b too : Bool) (a : ℕ) → are_apart (cond b (One (fixed too (a + k))) Apart) ≡ are_apart (cond b (One (fixed too (a + m))) Apart)
     one true too a = refl
     one false too a = refl
 
     by_test :
-        (b : Bool) (f : Fixed) →
-        are_apart (cond b Alone (together f (Length back k))) ≡ are_apart (cond b Alone (together f (Length back m)))
+        (b : Bool) (f : Option Length) →
+        are_apart (cond b Alone (together f (Some (fixed back k)))) ≡ are_apart (cond b Alone (together f (Some (fixed back m))))
     by_test true f = refl
-    by_test false Other = refl
-    by_test false (Length too a) = one (beq too back) too a
+    by_test false None = refl
+    by_test false (Some l) = one (beq l.back back) l.back l.count
 
 -- the only step of a list, with another one in front of it
 front_one : (w : Step) {x s : Step} → Meeting x s → all_apart (w ∷ x ∷ []) ≡ true → all_apart (w ∷ joined (join_of x s) x s) ≡ true

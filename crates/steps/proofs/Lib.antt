@@ -1,5 +1,4 @@
 pub mod Joined
 pub mod Offsets
 pub mod Planned
-pub mod Listed
 pub mod Small

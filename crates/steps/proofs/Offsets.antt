@@ -7,7 +7,7 @@ use Rattle.calendar.specs.declared.moments.Moment.{Moment}
 use Rattle.calendar.proofs.Outcomes.{then_same}
 use Rattle.calendar.proofs.Steps.{minutes_twice}
 use Rattle.evaluation.specs.Worlds.{offset, Lawful}
-use Rattle.refusals.specs.Table as refusal
+use Rattle.refusals.specs.declared.Reason.TheVariants as refusal
 use Rattle.steps.specs.Running.{start_at, move_by, walk_of, is_list, is_dated, ahead_in, lead_in, run_in, run_of}
 use Rattle.steps.specs.declared.plan.Step.{Step}
 use Rattle.steps.specs.declared.plan.Step.TheVariants.{From, By, AtTime}

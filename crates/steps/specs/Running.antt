@@ -3,7 +3,7 @@ use Rattle.std.specs.Prelude.{ℕ, ◌+◌, ◌%◌, Bool, true, false, cond, �
 use Rattle.calendar.specs.Moments.{Reach, moment, refused, and_then, Outcome, is_moment, months_step, years_step}
 use Rattle.calendar.specs.declared.moments.Moment.{Moment}
 use Rattle.numbers.specs.Slices.{one_if}
-use Rattle.refusals.specs.Table as refusal
+use Rattle.refusals.specs.declared.Reason.TheVariants as refusal
 use Rattle.evaluation.specs.Worlds.{World, offset}
 use Rattle.evaluation.specs.Weekdays.{in_week, forward_to, back_to}
 use Rattle.evaluation.specs.Dates.{date_at}

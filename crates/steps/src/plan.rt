@@ -35,24 +35,18 @@ pub enum Step {
     AtTime(Time),
 }
 
-// An array of a struct's field holds no enum by itself, so each step stands in a struct.
-#[derive(Clone, Copy)]
-pub struct Held {
-    pub step: Step,
-}
-
 // The first n slots are the list.
 #[derive(Clone, Copy)]
 pub struct Plan {
     pub n: usize,
-    pub slots: [Held; 24],
+    pub slots: [Step; 24],
 }
 
-// A step as a fixed length, if it is one.
+// A fixed length: so many minutes, back or on.
 #[derive(Clone, Copy)]
-pub enum Fixed {
-    Other,
-    Length { back: bool, count: u64 },
+pub struct Length {
+    pub back: bool,
+    pub count: u64,
 }
 
 // What becomes of the last step and one behind it: the last one stays alone, both stay, or they are one fixed length.
@@ -60,17 +54,17 @@ pub enum Fixed {
 pub enum Join {
     Alone,
     Apart,
-    One { back: bool, count: u64 },
+    One(Length),
 }
 
 // No step.
 pub fn none() -> Plan
     ensures { result ≡ blank_plan }
 {
-    let slots = [Held {
-        step: Step::From(Start::Now),
-    }; 24];
-    Plan { n: 0, slots }
+    Plan {
+        n: 0,
+        slots: [Step::From(Start::Now); 24],
+    }
 }
 
 // A list of a start alone.
@@ -81,26 +75,22 @@ pub fn single(start: Start) -> Plan
 }
 
 // One step more.
-fn push(p: Plan, step: Step) -> Plan
+fn push(mut p: Plan, step: Step) -> Plan
     requires { p.n < 24 }
     ensures { result ≡ pushed p step }
 {
-    let mut q = p;
-    let n = q.n;
-    q.slots[n] = Held { step };
-    q.n = n + 1;
-    q
+    p.slots[p.n] = step;
+    p.n += 1;
+    p
 }
 
 // Another step in the place of the last one.
-fn replace_last(p: Plan, step: Step) -> Plan
+fn replace_last(mut p: Plan, step: Step) -> Plan
     requires { (0 < p.n) × (p.n ≤ 24) }
     ensures { result ≡ replaced p step }
 {
-    let mut q = p;
-    let n = q.n - 1;
-    q.slots[n] = Held { step };
-    q
+    p.slots[p.n - 1] = step;
+    p
 }
 
 // Is a start a refusal? Here and below every start and every move is named, so that a new one has to be placed.
@@ -108,11 +98,8 @@ fn is_refusal(start: Start) -> bool
     ensures { result ≡ is_refusal start }
 {
     match start {
-        Start::Now => false,
         Start::Senseless => true,
-        Start::OnDate(_) => false,
-        Start::InWeek(_, _) => false,
-        Start::FromToday(_) => false,
+        Start::Now | Start::OnDate(_) | Start::InWeek(_, _) | Start::FromToday(_) => false,
     }
 }
 
@@ -122,54 +109,42 @@ fn refuses(step: Step) -> bool
 {
     match step {
         Step::From(start) => is_refusal(start),
-        Step::By(_) => false,
-        Step::AtTime(_) => false,
+        Step::By(_) | Step::AtTime(_) => false,
     }
 }
 
-// A move as a fixed length.
-fn length_of(way: Move) -> Fixed
+// A move as a fixed length, if it is one.
+fn length_of(way: Move) -> Option<Length>
     ensures { result ≡ length_of way }
 {
     match way {
-        Move::Minutes { back, count } => Fixed::Length { back, count },
-        Move::Months { back: _, count: _ } => Fixed::Other,
-        Move::Years { back: _, count: _ } => Fixed::Other,
-        Move::BackTo(_) => Fixed::Other,
-        Move::ForwardTo(_) => Fixed::Other,
+        Move::Minutes { back, count } => Some(Length { back, count }),
+        Move::Months { .. } | Move::Years { .. } | Move::BackTo(_) | Move::ForwardTo(_) => None,
     }
 }
 
-// A step as a fixed length.
-fn fixed_of(step: Step) -> Fixed
+// A step as a fixed length, if it is one.
+fn fixed_of(step: Step) -> Option<Length>
     ensures { result ≡ fixed_of step }
 {
     match step {
-        Step::From(_) => Fixed::Other,
         Step::By(way) => length_of(way),
-        Step::AtTime(_) => Fixed::Other,
+        Step::From(_) | Step::AtTime(_) => None,
     }
 }
 
 // A fixed length and what stands behind it.
-fn same_way(back: bool, count: u64, next: Fixed) -> Join
-    requires { count + minutes_in next < 2 ^ 64 }
-    ensures { result ≡ same_way back count next }
+fn same_way(length: Length, next: Option<Length>) -> Join
+    requires { length.count + minutes_in next < 2 ^ 64 }
+    ensures { result ≡ same_way length next }
 {
-    let Fixed::Length {
-        back: too,
-        count: more,
-    } = next
-    else {
-        return Join::Apart;
-    };
-    if back == too {
-        return Join::One {
-            back,
-            count: count + more,
-        };
+    match next {
+        Some(more) if length.back == more.back => Join::One(Length {
+            count: length.count + more.count,
+            ..length
+        }),
+        _ => Join::Apart,
     }
-    Join::Apart
 }
 
 // The last step and one behind it.
@@ -181,22 +156,24 @@ fn join_of(last: Step, step: Step) -> Join
         return Join::Alone;
     }
     match fixed_of(last) {
-        Fixed::Other => Join::Apart,
-        Fixed::Length { back, count } => same_way(back, count, fixed_of(step)),
+        Some(length) => same_way(length, fixed_of(step)),
+        None => Join::Apart,
     }
 }
 
 // One step more behind a list: a refusal stays alone, and neighbouring fixed lengths of one direction become one.
+#[tactic(auto, unfolding(crate::specs::Plans::add_to))]
 pub fn add(p: Plan, step: Step) -> Plan
     requires { (0 < p.n) × (p.n < 24) × (minutes_of (last_of p) + minutes_of step < 2 ^ 64) }
     ensures { result ≡ add_to p step }
 {
-    let m = p.n - 1;
-    let slot = p.slots[m];
-    let last = slot.step;
+    let last = p.slots[p.n - 1];
     match join_of(last, step) {
         Join::Alone => p,
         Join::Apart => push(p, step),
-        Join::One { back, count } => { replace_last(p, Step::By(Move::Minutes { back, count })) }
+        Join::One(Length { back, count }) => replace_last(
+            p,
+            Step::By(Move::Minutes { back, count }),
+        ),
     }
 }

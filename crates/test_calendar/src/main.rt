@@ -4,109 +4,101 @@
 ghost use Rattle.calendar.specs.Moments.{IsMoment};
 
 use calendar::fixed::put_moment;
-use calendar::moments::{Moment, Reached};
+use calendar::moments::{Moment, weekday_of};
+use refusals::Reason;
+use std::fmt::Display;
 use std::io;
 
-// Writes bytes.
-fn text(rt: &impl Print, s: &[u8]) -> io::Result<()> {
-    rt.write_all(s)
+// A moment as text; its first ten bytes are its date.
+fn text_of(t: Moment) -> [u8; 19] {
+    let mut text = [0u8; 19];
+    put_moment(&mut text, b' ', t);
+    text
 }
 
-// Writes the date of a moment: the first ten bytes of its text.
-fn date(rt: &impl Print, t: Moment) -> io::Result<()> {
-    let mut out = [0u8; 19];
-    put_moment(&mut out, b' ', t);
-    text(rt, &out[0..10])
-}
-
-// Writes a moment.
-fn moment(rt: &impl Print, t: Moment) -> io::Result<()> {
-    let mut out = [0u8; 19];
-    put_moment(&mut out, b' ', t);
-    text(rt, &out)
-}
-
-// Writes the date, the day number and the weekday of a moment.
-fn day_line(rt: &impl Print, t: Moment) -> io::Result<()>
+// The date, the day number and the weekday of a moment.
+fn write_day(rt: &impl Print, t: Moment) -> io::Result<()>
     requires { IsMoment t }
 {
     let n = t.day_number();
-    date(rt, t)?;
-    text(rt, b" is day ")?;
-    rt.print(n as u64)?;
-    text(rt, b", weekday ")?;
-    rt.print(calendar::moments::weekday_of(n) as u64)?;
-    text(rt, b"\n")
+    rt.write_all(&text_of(t)[..10])?;
+    println!(rt; " is day {n}, weekday {}", weekday_of(n))
 }
 
 // Day n: its date, and that date's number and weekday.
 fn day(rt: &impl Print, n: u32) -> io::Result<()> {
-    let s = Moment::first().on_day(n);
-    let Reached::At(t) = s else {
-        return text(rt, b"refused 12\n");
-    };
-    day_line(rt, t)
+    match Moment::first().on_day(n) {
+        Ok(t) => write_day(rt, t),
+        Err(reason) => println!(rt; "refused {}", reason.number()),
+    }
 }
 
 // 29 February of year y, if there is one.
 fn leap_day(rt: &impl Print, y: u32) -> io::Result<()> {
     let t = Moment::first().with_date(y, 2, 29);
     if t.valid() {
-        day_line(rt, t)
-    } else {
-        date(rt, t)?;
-        text(rt, b" is no date\n")
+        return write_day(rt, t);
     }
+    rt.write_all(&text_of(t)[..10])?;
+    println!(rt; " is no date")
 }
 
-// A step of size k from t, with the refusal's number.
-fn step(rt: &impl Print, t: Moment, k: u64, words: &[u8], s: Reached) -> io::Result<()> {
-    moment(rt, t)?;
-    text(rt, b", ")?;
-    rt.print(k)?;
-    text(rt, words)?;
-    match s {
-        Reached::At(u) => moment(rt, u)?,
-        Reached::Refused(number) => {
-            text(rt, b"refused ")?;
-            rt.print(number as u64)?;
-        }
+// A step from t, as it is said, and what it reaches, or the refusal's number.
+fn write_step(
+    rt: &impl Print,
+    t: Moment,
+    said: impl Display + Drop,
+    reached: Result<Moment, Reason>,
+) -> io::Result<()> {
+    rt.write_all(&text_of(t))?;
+    print!(rt; ", {said}: ")?;
+    match reached {
+        Ok(u) => rt.write_all(&text_of(u))?,
+        Err(reason) => print!(rt; "refused {}", reason.number())?,
     }
-    text(rt, b"\n")
+    println!(rt)
+}
+
+// The steps of size k from t, later and earlier.
+fn both_steps<F: Fn(bool) -> Result<Moment, Reason>>(
+    rt: &impl Print,
+    t: Moment,
+    k: u64,
+    unit: &str,
+    step: F,
+) -> io::Result<()>
+    requires { F.IsAlwaysCallable step }
+{
+    write_step(rt, t, format_args!("{k} {unit} later"), step(false))?;
+    write_step(rt, t, format_args!("{k} {unit} earlier"), step(true))
 }
 
 // The six steps of size k.
-fn six(rt: &impl Print, t: Moment, k: u64) -> io::Result<()>
+fn steps(rt: &impl Print, t: Moment, k: u64) -> io::Result<()>
     requires { IsMoment t }
 {
-    step(rt, t, k, b" minutes later: ", t.minutes_step(false, k))?;
-    step(rt, t, k, b" minutes earlier: ", t.minutes_step(true, k))?;
-    step(rt, t, k, b" months later: ", t.months_step(false, k))?;
-    step(rt, t, k, b" months earlier: ", t.months_step(true, k))?;
-    step(rt, t, k, b" years later: ", t.years_step(false, k))?;
-    step(rt, t, k, b" years earlier: ", t.years_step(true, k))
+    both_steps(rt, t, k, "minutes", |back| t.minutes_step(back, k))?;
+    both_steps(rt, t, k, "months", |back| t.months_step(back, k))?;
+    both_steps(rt, t, k, "years", |back| t.years_step(back, k))
 }
 
-// Small steps, those on both sides of each limit, and the largest.
-fn steps(rt: &impl Print, t: Moment) -> io::Result<()>
-    requires { IsMoment t }
-{
-    six(rt, t, 0)?;
-    six(rt, t, 1)?;
-    six(rt, t, 4)?;
-    six(rt, t, 9998)?;
-    six(rt, t, 9999)?;
-    six(rt, t, 119987)?;
-    six(rt, t, 119988)?;
-    six(rt, t, 5258964959)?;
-    six(rt, t, 5258964960)?;
-    six(rt, t, 18446744073709551615)
-}
-
-// Steps from t, which is a moment.
+// Steps from t, if it is a moment: small ones, those on both sides of each limit, and the largest.
 fn start(rt: &impl Print, t: Moment) -> io::Result<()> {
     if t.valid() {
-        steps(rt, t)?;
+        for k in [
+            0,
+            1,
+            4,
+            9998,
+            9999,
+            119987,
+            119988,
+            5258964959,
+            5258964960,
+            u64::MAX,
+        ] {
+            steps(rt, t, k)?;
+        }
     }
     Ok(())
 }
@@ -133,9 +125,8 @@ fn main(rt: HostRuntime) -> io::Result<()> {
     days(&rt)?;
     leap_days(&rt)?;
     start(&rt, Moment::first())?;
-    start(&rt, Moment::last().with_date(1900, 1, 31))?;
-    start(&rt, Moment::last().with_date(2024, 1, 31))?;
-    start(&rt, Moment::last().with_date(2024, 2, 29))?;
-    start(&rt, Moment::last().with_date(9996, 2, 29))?;
+    for (year, month, day) in [(1900, 1, 31), (2024, 1, 31), (2024, 2, 29), (9996, 2, 29)] {
+        start(&rt, Moment::last().with_date(year, month, day))?;
+    }
     start(&rt, Moment::last())
 }

@@ -3,57 +3,26 @@
 #![tactic(auto)]
 
 use fuzzydate::fuzzy_find_word;
-use scan::find;
 use std::io;
-use test_input::read_full;
+use test_input::{each_line, read_full};
 
-// A number behind a text.
-fn write_number(rt: &impl Print, text: &[u8], n: u64) -> io::Result<()> {
-    rt.write_all(text)?;
-    rt.print(n)
-}
-
-// A code and a count, `123 7`.
-fn write_found(rt: &impl Print, code: u32, count: u32) -> io::Result<()> {
-    rt.print(code as u64)?;
-    write_number(rt, b" ", count as u64)?;
-    rt.write_all(b"\n")
-}
-
-// What is found for a word, or its refusal with what the lent numbers still are.
+// What is found for a word, a code and a count, `123 7`; or its refusal with what the lent numbers still are.
 fn write_word(rt: &impl Print, reading: u32, word: &[u8]) -> io::Result<()> {
     let mut found = [1000u32, 1001u32];
     let answer = fuzzy_find_word(reading, word, &mut found);
     if answer != 0 {
-        write_number(rt, b"refused ", answer)?;
-        rt.write_all(b" ")?;
+        print!(rt; "refused {answer} ")?;
     }
-    write_found(rt, found[0], found[1])
+    let [code, count] = found;
+    println!(rt; "{code} {count}")
 }
 
-// Every single byte as a word.
-fn write_bytes(rt: &impl Print, reading: u32) -> io::Result<()> {
-    for b in 0u64..256 {
-        write_word(rt, reading, &[b as u8])?;
-    }
-    Ok(())
-}
-
-// Each line as a word; bytes behind the last line feed, if any, are a line.
-fn write_lines(rt: &impl Print, reading: u32, text: &[u8]) -> io::Result<()> {
-    let mut at: usize = 0;
-    while at < text.len() {
-        let end = find(text, at, text.len(), b'\n');
-        write_word(rt, reading, &text[at..end])?;
-        at = end + 1;
-    }
-    Ok(())
-}
-
-// All of them in one of the readings.
+// Every single byte and each line as a word, in one of the readings.
 fn write_in(rt: &impl Print, reading: u32, text: &[u8]) -> io::Result<()> {
-    write_bytes(rt, reading)?;
-    write_lines(rt, reading, text)
+    for b in 0u8..=255 {
+        write_word(rt, reading, &[b])?;
+    }
+    each_line(text, &mut |line| write_word(rt, reading, line))
 }
 
 // Standard input has fewer than 65,536 bytes: data/expected.py, which writes it, sees to that.
@@ -65,5 +34,5 @@ fn main(rt: HostRuntime) -> io::Result<()> {
     write_in(&rt, 2, &text[..n])?;
     write_word(&rt, 0, b"now")?;
     write_word(&rt, 3, b"now")?;
-    write_word(&rt, 4294967295, b"")
+    write_word(&rt, u32::MAX, b"")
 }

@@ -3,27 +3,13 @@
 // An answer is the lexemes' codes with their places, or the refusal with its place, the end of its part and the part.
 #![tactic(auto)]
 
-ghost use Rattle.std.specs.Prelude.{◌≤◌};
-
-use lexer::lex::{Ended, lex};
+use lexer::lex::lex;
 use lexer::part::offending;
 use lexer::reading::Reading;
 use reader::Lexer;
 use refusals::Refusal;
-use scan::find;
 use std::io;
-use test_input::read_full;
-
-// A number behind a text.
-fn write_number(rt: &impl Print, text: &[u8], n: u64) -> io::Result<()> {
-    rt.write_all(text)?;
-    rt.print(n)
-}
-
-// The place of a lexeme's first byte, `@5`.
-fn write_start(rt: &impl Print, start: u8) -> io::Result<()> {
-    write_number(rt, b"@", start as u64)
-}
+use test_input::{each_line, read_full};
 
 // The lexemes, `118@0 123@5`.
 fn write_lexemes(
@@ -31,97 +17,58 @@ fn write_lexemes(
     codes: &[u64; 64],
     starts: &[u8; 64],
     count: usize,
-) -> io::Result<()>
-    requires { count ≤ 64 }
-{
-    for i in 0..count {
-        if 0 < i {
-            rt.write_all(b" ")?;
-        }
-        rt.print(codes[i])?;
-        write_start(rt, starts[i])?;
+) -> io::Result<()> {
+    for (i, (code, start)) in codes.iter().zip(starts).take(count).enumerate() {
+        let blank = if i == 0 { "" } else { " " };
+        print!(rt; "{blank}{code}@{start}")?;
     }
     Ok(())
 }
 
 // A refusal, `refused 2 at 3 to 8 part forty`.
 fn write_refusal(rt: &impl Print, refusal: Refusal, part: &[u8]) -> io::Result<()> {
-    write_number(rt, b"refused ", refusal.number as u64)?;
-    write_number(rt, b" at ", refusal.place as u64)?;
-    write_number(rt, b" to ", refusal.end as u64)?;
-    rt.write_all(b" part ")?;
+    let Refusal { reason, place, end } = refusal;
+    print!(rt; "refused {} at {place} to {end} part ", reason.number())?;
     rt.write_all(part)
 }
 
-// An answer to a phrase.
-fn write_line(
-    rt: &impl Print,
-    reading: Reading,
-    phrase: &[u8],
-    r: Ended,
-    codes: &[u64; 64],
-    starts: &[u8; 64],
-) -> io::Result<()>
-    requires { r.count ≤ 64 }
+// What lexing answers to a phrase, in lent arrays.
+fn write_lexed<L>(rt: &impl Print, reading: Reading, phrase: &[u8], lex: L) -> io::Result<()>
+where
+    L: Fn(Reading, &[u8], &mut [u64; 64], &mut [u8; 64]) -> Result<usize, Refusal>,
+    requires { L.IsAlwaysCallable lex }
 {
-    let refusal = r.refusal;
-    if refusal.number == 0 {
-        write_lexemes(rt, codes, starts, r.count)?;
-    } else {
-        write_refusal(rt, refusal, offending(reading, phrase))?;
+    let mut codes = [0u64; 64];
+    let mut starts = [0u8; 64];
+    match lex(reading, phrase, &mut codes, &mut starts) {
+        Ok(count) => write_lexemes(rt, &codes, &starts, count)?,
+        Err(refusal) => write_refusal(rt, refusal, offending(reading, phrase))?,
     }
-    rt.write_all(b"\n")
+    println!(rt)
 }
 
-// A place of a reader and the unread rest, `behind 4 rest  friday`.
-fn write_rest(rt: &impl Print, place: usize, rest: &[u8]) -> io::Result<()> {
-    write_number(rt, b"behind ", place as u64)?;
-    rt.write_all(b" rest ")?;
-    rt.write_all(rest)?;
-    rt.write_all(b"\n")
-}
-
-// Where a reader stands behind the first token of a phrase.
+// Where a reader stands behind the first token of a phrase, and the unread rest, `behind 4 rest  friday`.
 fn write_behind(rt: &impl Print, reading: Reading, phrase: &[u8]) -> io::Result<()> {
     let first = Lexer::new(reading, phrase);
     let r = first.behind(first.next());
-    write_rest(rt, r.place(), r.unread())
+    print!(rt; "behind {} rest ", r.place())?;
+    rt.write_all(r.unread())?;
+    println!(rt)
 }
 
 // What lexing answers to a phrase, and what lexing by a reader does.
 fn write_answer(rt: &impl Print, reading: Reading, phrase: &[u8]) -> io::Result<()> {
-    let mut codes = [0u64; 64];
-    let mut starts = [0u8; 64];
-    let r = lex(reading, phrase, &mut codes, &mut starts);
-    write_line(rt, reading, phrase, r, &codes, &starts)?;
-    let by_reader = reader::lex(reading, phrase, &mut codes, &mut starts);
-    write_line(rt, reading, phrase, by_reader, &codes, &starts)?;
+    write_lexed(rt, reading, phrase, lex)?;
+    write_lexed(rt, reading, phrase, reader::lex)?;
     write_behind(rt, reading, phrase)
 }
 
-// Every single byte as a phrase.
-fn write_bytes(rt: &impl Print, reading: Reading) -> io::Result<()> {
-    for b in 0u64..256 {
-        write_answer(rt, reading, &[b as u8])?;
-    }
-    Ok(())
-}
-
-// Each line as a phrase; bytes behind the last line feed, if any, are a line.
-fn write_lines(rt: &impl Print, reading: Reading, text: &[u8]) -> io::Result<()> {
-    let mut at: usize = 0;
-    while at < text.len() {
-        let end = find(text, at, text.len(), b'\n');
-        write_answer(rt, reading, &text[at..end])?;
-        at = end + 1;
-    }
-    Ok(())
-}
-
-// All of them in one of the readings.
+// Every single byte and each line as a phrase, in one of the readings.
 fn write_in(rt: &impl Print, reading: Reading, text: &[u8]) -> io::Result<()> {
-    write_bytes(rt, reading)?;
-    write_lines(rt, reading, text)
+    for b in 0u8..=255 {
+        write_answer(rt, reading, &[b])?;
+    }
+    each_line(text, &mut |line| write_answer(rt, reading, line))
 }
 
 // Standard input has fewer than 65,536 bytes: data/expected.py, which writes it, sees to that.

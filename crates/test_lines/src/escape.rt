@@ -1,75 +1,38 @@
 // The bytes that a line's text stands for: `\xHH` is one byte, every other byte stands for itself.
-ghost use Rattle.std.specs.Prelude.{◌≡◌, ◌+◌, ◌≤◌, ◌<◌, length};
+ghost use Rattle.std.specs.Prelude.{◌≤◌, length};
 
-// A byte of a phrase, and how many bytes of the line it takes.
-#[derive(Clone, Copy)]
-struct Spelled {
-    byte: u8,
-    size: usize,
-}
-
-// A hexadecimal digit's number; 16 for any other byte.
-fn hex(b: u8) -> u8
-    ensures { result ≤ 16 }
-{
-    match b {
-        b'0'..=b'9' => b - b'0',
-        b'a'..=b'f' => b - b'a' + 10,
-        b'A'..=b'F' => b - b'A' + 10,
-        _ => 16,
+// A hexadecimal digit's number.
+fn hex(digit: u8) -> Option<u8> {
+    match digit {
+        b'0'..=b'9' => Some(digit - b'0'),
+        b'a'..=b'f' => Some(digit - b'a' + 10),
+        b'A'..=b'F' => Some(digit - b'A' + 10),
+        _ => None,
     }
 }
 
-// A byte that stands for itself.
-fn plain(byte: u8) -> Spelled
-    ensures { result.size ≡ 1 }
-{
-    Spelled { byte, size: 1 }
+// The byte that the front of a text stands for, and the text behind it.
+fn spelled(text: &[u8]) -> Option<(u8, &[u8])> {
+    if let [b'\\', b'x', high, low, behind @ ..] = text {
+        if let (Some(high), Some(low)) = (hex(*high), hex(*low)) {
+            return Some(((high << 4) | low, behind));
+        }
+    }
+    let (first, behind) = text.split_first()?;
+    Some((*first, behind))
 }
 
-// What stands at a place of a line.
-fn spelled_at(s: &[u8], i: usize) -> Spelled
-    requires { i < length s.now }
-    ensures { (1 ≤ result.size) × (i + result.size ≤ length s.now) }
-{
-    let first = s[i];
-    if s.len() - i < 4 {
-        return plain(first);
-    }
-    if first != b'\\' {
-        return plain(first);
-    }
-    if s[i + 1] != b'x' {
-        return plain(first);
-    }
-    let high = hex(s[i + 2]);
-    let low = hex(s[i + 3]);
-    if 15 < high {
-        return plain(first);
-    }
-    if 15 < low {
-        return plain(first);
-    }
-    Spelled {
-        byte: 16 * high + low,
-        size: 4,
-    }
-}
-
-// The phrase from a place of a line on, as far as there is room for it; how many bytes it has.
-pub(crate) fn unescape(line: &[u8], from: usize, phrase: &mut [u8]) -> usize
+// The phrase that a text stands for, as far as there is room for it; how many bytes it has.
+pub(crate) fn unescape(text: &[u8], phrase: &mut [u8]) -> usize
     ensures { result ≤ length phrase.new }
 {
-    let mut i = from;
-    let mut n: usize = 0;
-    while i < line.len() {
-        if n == phrase.len() {
+    let mut rest = text;
+    for (n, b) in phrase.iter_mut().enumerate() {
+        let Some((first, behind)) = spelled(rest) else {
             return n;
-        }
-        let c = spelled_at(line, i);
-        phrase[n] = c.byte;
-        n += 1;
-        i += c.size;
+        };
+        *b = first;
+        rest = behind;
     }
-    n
+    phrase.len()
 }

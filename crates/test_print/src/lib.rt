@@ -1,7 +1,7 @@
-// On standard output: what the Rust's Debug prints of a phrase's lexemes and of its reading, and moments.
+// As text: moments and answers, and what the Rust's Debug prints, without blanks, of a phrase's lexemes and of its reading.
 #![tactic(auto)]
 
+pub mod answers;
 pub mod lexemes;
-mod name;
-pub mod out;
+pub mod moments;
 pub mod reading;

@@ -2,16 +2,10 @@
 // numbers of room and a rule, and writes for each the refusal's number, the count of rows and the rows; then the number that stands behind them.
 #![tactic(auto)]
 
-ghost use Rattle.std.specs.Prelude.{◌+◌, ◌<◌, ◌≤◌, length};
-
 use calendar::fixed::moment_in;
-use calendar::moments::Moment;
-use digits::digit::two;
 use fuzzydate::fuzzy_list_in;
-use scan::find;
 use std::io;
-use std::io::Read;
-use test_input::read_full;
+use test_input::{each_line_of, four};
 
 // Before the rule a line has this many bytes.
 const HEAD: usize = 30;
@@ -19,125 +13,51 @@ const HEAD: usize = 30;
 // Where the count of rows stands in an answer.
 const COUNT: u64 = 4294967296;
 
-// A number behind a text.
-fn write_number(rt: &impl Print, text: &[u8], n: u64) -> io::Result<()> {
-    rt.write_all(text)?;
-    rt.print(n)
-}
-
-// A number of rows, at a place and with so many left from it on, a bar before each row. Only the first six rows and the last six are written.
-fn write_in_row(rt: &impl Print, place: usize, left: usize, n: u32) -> io::Result<()> {
-    if 42 <= place {
-        if 42 < left {
-            return Ok(());
+// Rows, a bar before each. Only the first six and the last six are written.
+fn write_rows(rt: &impl Print, rows: &[[u32; 7]]) -> io::Result<()> {
+    let left_out = 6..rows.len().saturating_sub(6);
+    for (k, row) in rows.iter().enumerate() {
+        if !left_out.contains(&k) {
+            let [year, month, day, hour, minute, second, millisecond] = *row;
+            print!(rt; "|{year} {month} {day} {hour} {minute} {second} {millisecond}")?;
         }
     }
-    if place % 7 == 0 {
-        return write_number(rt, b"|", n as u64);
-    }
-    write_number(rt, b" ", n as u64)
-}
-
-// So many numbers of rows.
-fn write_rows(rt: &impl Print, moments: &[u32], size: usize) -> io::Result<()>
-    requires { size ≤ length moments.now }
-{
-    for i in 0..size {
-        write_in_row(rt, i, size - i, moments[i])?;
-    }
     Ok(())
-}
-
-// The number behind the rows.
-fn write_behind(rt: &impl Print, n: u32) -> io::Result<()> {
-    write_number(rt, b"|", n as u64)
 }
 
 // An answer, the rows that it counts, and the number behind them.
 fn write_answer(rt: &impl Print, answer: u64, moments: &[u32]) -> io::Result<()> {
     let count = answer / COUNT;
-    let size = (7 * count) as usize;
-    write_number(rt, b"", answer % 65536)?;
-    write_number(rt, b" ", count)?;
-    if size < moments.len() {
-        write_rows(rt, moments, size)?;
-        write_behind(rt, moments[size])?;
+    print!(rt; "{} {count}", answer % 65536)?;
+    if let Some((listed, [behind, ..])) = moments.split_at_checked((7 * count) as usize) {
+        write_rows(rt, listed.as_chunks::<7>().0)?;
+        print!(rt; "|{behind}")?;
     }
-    rt.write_all(b"\n")
+    println!(rt)
 }
 
-// What is listed of a rule from a start on into so many numbers of a lent array.
-fn write_list(
-    rt: &impl Print,
-    rule: &[u8],
-    t: Moment,
-    moments: &mut [u32],
-    room: usize,
-) -> io::Result<()>
-    requires { room ≤ length moments.old }
-{
-    let start = [
-        t.year,
-        t.month,
-        t.day,
-        t.hour,
-        t.minute,
-        t.second,
-        t.millisecond,
-    ];
-    let answer = fuzzy_list_in(rule, &start, &mut moments[..room]);
-    write_answer(rt, answer, moments)
-}
-
-// The number of the four digits at a place.
-fn four(line: &[u8], at: usize) -> u32
-    requires { at + 3 < length line.now }
-{
-    100 * two(line, at) + two(line, at + 2)
-}
-
-// A start, its milliseconds, the room and a rule.
-fn write_line(rt: &impl Print, line: &[u8], moments: &mut [u32]) -> io::Result<()> {
-    if line.len() < HEAD {
+// What is listed of a line's rule from its start on, in the front of an array full of sevens that has a number more than any room.
+fn write_line(rt: &impl Print, line: &[u8]) -> io::Result<()> {
+    let (Some(milliseconds), Some(room), Some(rule)) = (
+        four(line, 20),
+        four(line, 25),
+        line.get(HEAD..),
+    ) else {
         return Ok(());
-    }
-    let t = moment_in(line, four(line, 20));
-    let room = four(line, 25) as usize;
-    if room <= moments.len() {
-        write_list(rt, &line[30..], t, moments, room)?;
-    }
-    Ok(())
-}
-
-// A line with an array of its own, full of sevens, which has a number more than any room.
-fn write_fresh(rt: &impl Print, line: &[u8]) -> io::Result<()> {
+    };
     let mut moments = [7u32; 7169];
-    write_line(rt, line, &mut moments)
-}
-
-// Each line; bytes behind the last line feed, if any, are a line.
-fn write_lines(rt: &impl Print, text: &[u8]) -> io::Result<()> {
-    let mut at: usize = 0;
-    while at < text.len() {
-        let end = find(text, at, text.len(), b'\n');
-        write_fresh(rt, &text[at..end])?;
-        at = end + 1;
+    if let Some(lent) = moments.get_mut(..room as usize) {
+        let answer = fuzzy_list_in(rule, &moment_in(line, milliseconds).into(), lent);
+        write_answer(rt, answer, &moments)?;
     }
     Ok(())
 }
 
-// The next piece of standard input, without what an earlier one left.
-fn write_piece(rt: &impl Print, input: &mut impl Read, text: &mut [u8]) -> io::Result<()> {
-    let n = read_full(input, text)?;
-    write_lines(rt, &text[..n])
-}
-
-// Standard input has up to four pieces of 65,536 bytes, each of whole lines: data/expected.py, which writes it, sees to that.
+// Standard input has up to four pieces: data/expected.py, which writes it, sees to that. An empty one ends nothing: at a terminal more may follow.
 fn main(rt: HostRuntime) -> io::Result<()> {
     let mut input = rt.reader();
-    let mut text = [0u8; 65536];
-    write_piece(&rt, &mut input, &mut text)?;
-    write_piece(&rt, &mut input, &mut text)?;
-    write_piece(&rt, &mut input, &mut text)?;
-    write_piece(&rt, &mut input, &mut text)
+    for _ in 0..4 {
+        each_line_of(&mut input, 1, |line| write_line(&rt, line))?;
+    }
+    Ok(())
 }

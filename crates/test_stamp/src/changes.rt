@@ -1,10 +1,10 @@
 // Every change of one byte of a text: the stamps among them are printed, and the others counted by their refusals.
 ghost use Rattle.std.specs.Prelude.{◌<◌, length};
 
-use super::print::{number, stamp_line, text};
-use stamp::read::{StampRead, read_stamp};
+use super::print::write_read;
+use refusals::Reason;
+use stamp::read::read_stamp;
 use std::io;
-use std::num::wrapping_add_u64;
 
 // How many texts were refused with 12, with 14, and with any other number.
 #[derive(Clone, Copy)]
@@ -16,61 +16,46 @@ struct Counts {
 
 impl Counts {
     // One refusal more.
-    fn add(mut self, k: u32) -> Counts {
-        match k {
-            12 => self.outside = wrapping_add_u64(self.outside, 1),
-            14 => self.no_stamp = wrapping_add_u64(self.no_stamp, 1),
-            _ => self.other = wrapping_add_u64(self.other, 1),
+    fn add(&mut self, reason: Reason) {
+        let count = match reason {
+            Reason::Outside => &mut self.outside,
+            Reason::NoStamp => &mut self.no_stamp,
+            _ => &mut self.other,
+        };
+        *count = count.wrapping_add(1);
+    }
+
+    // The texts with each byte at a place: printed, or counted.
+    fn take_place(&mut self, rt: &impl Print, text: &mut [u8], place: usize) -> io::Result<()>
+        requires { place < length text.old }
+    {
+        let own = text[place];
+        for b in 0u8..=255 {
+            text[place] = b;
+            match read_stamp(text) {
+                Ok(stamp) => write_read(rt, text, Ok(stamp))?,
+                Err(reason) => self.add(reason),
+            }
         }
-        self
+        text[place] = own;
+        Ok(())
     }
 }
 
-// One text: printed, or counted.
-fn judged(rt: &impl Print, s: &[u8], counts: Counts) -> io::Result<Counts> {
-    let r = read_stamp(s);
-    match r {
-        StampRead::Is(stamp) => {
-            stamp_line(rt, s, stamp)?;
-            Ok(counts)
-        }
-        StampRead::Refused(k) => Ok(counts.add(k)),
-    }
-}
-
-// The texts with each byte at a place.
-fn at_place(rt: &impl Print, s: &mut [u8], i: usize, before: Counts) -> io::Result<Counts>
-    requires { i < length s.old }
-{
-    let own = s[i];
-    let mut counts = before;
-    for b in 0u32..256 {
-        s[i] = b as u8;
-        counts = judged(rt, s, counts)?;
-    }
-    s[i] = own;
-    Ok(counts)
-}
-
-// The texts with each byte at each place.
-fn at_each_place(rt: &impl Print, s: &mut [u8]) -> io::Result<Counts> {
+// The stamps among the texts with each byte at each place, and the counts.
+pub(crate) fn write_changes<const N: usize>(rt: &impl Print, mut text: [u8; N]) -> io::Result<()> {
     let mut counts = Counts {
         outside: 0,
         no_stamp: 0,
         other: 0,
     };
-    for i in 0..s.len() {
-        counts = at_place(rt, s, i, counts)?;
+    for place in 0..N {
+        counts.take_place(rt, &mut text, place)?;
     }
-    Ok(counts)
-}
-
-// The stamps among them, and the counts.
-pub(crate) fn changes(rt: &impl Print, s: &mut [u8]) -> io::Result<()> {
-    let counts = at_each_place(rt, s)?;
-    text(rt, b"refused")?;
-    number(rt, counts.outside)?;
-    number(rt, counts.no_stamp)?;
-    number(rt, counts.other)?;
-    text(rt, b"\n")
+    let Counts {
+        outside,
+        no_stamp,
+        other,
+    } = counts;
+    println!(rt; "refused {outside} {no_stamp} {other}")
 }

@@ -1,50 +1,39 @@
-// Texts, numbers and readings, printed.
-use calendar::moments::Moment;
-use stamp::Stamp;
-use stamp::read::{StampRead, read_stamp};
-use std::io;
+// What a text is read as, printed.
+use refusals::Reason;
+use stamp::read::read_stamp;
+use stamp::{Offset, Stamp};
+use std::{fmt, io};
 
-// Bytes.
-pub(crate) fn text(rt: &impl Print, s: &[u8]) -> io::Result<()> {
-    rt.write_all(s)
+// The nine numbers of a stamp, or ` refused 14`.
+#[derive(Clone, Copy)]
+struct ReadText(Result<Stamp, Reason>);
+
+impl fmt::Display for ReadText {
+    fn fmt<W: fmt::Write>(&self, f: &mut fmt::Formatter<W>) -> fmt::Result {
+        match self.0 {
+            Ok(Stamp { moment, offset }) => {
+                for n in <[u32; 7]>::from(moment) {
+                    write!(f, " {n}")?;
+                }
+                let Offset { west, minutes } = offset;
+                write!(f, " {west} {minutes}")
+            }
+            Err(reason) => write!(f, " refused {}", reason.number()),
+        }
+    }
 }
 
-// A number behind a blank.
-pub(crate) fn number(rt: &impl Print, n: u64) -> io::Result<()> {
-    text(rt, b" ")?;
-    rt.print(n)
-}
-
-// The seven numbers of a moment.
-fn moment(rt: &impl Print, t: Moment) -> io::Result<()> {
-    number(rt, t.year as u64)?;
-    number(rt, t.month as u64)?;
-    number(rt, t.day as u64)?;
-    number(rt, t.hour as u64)?;
-    number(rt, t.minute as u64)?;
-    number(rt, t.second as u64)?;
-    number(rt, t.millisecond as u64)
-}
-
-// A text that is a stamp, and its nine numbers.
-pub(crate) fn stamp_line(rt: &impl Print, s: &[u8], stamp: Stamp) -> io::Result<()> {
-    text(rt, s)?;
-    moment(rt, stamp.moment)?;
-    number(rt, stamp.offset.west as u64)?;
-    number(rt, stamp.offset.minutes as u64)?;
-    text(rt, b"\n")
+// A text, and what it was read as.
+pub(crate) fn write_read(
+    rt: &impl Print,
+    text: &[u8],
+    read: Result<Stamp, Reason>,
+) -> io::Result<()> {
+    rt.write_all(text)?;
+    println!(rt; "{}", ReadText(read))
 }
 
 // A text, and what it is read as.
-pub(crate) fn line(rt: &impl Print, s: &[u8]) -> io::Result<()> {
-    let r = read_stamp(s);
-    match r {
-        StampRead::Is(stamp) => stamp_line(rt, s, stamp),
-        StampRead::Refused(k) => {
-            text(rt, s)?;
-            text(rt, b" refused")?;
-            number(rt, k as u64)?;
-            text(rt, b"\n")
-        }
-    }
+pub(crate) fn write_line(rt: &impl Print, text: &[u8]) -> io::Result<()> {
+    write_read(rt, text, read_stamp(text))
 }

@@ -8,19 +8,18 @@ use lib.Dec.{leb, eqb}
 use lib.ListN.{length, length-take, length-append}
 use lib.Seq.{take_all, take-take}
 use borrow.Author.Tests.{leb-true, leb-false, lt-leb}
+use Rattle.std.proofs.Common.{Option, Some, None}
 use Rattle.digits.specs.Forms.{of_form}
 use Rattle.digits.proofs.Forms.{form_length}
 use Rattle.lexer.specs.Keywords.{words_in}
 use Rattle.lexer.specs.Lex.{lexed}
-use Rattle.refusals.specs.Table as refusal
+use Rattle.refusals.specs.declared.Reason.TheVariants as refusal
 use Rattle.calendar.specs.declared.moments.Moment.{Moment}
 use Rattle.phrase.specs.Read.{read_of}
 use Rattle.text.specs.Answers.{refuse, First, answer_of}
 use Rattle.text.specs.Nows.{now_form, no_now, now_of}
 use Rattle.text.specs.Lines.{feed, whole_from, rest_from, last_of}
 use Rattle.text.specs.Output.{kept, line_text, after_line, lines_text, after_lines}
-use Rattle.text.specs.declared.stream.Known.{Known}
-use Rattle.text.specs.declared.stream.Known.TheVariants.{Nothing, Now}
 
 -- the same line, or two of more than 256 bytes
 pub data Alike (l m : List ℕ) : Type 0 where
@@ -60,16 +59,16 @@ long_now l h = go (of_form now_form l) refl
 
 module _ {l m : List ℕ} where
   -- they add the same to the output
-  alike_text : (k : Known) → Alike l m → line_text k l ≡ line_text k m
+  alike_text : (k : Option Moment) → Alike l m → line_text k l ≡ line_text k m
   alike_text k (same e) = ap (line_text k) e
-  alike_text Nothing (long a b) = refl
-  alike_text (Now n) (long a b) = rw (too_long l n a, too_long m n b)
+  alike_text None (long a b) = refl
+  alike_text (Some n) (long a b) = rw (too_long l n a, too_long m n b)
 
   -- and lead to the same
-  alike_after : (k : Known) → Alike l m → after_line k l ≡ after_line k m
+  alike_after : (k : Option Moment) → Alike l m → after_line k l ≡ after_line k m
   alike_after k (same e) = ap (after_line k) e
-  alike_after Nothing (long a b) = rw (long_now l a, long_now m b)
-  alike_after (Now n) (long a b) = refl
+  alike_after None (long a b) = rw (long_now l a, long_now m b)
+  alike_after (Some n) (long a b) = refl
 
   -- one byte more behind each
   alike_more : (c : ℕ) → Alike l m → Alike (l ++ (c ∷ [])) (m ++ (c ∷ []))
@@ -82,12 +81,12 @@ module _ {l m : List ℕ} where
   alike_front (long a b) = long a (rw length-take (omega arith))
 
 -- so do the lines of a text behind them, and their rests are alike
-pub record Behind (k : Known) (l m p : List ℕ) : Type 0 where
+pub record Behind (k : Option Moment) (l m p : List ℕ) : Type 0 where
   pub text : lines_text k (whole_from l p) ≡ lines_text k (whole_from m p)
   pub leads : after_lines k (whole_from l p) ≡ after_lines k (whole_from m p)
   pub rest : Alike (rest_from l p) (rest_from m p)
 
-pub behind : (p : List ℕ) (k : Known) (l m : List ℕ) → Alike l m → Behind k l m p
+pub behind : (p : List ℕ) (k : Option Moment) (l m : List ℕ) → Alike l m → Behind k l m p
 behind [] k l m a = record { text = refl; leads = refl; rest = a }
 behind (c ∷ p) k l m a =
     go (eqb c feed) refl (behind p (after_line k l) [] [] (same refl)) (behind p k (l ++ (c ∷ [])) (m ++ (c ∷ [])) (alike_more c a))
@@ -97,13 +96,13 @@ behind (c ∷ p) k l m a =
     go true e fresh on =
         record {
           text = rw (e, alike_text k a, alike_after k a);
-          leads = rw e (ap (λ (x : Known). after_lines x (whole_from [] p)) (alike_after k a));
+          leads = rw e (ap (λ (x : Option Moment). after_lines x (whole_from [] p)) (alike_after k a));
           rest = rw e fresh.rest;
         }
     go false e fresh on = record { text = rw e on.text; leads = rw e on.leads; rest = rw e on.rest }
 
 -- and as the last lines of a text
-pub alike_last : (k : Known) (l m : List ℕ) → Alike l m → lines_text k (last_of l) ≡ lines_text k (last_of m)
+pub alike_last : (k : Option Moment) (l m : List ℕ) → Alike l m → lines_text k (last_of l) ≡ lines_text k (last_of m)
 alike_last k l m (same e) = ap (λ (x : List ℕ). lines_text k (last_of x)) e
 alike_last k [] m (long a b) = absurd (omega arith)
 alike_last k (c ∷ l) [] (long a b) = absurd (omega arith)

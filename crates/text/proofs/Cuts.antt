@@ -3,15 +3,15 @@ use Prim.Native.Nat.{ℕ, suc, ◌+◌, ◌-◌, ◌≤◌, ◌<◌}
 use native.Mathlib.Nat.{not-suc-le-zero}
 use native.Mathlib.Omega.{arith}
 use mathlib.Core.Path.{◌≡◌, refl, sym, ap, ◌∙◌}
-use mathlib.Core.Bool.{Bool, true, false}
+use mathlib.Core.Bool.{Bool, true, false, cond}
 use mathlib.Core.List.{List, [], ◌∷◌, ◌++◌, append-nil}
 use lib.Dec.{eqb, ltb}
 use lib.ListN.{length, take, drop, length-drop}
 use lib.Seq.{append_snoc, drop-drop}
 use borrow.Author.Tests.{ltb-true, ltb-false}
+use Rattle.std.proofs.Common.{Option, Some, None}
 use Rattle.scan.specs.Bytes.{index_of}
-use Rattle.text.specs.Lines.{feed, whole_from, rest_from, whole_of, rest_of, line_at}
-use Rattle.text.specs.declared.line.Line.{Line}
+use Rattle.text.specs.Lines.{feed, whole_from, rest_from, whole_of, rest_of, line_end}
 
 -- the first line ends at a line feed
 pub record Ended (l t : List ℕ) : Type 0 where
@@ -47,35 +47,39 @@ goes_on (b ∷ t) l h = go (eqb b feed) refl (goes_on t (l ++ (b ∷ [])))
         let n = next (omega arith) in
         record { whole = rw (e, n.whole); rest = rw (e, n.rest, append_snoc l b) }
 
--- the same for the line that begins at a place of a text, as `line_at` answers it
-module _ (s : List ℕ) (a : ℕ) {r : Line} (told : r ≡ line_at s a) where
-  line_end : r.end ≡ a + index_of feed (drop a s)
-  unfolding line_at
-  line_end = ap (λ (x : Line). x.end) told
-
-  line_test : {b : Bool} → r.ended ≡ b → ltb r.end (length s) ≡ b
-  unfolding line_at
-  line_test e = rw line_end (sym (ap (λ (x : Line). x.ended) told) ∙ e)
-
+-- the same for the line that begins at a place of a text
+module _ (s : List ℕ) (a : ℕ) where
   -- a line that a line feed ends
-  pub record Next : Type 0 where
-    pub within : (a ≤ r.end) × (r.end < length s)
-    pub whole : whole_of (drop a s) ≡ take (r.end - a) (drop a s) ∷ whole_of (drop (r.end + 1) s)
-    pub rest : rest_of (drop a s) ≡ rest_of (drop (r.end + 1) s)
+  pub record Next (e : ℕ) : Type 0 where
+    pub within : (a ≤ e) × (e < length s)
+    pub whole : whole_of (drop a s) ≡ take (e - a) (drop a s) ∷ whole_of (drop (e + 1) s)
+    pub rest : rest_of (drop a s) ≡ rest_of (drop (e + 1) s)
 
-  pub next_line : r.ended ≡ true → Next
-  next_line e =
-      let end = line_end in
-      let inside : r.end < length s = ltb-true _ _ (line_test e) in
+  next_at : (e : ℕ) → e ≡ a + index_of feed (drop a s) → e < length s → Next e
+  next_at e end inside =
       let n = ended (drop a s) [] (rw length-drop (omega arith)) in
-      let size : r.end - a ≡ index_of feed (drop a s) = omega arith in
-      let past : a + suc (index_of feed (drop a s)) ≡ r.end + 1 = omega arith in
-      let behind : drop (suc (index_of feed (drop a s))) (drop a s) ≡ drop (r.end + 1) s = drop-drop _ a s ∙ ap (λ (k : ℕ). drop k s) past in
+      let size : e - a ≡ index_of feed (drop a s) = omega arith in
+      let past : a + suc (index_of feed (drop a s)) ≡ e + 1 = omega arith in
+      let behind : drop (suc (index_of feed (drop a s))) (drop a s) ≡ drop (e + 1) s = drop-drop _ a s ∙ ap (λ (k : ℕ). drop k s) past in
       record { within = omega arith; whole = rw (size, ← behind) n.whole; rest = rw (← behind) n.rest }
 
+  pub next_line : {e : ℕ} → Some e ≡ line_end s a → Next e
+  unfolding line_end
+  next_line {e} told = go (ltb _ (length s)) refl told
+    where
+      go :
+          (b : Bool) → ltb (a + index_of feed (drop a s)) (length s) ≡ b
+          → Some e ≡ cond b (Some (a + index_of feed (drop a s))) None → Next e
+      go true t h = let end : e ≡ a + index_of feed (drop a s) = cc in let inside = ltb-true _ _ t in next_at e end (omega arith)
+      go false t h = let z : ◌≡◌ {A = ℕ} 0 1 = cc in absurd (omega arith)
+
   -- a line that goes on
-  pub open_line : r.ended ≡ false → Open [] (drop a s)
-  open_line e =
-      let end = line_end in
-      let past : length s ≤ r.end = ltb-false _ _ (line_test e) in
-      goes_on (drop a s) [] (rw length-drop (omega arith))
+  pub open_line : None ≡ line_end s a → Open [] (drop a s)
+  unfolding line_end
+  open_line told = go (ltb _ (length s)) refl told
+    where
+      go :
+          (b : Bool) → ltb (a + index_of feed (drop a s)) (length s) ≡ b
+          → ◌≡◌ {A = Option ℕ} None (cond b (Some (a + index_of feed (drop a s))) None) → Open [] (drop a s)
+      go true t h = let z : ◌≡◌ {A = ℕ} 0 1 = cc in absurd (omega arith)
+      go false t h = let past = ltb-false _ _ t in goes_on (drop a s) [] (rw length-drop (omega arith))

@@ -7,13 +7,12 @@ use mathlib.Core.List.{List, [], ◌∷◌, ◌++◌, append-nil, append_assoc}
 use lib.Dec.{eqb}
 use lib.ListN.{drop, take-append-drop}
 use lib.Seq.{append_snoc}
+use Rattle.std.proofs.Common.{Option, Some, None}
 use Rattle.calendar.specs.declared.moments.Moment.{Moment}
 use Rattle.text.specs.Nows.{now_of}
 use Rattle.text.specs.Lines.{feed, whole_from, rest_from, whole_of, rest_of, last_of, lines_of}
 use Rattle.text.specs.Output.{answer_lines, output_of, output, kept, after_line, lines_text, after_lines, last_text}
 use Rattle.text.specs.Output.{in_pieces, joined}
-use Rattle.text.specs.declared.stream.Known.{Known}
-use Rattle.text.specs.declared.stream.Known.TheVariants.{Nothing, Now}
 use Rattle.text.proofs.Alike.{Alike, same, alike_front, behind, alike_last}
 
 -- a text cut in two
@@ -63,13 +62,13 @@ kept_open l h =
     (sym (cut (kept l) [] (drop 257 l)).whole ∙ rw (take-append-drop 257 l) h)
 
 -- the lines of two lists
-texts_append : (a b : List (List ℕ)) (k : Known) → lines_text k (a ++ b) ≡ lines_text k a ++ lines_text (after_lines k a) b
+texts_append : (a b : List (List ℕ)) (k : Option Moment) → lines_text k (a ++ b) ≡ lines_text k a ++ lines_text (after_lines k a) b
 texts_append [] b k = refl
 texts_append (l ∷ a) b k = rw (texts_append a b (after_line k l), append_assoc)
 
 -- l is the line so far, m what is kept of it
 from_here :
-    (ps : List (List ℕ)) (k : Known) (l m : List ℕ) → Alike l m → whole_of m ≡ [] →
+    (ps : List (List ℕ)) (k : Option Moment) (l m : List ℕ) → Alike l m → whole_of m ≡ [] →
     in_pieces k m ps ≡ lines_text k (whole_from l (joined ps) ++ last_of (rest_from l (joined ps)))
 unfolding last_text
 from_here [] k l m a h = sym (alike_last k l m a)
@@ -95,16 +94,16 @@ from_here (p ∷ ps) k l m a h =
     )
 
 -- a phrase a line
-later_lines : (ls : List (List ℕ)) (n : Moment) → lines_text (Now n) ls ≡ answer_lines n ls
+later_lines : (ls : List (List ℕ)) (n : Moment) → lines_text (Some n) ls ≡ answer_lines n ls
 later_lines [] n = refl
 later_lines (p ∷ ls) n = rw (later_lines ls n)
 
 -- behind a first line with now
-first_line : (ls : List (List ℕ)) → lines_text Nothing ls ≡ output_of ls
+first_line : (ls : List (List ℕ)) → lines_text None ls ≡ output_of ls
 first_line [] = refl
 first_line (f ∷ ls) = later_lines ls (now_of f)
 
 -- what the loop writes for all the pieces is the output for the input that they make
-pub in_pieces_lem : (ps : List (List ℕ)) → in_pieces Nothing [] ps ≡ output (joined ps)
+pub in_pieces_lem : (ps : List (List ℕ)) → in_pieces None [] ps ≡ output (joined ps)
 unfolding output
-in_pieces_lem ps = from_here ps Nothing [] [] (same refl) refl ∙ first_line (lines_of (joined ps))
+in_pieces_lem ps = from_here ps None [] [] (same refl) refl ∙ first_line (lines_of (joined ps))

@@ -12,7 +12,7 @@ use Rattle.digits.proofs.Stores.{sets-append}
 use Rattle.digits.proofs.Widths.{digits_length, width_limit}
 use Rattle.lexer.specs.Keywords.{words_in}
 use Rattle.calendar.specs.declared.moments.Moment.{Moment}
-use Rattle.text.specs.Answers.{Answer, given, refused, First, answer_of}
+use Rattle.text.specs.Answers.{Answer, given, refused, number_of, First, answer_of}
 use Rattle.text.specs.Texts.{refusal_text, text_of, fitting}
 use Rattle.text.specs.Output.{answer_line}
 
@@ -27,7 +27,7 @@ refusal_length k a =
 pub text_limit : (x : Answer Moment) → length (text_of x) ≤ 52
 unfolding text_of
 text_limit (given t) = omega arith
-text_limit (refused r) = omega (arith, refusal_length r.number r.place, width_limit r.number, width_limit r.place)
+text_limit (refused r) = let number = number_of r.reason in omega (arith, refusal_length number r.place, width_limit number, width_limit r.place)
 
 -- nor its line
 pub answer_limit : (n : Moment) (p : List ℕ) → length (answer_line n p) ≤ 53

@@ -6,44 +6,43 @@ use mathlib.Core.Path.{◌≡◌, refl, sym, ◌∙◌}
 use mathlib.Core.List.{List, [], ◌∷◌, ◌++◌, append-nil, append_assoc}
 use lib.ListN.{length, take, drop, length-take, length-append, length-drop}
 use lib.Seq.{sets, length-sets, length-take-le}
+use Rattle.std.proofs.Common.{Option, Some, None}
 use Rattle.digits.specs.Stores.{Written, Added}
 use Rattle.digits.proofs.Stores.{sets-append}
 use Rattle.digits.proofs.Takes.{drop-take}
-use Rattle.text.specs.Lines.{whole_of, rest_of, line_at}
+use Rattle.calendar.specs.declared.moments.Moment.{Moment}
+use Rattle.text.specs.Lines.{whole_of, rest_of}
 use Rattle.text.specs.Output.{line_text, after_line, lines_text, after_lines, passed_text, passed, Placed, kept, piece_of, Held, last_text}
-use Rattle.text.specs.declared.line.Line.{Line}
-use Rattle.text.specs.declared.stream.Known.{Known}
-use Rattle.text.specs.declared.stream.Known.TheVariants.{Nothing, Now}
 use Rattle.text.specs.declared.stream.Passed.{Passed}
 use Rattle.text.specs.declared.stream.Piece.{Piece}
 use Rattle.text.proofs.Spelled.{answer_limit}
 use Rattle.text.proofs.Cuts.{Open, Next}
 
 -- no bytes behind the last line feed are no line
-pub last_none : (k : Known) (l : List ℕ) → length l ≡ 0 → last_text k l ≡ []
+pub last_none : (k : Option Moment) (l : List ℕ) → length l ≡ 0 → last_text k l ≡ []
 unfolding last_text
 last_none k [] h = refl
 last_none k (b ∷ l) h = absurd (omega arith)
 
 -- any other are one
-pub last_some : (k : Known) (l : List ℕ) → (length l ≡ 0 → ⊥) → last_text k l ≡ line_text k l
+pub last_some : (k : Option Moment) (l : List ℕ) → (length l ≡ 0 → ⊥) → last_text k l ≡ line_text k l
 unfolding last_text
 last_some k [] h = absurd (h refl)
 last_some k (b ∷ l) h = append-nil (line_text k (b ∷ l))
 
 -- a line adds at most 53 bytes
-line_limit : (k : Known) (l : List ℕ) → length (line_text k l) ≤ 53
-line_limit Nothing l = omega arith
-line_limit (Now n) l = answer_limit n l
+line_limit : (k : Option Moment) (l : List ℕ) → length (line_text k l) ≤ 53
+line_limit None l = omega arith
+line_limit (Some n) l = answer_limit n l
 
 -- and so does the last
-pub last_limit : (k : Known) (l : List ℕ) → length (last_text k l) ≤ 53
+pub last_limit : (k : Option Moment) (l : List ℕ) → length (last_text k l) ≤ 53
 unfolding last_text
 last_limit k [] = omega arith
 last_limit k (b ∷ l) = rw append-nil (line_limit k (b ∷ l))
 
 -- the lines of s before `at` are read: `done` is what they add, and the lines from `at` on lead to the same as all of s
-pub record Read (k : Known) (s out₀ out : List ℕ) (known : Known) (at count : ℕ) : Type 0 where
+pub record Read (k : Option Moment) (s out₀ out : List ℕ) (known : Option Moment) (at count : ℕ) : Type 0 where
   pub done : List ℕ
   pub within : at ≤ length s
   pub few : count ≤ 53 * at
@@ -53,7 +52,7 @@ pub record Read (k : Known) (s out₀ out : List ℕ) (known : Known) (at count 
   pub text : passed_text k s ≡ done ++ lines_text known (whole_of (drop at s))
   pub rest : rest_of s ≡ rest_of (drop at s)
 
-module _ {k : Known} {s out₀ : List ℕ} where
+module _ {k : Option Moment} {s out₀ : List ℕ} where
   pub begun : Read k s out₀ out₀ k 0 0
   begun =
       record {
@@ -67,7 +66,7 @@ module _ {k : Known} {s out₀ : List ℕ} where
         rest = refl;
       }
 
-  module _ {out : List ℕ} {known : Known} {at count : ℕ} (was : Read k s out₀ out known at count) where
+  module _ {out : List ℕ} {known : Option Moment} {at count : ℕ} (was : Read k s out₀ out known at count) where
     -- the buffer keeps its length
     pub same_size : length out ≡ length out₀
     same_size = rw was.stored (length-sets out₀ 0 was.done)
@@ -78,11 +77,11 @@ module _ {k : Known} {s out₀ : List ℕ} where
 
     -- one line more is read
     pub turned :
-        {r : Line} {told : r ≡ line_at s at} → Next s at told → {out' : List ℕ} {count' : ℕ} {known' : Known} →
-        let line = take (r.end - at) (drop at s) in
-        Added (line_text known line) count count' out out' → known' ≡ after_line known line → Read k s out₀ out' known' (r.end + 1) count'
-    turned {r} next {out'} {count'} {known'} added e =
-        let line = take (r.end - at) (drop at s) in
+        {e : ℕ} → Next s at e → {out' : List ℕ} {count' : ℕ} {known' : Option Moment} →
+        let line = take (e - at) (drop at s) in
+        Added (line_text known line) count count' out out' → known' ≡ after_line known line → Read k s out₀ out' known' (e + 1) count'
+    turned {e} next {out'} {count'} {known'} added led =
+        let line = take (e - at) (drop at s) in
         let limit = line_limit known line in
         let more = added.count in
         let few = was.few in
@@ -95,8 +94,8 @@ module _ {k : Known} {s out₀ : List ℕ} where
           stored =
               added.stored
               ∙ rw (was.stored, was.counted, sets-append was.done (line_text known line) out₀ 0, zero-add);
-          leads = was.leads ∙ rw (next.whole, e);
-          text = was.text ∙ rw (next.whole, e, append_assoc);
+          leads = was.leads ∙ rw (next.whole, led);
+          text = was.text ∙ rw (next.whole, led, append_assoc);
           rest = was.rest ∙ next.rest;
         }
 
@@ -119,7 +118,7 @@ module _ {k : Known} {s out₀ : List ℕ} where
 
 -- the lines of a piece answered and its rest kept are the piece
 pub pieced :
-    (k : Known) {s s' : List ℕ} {end held : ℕ} {r : Passed} → end ≤ length s → r ≡ passed k (take end s) → Placed (take end s) r
+    (k : Option Moment) {s s' : List ℕ} {end held : ℕ} {r : Passed} → end ≤ length s → r ≡ passed k (take end s) → Placed (take end s) r
     → Written (kept (take (end - r.at) (drop r.at s))) held s s' →
     let piece : Piece = record { known = r.known; held = held; count = r.count } in
     (piece ≡ piece_of k (take end s)) × (Held end piece × (s' ≡ sets s 0 (kept (rest_of (take end s)))))

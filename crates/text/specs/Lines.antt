@@ -1,8 +1,7 @@
 -- The lines of a text: "A line feed ends a line; bytes after the last one, if any, are a line." Assumes nothing.
-use Rattle.std.specs.Prelude.{ℕ, ◌+◌, cond, List, [], ◌∷◌, ◌++◌, ltb, eqb, length, drop}
+use Rattle.std.specs.Prelude.{ℕ, ◌+◌, cond, List, [], ◌∷◌, ◌++◌, ltb, eqb, length, drop, Option, Some, None}
 use Prim.Native.Char.{code}
 use Rattle.scan.specs.Bytes.{index_of}
-use Rattle.text.specs.declared.line.Line.{Line}
 
 -- the byte that ends a line
 abbrev pub feed : ℕ
@@ -35,6 +34,6 @@ last_of (b ∷ bs) = (b ∷ bs) ∷ []
 abbrev pub lines_of : List ℕ → List (List ℕ)
 lines_of s = whole_of s ++ last_of (rest_of s)
 
--- where the line ends that begins at a, and whether a line feed ends it
-unfoldable pub line_at : List ℕ → ℕ → Line
-line_at s a = record { end = a + index_of feed (drop a s); ended = ltb (a + index_of feed (drop a s)) (length s) }
+-- where the line ends that begins at a, if a line feed ends it
+unfoldable pub line_end : List ℕ → ℕ → Option ℕ
+line_end s a = cond (ltb (a + index_of feed (drop a s)) (length s)) (Some (a + index_of feed (drop a s))) None

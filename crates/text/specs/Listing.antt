@@ -1,4 +1,5 @@
 -- The paper's listing: an input of `fuzzy`, and "its whole output".
+use Rattle.refusals.specs.declared.Reason.TheVariants.{Unknown, LeftOver}
 use Rattle.std.specs.Prelude.{◌≡◌, refl, List, [], ◌∷◌, ◌++◌, map, ℕ, get_or}
 use Rattle.std.proofs.Common.{ap, ◌∙◌}
 use Rattle.digits.specs.Bytes.{bytes_of}
@@ -24,20 +25,20 @@ phrases = bytes_of "next friday" ∷ bytes_of "forty days ago" ∷ bytes_of "5/2
 -- row i of the starred table
 starred_row :
     (i : ℕ) →
-    get_or (map (λ c. answer_of First (words_in First) c.phrase c.from) starred) i (refuse 0 0 0)
-    ≡ get_or (map (λ c. c.answer) starred) i (refuse 0 0 0)
-starred_row i = ap (λ (l : List (Answer Moment)). get_or l i (refuse 0 0 0)) starred_as_listed.0
+    get_or (map (λ c. answer_of First (words_in First) c.phrase c.from) starred) i (refuse Unknown 0 0)
+    ≡ get_or (map (λ c. c.answer) starred) i (refuse Unknown 0 0)
+starred_row i = ap (λ (l : List (Answer Moment)). get_or l i (refuse Unknown 0 0)) starred_as_listed.0
 
 next_friday : answer_of First (words_in First) (bytes_of "next friday") A ≡ given (moment_of 2026 2 20 9 30 15 0)
 unfolding starred
 next_friday = starred_row 1
 
 -- "forty" is no word of the Rust's
-forty_days_ago : answer_of First (words_in First) (bytes_of "forty days ago") A ≡ refuse 2 0 5
+forty_days_ago : answer_of First (words_in First) (bytes_of "forty days ago") A ≡ refuse Unknown 0 5
 unfolding answer_of read_of lexed token_at word_at class_of mark_of keywords words_in
 forty_days_ago = refl
 
-five_two : answer_of First (words_in First) (bytes_of "5/2") A ≡ refuse 7 1 3
+five_two : answer_of First (words_in First) (bytes_of "5/2") A ≡ refuse LeftOver 1 3
 unfolding starred
 five_two = starred_row 6
 
@@ -50,14 +51,14 @@ first_line : now_of (bytes_of "2026-02-11 09:30:15") ≡ A
 unfolding now_of
 first_line = refl
 
-answered : answer_lines A phrases ≡ answers (given (moment_of 2026 2 20 9 30 15 0)) (refuse 2 0 5) (refuse 7 1 3)
+answered : answer_lines A phrases ≡ answers (given (moment_of 2026 2 20 9 30 15 0)) (refuse Unknown 0 5) (refuse LeftOver 1 3)
 answered =
     ap (λ (x : Answer Moment). answers x (answer_of First (words_in First) (bytes_of "forty days ago") A) (answer_of First (words_in First) (bytes_of "5/2") A)) next_friday
     ∙ ap (λ (y : Answer Moment). answers (given (moment_of 2026 2 20 9 30 15 0)) y (answer_of First (words_in First) (bytes_of "5/2") A)) forty_days_ago
-    ∙ ap (λ (z : Answer Moment). answers (given (moment_of 2026 2 20 9 30 15 0)) (refuse 2 0 5) z) five_two
+    ∙ ap (λ (z : Answer Moment). answers (given (moment_of 2026 2 20 9 30 15 0)) (refuse Unknown 0 5) z) five_two
 
 spelled :
-    answers (given (moment_of 2026 2 20 9 30 15 0)) (refuse 2 0 5) (refuse 7 1 3)
+    answers (given (moment_of 2026 2 20 9 30 15 0)) (refuse Unknown 0 5) (refuse LeftOver 1 3)
     ≡ bytes_of "2026-02-20 09:30:15\nrefused 2 at 0\nrefused 7 at 1\n"
 unfolding text_of width_of
 spelled = refl

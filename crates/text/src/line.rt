@@ -1,27 +1,16 @@
 // The lines of a text.
 ghost use Rattle.std.specs.Prelude.{◌≡◌};
-ghost use Rattle.text.specs.Lines.{line_at};
+ghost use Rattle.text.specs.Lines.{line_end};
 
 use scan::find;
 
-// Where a line ends, and whether a line feed ends it.
-#[derive(Clone, Copy)]
-pub struct Line {
-    pub end: usize,
-    pub ended: bool,
-}
-
-// The line that begins at a place; past the last byte it is empty.
-pub(crate) fn line_at(s: &[u8], at: usize) -> Line
-    ensures { result ≡ line_at s.now at }
+// Where the line that begins at a place ends, if a line feed ends it.
+pub(crate) fn line_end(s: &[u8], at: usize) -> Option<usize>
+    ensures { result ≡ line_end s.now at }
 {
     if s.len() < at {
-        return Line {
-            end: at,
-            ended: false,
-        };
+        return None;
     }
     let end = find(s, at, s.len(), b'\n');
-    let ended = end < s.len();
-    Line { end, ended }
+    if end < s.len() { Some(end) } else { None }
 }

@@ -3,16 +3,17 @@ ghost use Rattle.std.specs.Prelude.{◌≡◌, ◌+◌, ◌≤◌, length};
 ghost use Rattle.std.proofs.lemmas.List.Edits.{sets};
 ghost use Rattle.digits.specs.Digits.{width_of};
 ghost use Rattle.digits.specs.Stores.{Written};
-ghost use Rattle.text.specs.Answers.{answer_from};
+ghost use Rattle.refusals.specs.Answers.{answer_from};
 ghost use Rattle.text.specs.Output.{answer_line};
 ghost use Rattle.text.specs.Texts.{refusal_text, text_of, fitting};
 
-use answer::{Answered, answer};
+use answer::answer;
 use calendar::fixed::put_moment;
 use calendar::moments::Moment;
 use digits::digit::width;
 use digits::put::{put_bytes, put_number};
 use lexer::reading::Reading;
+use refusals::Refusal;
 
 // A refusal's number and place, written at the front.
 fn put_refusal(out: &mut [u8], number: u64, place: u64)
@@ -26,17 +27,17 @@ fn put_refusal(out: &mut [u8], number: u64, place: u64)
 }
 
 // How many bytes an answer takes.
-fn size(a: Answered) -> usize
+fn size(a: Result<Moment, Refusal>) -> usize
     ensures { result ≡ length (text_of (answer_from a)) }
 {
     match a {
-        Answered::At(_) => 19,
-        Answered::Refused(r) => 12 + width(r.number as u64) + width(r.place as u64),
+        Ok(_) => 19,
+        Err(r) => 12 + width(r.reason.number() as u64) + width(r.place as u64),
     }
 }
 
 // An answer, `2026-02-20 09:30:15` or `refused 7 at 1`, at the front of a lent buffer; the count, 0 where there is no room.
-fn write_answer(a: Answered, out: &mut [u8]) -> usize
+fn write_answer(a: Result<Moment, Refusal>, out: &mut [u8]) -> usize
     ensures { Written (fitting (length out.old) (text_of (answer_from a))) result out.old out.new }
 {
     let n = size(a);
@@ -44,15 +45,10 @@ fn write_answer(a: Answered, out: &mut [u8]) -> usize
         return 0;
     }
     match a {
-        Answered::At(t) => {
-            put_moment(out, b' ', t);
-            n
-        }
-        Answered::Refused(r) => {
-            put_refusal(out, r.number as u64, r.place as u64);
-            n
-        }
+        Ok(t) => put_moment(out, b' ', t),
+        Err(r) => put_refusal(out, r.reason.number() as u64, r.place as u64),
     }
+    n
 }
 
 // The answer to a phrase at a now in the first reading, on a line of its own, at the front of a lent buffer; the count.

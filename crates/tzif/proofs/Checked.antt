@@ -5,19 +5,18 @@ use native.Mathlib.Omega.{arith}
 use mathlib.Core.Path.{◌≡◌, refl, subst}
 use mathlib.Core.Bool.{Bool, true, false, cond, ◌&&◌}
 use mathlib.Core.List.{List}
-use mathlib.Core.Logic.{⊎_elim}
-use lib.Dec.{leb, eqb}
+use Rattle.std.specs.Prelude.{Option, Some, None}
+use lib.Dec.{leb}
 use lib.ListN.{length}
-use borrow.Author.Tests.{eq-eqb, ne_eqb, ltb-true}
 use Rattle.refusals.specs.Answers.{given}
-use Rattle.digits.proofs.Order.{le-or_lt}
+use Rattle.std.proofs.lemmas.Bool.Decides.{nat_tests}
 use Rattle.tzif.specs.Zones.{Zone, year_one, Ascending, Bounded, AllBounded, IsZone}
 use Rattle.tzif.specs.File.{octet_at, time_at, offset_at, is_header, second_at, header_at, is_block, is_above, last_at, places_at, block_of, checked_of}
 use Rattle.tzif.specs.File.{row_at, rows_from, zone_in, zone_by, zone_of}
+use Rattle.tzif.specs.Read.{zone_read}
 use Rattle.tzif.specs.declared.file.Header.{Header}
 use Rattle.tzif.specs.declared.file.Places.{Places}
-use Rattle.tzif.specs.declared.file.Checked.{Checked}
-use Rattle.tzif.specs.declared.file.Checked.TheVariants.{Refused, Is}
+use Rattle.tzif.specs.declared.zone.Zone.{Zone as Checked}
 use Rattle.tzif.proofs.Times.{passes}
 use Rattle.tzif.proofs.Blocks.{Block, block}
 
@@ -35,10 +34,7 @@ pub record Known (l : List ℕ) (p : Places) : Type 0 where
 
 -- one that is not the first is above the one before
 above_before : (l : List ℕ) (b i : ℕ) → is_above l b (i + 1) ≡ true → time_at l b i < time_at l b (i + 1)
-above_before l b i e =
-    let some : eqb (i + 1) 0 ≡ false = ne_eqb (i + 1) 0 (λ z. omega arith) in
-    let back : i + 1 - 1 ≡ i = omega arith in
-    ltb-true _ _ (rw (some, back) at e)
+above_before l b i e = let back : i + 1 - 1 ≡ i = omega arith in let f = rw back at e in grind (arith, nat_tests)
 
 module _ (l : List ℕ) (b : ℕ) (h : Header) where
   known_block : Block l b h → Known l (places_at l b h)
@@ -63,18 +59,18 @@ module _ (l : List ℕ) (b : ℕ) (h : Header) where
       }
 
 -- a test that was passed
-passed : (t : Bool) (x : Checked) (p : Places) → cond t x Refused ≡ Is p → (t ≡ true) × (x ≡ Is p)
+passed : (t : Bool) (x : Option Places) (p : Places) → cond t x None ≡ Some p → (t ≡ true) × (x ≡ Some p)
 passed true x p e = (refl, e)
-passed false x p e = let z : ◌≡◌ {A = ℕ} 0 1 = cc in absurd (omega arith)
+passed false x p e = cc
 
 -- a checked file's places are those of a block that passes
-pub known : (l : List ℕ) (p : Places) → checked_of l ≡ Is p → Known l p
+pub known : (l : List ℕ) (p : Places) → checked_of l ≡ Some p → Known l p
 unfolding checked_of block_of
 known l p e =
     let at = second_at l in
     let h = header_at l at in
     let one = passed (leb (length l) 65536 && (is_header l 0 && is_header l at)) (block_of l at) p e in
-    let two = passed (is_block l (at + 44) h) (Is (places_at l (at + 44) h)) p one.1 in
+    let two = passed (is_block l (at + 44) h) (Some (places_at l (at + 44) h)) p one.1 in
     let same : places_at l (at + 44) h ≡ p = cc in
     subst (Known l) same (known_block l (at + 44) h (block l (at + 44) h two.0))
 
@@ -86,18 +82,19 @@ time_high l p k i h = (k.row i h).high
 -- and of the last one
 pub last_high : (l : List ℕ) (p : Places) → Known l p → p.last < 9223372290225540608
 unfolding last_at
-last_high l p k = ⊎_elim some none (le-or_lt 1 p.count)
-  where
-    some : 1 ≤ p.count → p.last < 9223372290225540608
-    some h = rw (k.last, ne_eqb p.count 0 (λ e. omega arith)) (time_high l p k (p.count - 1) (omega arith))
-
-    none : p.count < 1 → p.last < 9223372290225540608
-    none h = rw (k.last, eq-eqb p.count 0 (omega arith)) (omega arith)
+last_high l p k =
+    let some : 1 ≤ p.count → time_at l p.times (p.count - 1) < 9223372290225540608 = λ h. time_high l p k (p.count - 1) (omega arith) in
+    rw k.last (grind (arith, nat_tests))
 
 -- its zone is the one that is read at them
-pub checked_zone : (l : List ℕ) (p : Places) → checked_of l ≡ Is p → zone_of l ≡ given (zone_in l p)
+pub checked_zone : (l : List ℕ) (p : Places) → checked_of l ≡ Some p → zone_of l ≡ given (zone_in l p)
 unfolding zone_of
 checked_zone l p e = rw e
+
+-- what a checked file stands for is the zone of the file
+pub zone_checked : (l : List ℕ) (z : Checked) → checked_of l ≡ Some z.places → z.file.now ≡ l → zone_of l ≡ given (zone_read z)
+unfolding zone_of
+zone_checked l z e f = rw (e, f)
 
 module _ (l : List ℕ) (p : Places) (k : Known l p) where
   pub rows_bounded : (i n : ℕ) → i + n ≤ p.count → AllBounded (rows_from l p i n)
@@ -126,6 +123,6 @@ pub zone_is : (l : List ℕ) (z : Zone) → zone_of l ≡ given z → IsZone z
 unfolding zone_of
 zone_is l z e = go (checked_of l) refl e
   where
-    go : (x : Checked) → checked_of l ≡ x → zone_by l x ≡ given z → IsZone z
-    go Refused f h = let y : ◌≡◌ {A = ℕ} 0 1 = cc in absurd (omega arith)
-    go (Is p) f h = let same : zone_in l p ≡ z = cc in subst IsZone same (known_zone l p (known l p f))
+    go : (x : Option Places) → checked_of l ≡ x → zone_by l x ≡ given z → IsZone z
+    go None f h = cc
+    go (Some p) f h = let same : zone_in l p ≡ z = cc in subst IsZone same (known_zone l p (known l p f))

@@ -1,5 +1,6 @@
 -- Worked files, computed: each limit of a file on both sides.
 use Rattle.std.specs.Prelude.{ℕ, zero, suc, ◌/◌, ◌%◌, ◌≡◌, refl, List, [], ◌∷◌, ◌++◌, map, length, replicate, take}
+use Rattle.refusals.specs.declared.Reason.TheVariants.{NoZone}
 use Rattle.refusals.specs.Answers.{Answer, given, refuse}
 use Rattle.digits.specs.Bytes.{bytes_of}
 use Rattle.tzif.specs.Zones.{Row, Zone, year_one}
@@ -66,7 +67,7 @@ abbrev case : List ℕ → Answer Zone → Case
 case l a = record { file = l; answer = a }
 
 abbrev refused : Answer Zone
-refused = refuse 21 0 0
+refused = refuse NoZone 0 0
 
 unfoldable pub cases : List Case
 cases =

@@ -1,15 +1,13 @@
 -- The zone of a TZif file, "RFC 9636, version 2 or later": its two headers, the second data block and the footer's newlines.
 -- Not looked at: the first block's contents, daylight flags, names, indicators, reserved octets, and the footer's text.
-use Rattle.std.specs.Prelude.{ℕ, zero, suc, ◌+◌, ◌-◌, ◌*◌, ◌<◌, ◌≡◌, Bool, true, false, cond, ◌&&◌, ◌||◌, List, [], ◌∷◌, leb, ltb, eqb, length, get_or, drop}
+use Rattle.std.specs.Prelude.{ℕ, zero, suc, ◌+◌, ◌-◌, ◌*◌, ◌<◌, ◌≡◌, Bool, true, false, cond, ◌&&◌, ◌||◌, List, [], ◌∷◌, leb, ltb, eqb, length, get_or, drop, Option, Some, None}
 use Prim.Native.Char.{code}
-use Rattle.refusals.specs.Table.{NoZone}
+use Rattle.refusals.specs.declared.Reason.TheVariants.{NoZone}
 use Rattle.refusals.specs.Answers.{Answer, given, refuse}
 use Rattle.digits.specs.Bytes.{bytes_of}
 use Rattle.tzif.specs.Zones.{Row, Zone, year_one}
 use Rattle.tzif.specs.declared.file.Header.{Header}
 use Rattle.tzif.specs.declared.file.Places.{Places}
-use Rattle.tzif.specs.declared.file.Checked.{Checked}
-use Rattle.tzif.specs.declared.file.Checked.TheVariants.{Refused, Is}
 
 -- counts of four octets
 pub record Narrow (h : Header) : Type 0 where
@@ -136,17 +134,17 @@ places_at l b h = record {
   last = last_at l b h.timecnt;
 }
 
--- what the check says of the second header, at a place, and its block
-unfoldable pub block_of : List ℕ → ℕ → Checked
-block_of l at = cond (is_block l (at + 44) (header_at l at)) (Is (places_at l (at + 44) (header_at l at))) Refused
+-- the places that the check finds by the second header, at a place, and its block
+unfoldable pub block_of : List ℕ → ℕ → Option Places
+block_of l at = cond (is_block l (at + 44) (header_at l at)) (Some (places_at l (at + 44) (header_at l at))) None
 
 -- and of the file: "a lent slice of at most 64 KiB: header, second data block"
-unfoldable pub checked_of : List ℕ → Checked
-checked_of l = cond (leb (length l) 65536 && (is_header l 0 && is_header l (second_at l))) (block_of l (second_at l)) Refused
+unfoldable pub checked_of : List ℕ → Option Places
+checked_of l = cond (leb (length l) 65536 && (is_header l 0 && is_header l (second_at l))) (block_of l (second_at l)) None
 
 -- these are the places of a file that passes
 abbrev pub IsChecked : List ℕ → Places → Type 0
-IsChecked l p = checked_of l ≡ Is p
+IsChecked l p = checked_of l ≡ Some p
 
 -- transition i, with the offset of its type
 abbrev pub row_at : List ℕ → Places → ℕ → Row
@@ -166,9 +164,9 @@ unfoldable pub zone_in : List ℕ → Places → Zone
 zone_in l p = record { first = offset_at l p.types 0; rows = rows_from l p 0 p.count }
 
 -- or 21
-abbrev pub zone_by : List ℕ → Checked → Answer Zone
-zone_by l Refused = refuse NoZone 0 0
-zone_by l (Is p) = given (zone_in l p)
+abbrev pub zone_by : List ℕ → Option Places → Answer Zone
+zone_by l None = refuse NoZone 0 0
+zone_by l (Some p) = given (zone_in l p)
 
 -- the zone of a file
 unfoldable pub zone_of : List ℕ → Answer Zone

@@ -1,3 +1,4 @@
 pub mod Zones
 pub mod File
+pub mod Read
 pub mod Cases

@@ -1,10 +1,11 @@
-// A TZif file checked once, and read by the places that the check gives.
-ghost use Rattle.std.specs.Prelude.{◌≡◌, ◌+◌, ◌*◌, ◌≤◌, ◌<◌, length};
+// A TZif file, checked whole.
+ghost use Rattle.std.specs.Prelude.{◌≡◌, ◌+◌, ◌*◌, ◌≤◌, ◌<◌, length, IfSome, option_map};
 ghost use Rattle.tzif.specs.File.{Narrow, header_at, is_header, block_length, zero_or, are_counts, is_block, last_at, places_at};
-ghost use Rattle.tzif.specs.File.{block_of, checked_of, IsChecked, time_at, offset_behind};
+ghost use Rattle.tzif.specs.File.{block_of, checked_of};
 
-use super::octets::{four, octet, offset_at, time_at};
+use super::octets::{four, time_at};
 use super::tables::{are_tables, is_footer};
+use super::zone::Zone;
 
 // A header's counts.
 #[derive(Clone, Copy)]
@@ -27,20 +28,13 @@ pub struct Places {
     pub last: u64,
 }
 
-// What a check says: the file is refused with 21, or its places.
-#[derive(Clone, Copy)]
-pub enum Checked {
-    Refused,
-    Is(Places),
-}
-
 // The octets of a header, and the most of a file.
 const HEADER: usize = 44;
 
 const MOST: usize = 65536;
 
 // "TZif" as a number.
-const MAGIC: u64 = 1415211366;
+const MAGIC: u32 = 1415211366;
 
 // A header's six counts.
 fn header_at(file: &[u8], at: usize) -> Header
@@ -61,17 +55,10 @@ fn header_at(file: &[u8], at: usize) -> Header
 fn is_header(file: &[u8], at: usize) -> bool
     ensures { result ≡ is_header file.now at }
 {
-    let n = file.len();
-    if n < HEADER {
-        return false;
-    }
-    if n - HEADER < at {
-        return false;
-    }
-    if four(file, at) == MAGIC {
-        return b'2' <= file[at + 4];
-    }
-    false
+    HEADER <= file.len()
+        && at <= file.len() - HEADER
+        && four(file, at) == MAGIC
+        && b'2' <= file[at + 4]
 }
 
 // The octets of a block, whose times have four octets or eight.
@@ -86,29 +73,18 @@ fn block_length(times: usize, leaps: usize, h: Header) -> usize
 fn zero_or(n: usize, k: usize) -> bool
     ensures { result ≡ zero_or n k }
 {
-    if n == 0 {
-        return true;
-    }
-    n == k
+    n == 0 || n == k
 }
 
 // True for counts that the second header may have.
 fn are_counts(h: Header) -> bool
     ensures { result ≡ are_counts h }
 {
-    if h.typecnt == 0 {
-        return false;
-    }
-    if h.charcnt == 0 {
-        return false;
-    }
-    if h.leapcnt != 0 {
-        return false;
-    }
-    if zero_or(h.isutcnt, h.typecnt) {
-        return zero_or(h.isstdcnt, h.typecnt);
-    }
-    false
+    h.typecnt != 0
+        && h.charcnt != 0
+        && h.leapcnt == 0
+        && zero_or(h.isutcnt, h.typecnt)
+        && zero_or(h.isstdcnt, h.typecnt)
 }
 
 // True for a block that may begin at b behind that header, with its footer.
@@ -116,16 +92,8 @@ fn is_block(file: &[u8], b: usize, h: Header) -> bool
     requires { (b ≤ 65536) × Narrow h }
     ensures { result ≡ is_block file.now b h }
 {
-    if are_counts(h) {
-        let end = b + block_length(8 * h.timecnt, 12 * h.leapcnt, h);
-        if file.len() < end {
-            return false;
-        }
-        if are_tables(file, b, h) {
-            return is_footer(file, end);
-        }
-    }
-    false
+    let end = b + block_length(8 * h.timecnt, 12 * h.leapcnt, h);
+    are_counts(h) && end <= file.len() && are_tables(file, b, h) && is_footer(file, end)
 }
 
 // The last of n transition times, 0 where there is none.
@@ -133,10 +101,7 @@ fn last_at(file: &[u8], b: usize, n: usize) -> u64
     requires { b + 8 * n ≤ length file.now }
     ensures { result ≡ last_at file.now b n }
 {
-    if n == 0 {
-        return 0;
-    }
-    time_at(file, b, n - 1)
+    if n == 0 { 0 } else { time_at(file, b, n - 1) }
 }
 
 // The places of a block.
@@ -154,54 +119,32 @@ fn places_at(file: &[u8], b: usize, h: Header) -> Places
 }
 
 // The block behind the second header, at a place.
-fn check_block(file: &[u8], at: usize) -> Checked
+fn check_block(file: &[u8], at: usize) -> Option<Places>
     requires { (at + 44 ≤ length file.now) × (length file.now ≤ 65536) }
     ensures { result ≡ block_of file.now at }
 {
     let h = header_at(file, at);
     let b = at + HEADER;
     if is_block(file, b, h) {
-        return Checked::Is(places_at(file, b, h));
+        Some(places_at(file, b, h))
+    } else {
+        None
     }
-    Checked::Refused
 }
 
-// A file, checked whole.
-pub fn check(file: &[u8]) -> Checked
-    ensures { result ≡ checked_of file.now }
+// The zone of a file, `None` for one that is refused.
+pub fn check(file: &[u8]) -> Option<Zone<'_>>
+    ensures places { option_map (λ z. z.places) result ≡ checked_of file.now }
+    ensures same { IfSome result (λ z. z.file ≡ file.entry) }
 {
-    if MOST < file.len() {
-        return Checked::Refused;
+    if MOST < file.len() || !is_header(file, 0) {
+        return None;
     }
-    if is_header(file, 0) {
-        let h = header_at(file, 0);
-        let at = HEADER + block_length(4 * h.timecnt, 8 * h.leapcnt, h);
-        if is_header(file, at) {
-            return check_block(file, at);
-        }
+    let h = header_at(file, 0);
+    let at = HEADER + block_length(4 * h.timecnt, 8 * h.leapcnt, h);
+    if !is_header(file, at) {
+        return None;
     }
-    Checked::Refused
-}
-
-// Transition i of a checked file.
-pub fn transition_at(file: &[u8], p: Places, i: usize) -> u64
-    requires { IsChecked file.now p × (i < p.count) }
-    ensures { (result ≡ time_at file.now p.times i) × (result < 9223372290225540608) }
-{
-    let times = p.times;
-    time_at(file, times, i)
-}
-
-// The offset behind k transitions of a checked file: that of type 0, or of the last one's type.
-pub fn offset_behind(file: &[u8], p: Places, k: usize) -> u64
-    requires { IsChecked file.now p × (k ≤ p.count) }
-    ensures { (result ≡ offset_behind file.now p k) × (0 < result) × (result < 183600) }
-{
-    let types = p.types;
-    let indexes = p.indexes;
-    if k == 0 {
-        return offset_at(file, types, 0);
-    }
-    let i = k - 1;
-    offset_at(file, types, octet(file, indexes + i) as usize)
+    let places = check_block(file, at)?;
+    Some(Zone { file, places })
 }

@@ -4,3 +4,4 @@
 pub mod file;
 pub mod octets;
 mod tables;
+pub mod zone;

@@ -5,7 +5,8 @@ use mathlib.Core.Bool.{Bool, true, false, cond}
 use mathlib.Core.List.{List}
 use lib.Dec.{ltb}
 use borrow.Author.Tests.{ltb-true}
-use Rattle.refusals.specs.Table.{NoZone}
+use Rattle.std.specs.Prelude.{Option, Some, None}
+use Rattle.refusals.specs.declared.Reason.TheVariants.{NoZone, InvalidMoment, PastLast}
 use Rattle.refusals.specs.Answers.{Answer, given, refused, refuse, and_then}
 use Rattle.calendar.specs.Moments.{refused as unreached}
 use Rattle.lexer.specs.Keywords.{words_in}
@@ -17,8 +18,7 @@ use Rattle.ready.specs.Ready.{ready_of}
 use Rattle.ready.proofs.ReadyPhrases.{Enters, ready_answers_in}
 use Rattle.tzif.specs.Zones.{Zone, IsZone}
 use Rattle.tzif.specs.File.{checked_of, zone_in, zone_by, zone_of}
-use Rattle.tzif.specs.declared.file.Checked.{Checked}
-use Rattle.tzif.specs.declared.file.Checked.TheVariants.{Refused, Is}
+use Rattle.tzif.specs.declared.file.Places.{Places}
 use Rattle.zones.specs.Civil.{civil_of, last_in, in_years}
 use Rattle.zones.specs.Instants.{Good}
 use Rattle.zones.specs.declared.instants.Instant.{Instant}
@@ -39,9 +39,9 @@ module _ (z : Zone) (n : Instant) where
   enters : Enters (λ x. Good z x.second) (enter_at z n)
   enters = record {
     same = λ f g e.
-        where_true (ltb n.millisecond 1000) (unreached 8)
-        (λ _. where_true (ltb n.second (last_in z)) (unreached 22)
-        (λ h. where_true (in_years (civil_of z n.second)) (unreached 8)
+        where_true (ltb n.millisecond 1000) (unreached InvalidMoment)
+        (λ _. where_true (ltb n.second (last_in z)) (unreached PastLast)
+        (λ h. where_true (in_years (civil_of z n.second)) (unreached InvalidMoment)
         (λ k. e n (years_good z n.second (ltb-true n.second (last_in z) h) k))));
   }
 
@@ -68,12 +68,12 @@ unseen (refused q) none = refl
 -- with the file, and what the clocks show: 21 behind 1 to 7
 module _ (reading : Reading) (s file : List ℕ) (n : Instant) where
   by_check :
-      (k : Checked) → checked_of file ≡ k →
+      (k : Option Places) → checked_of file ≡ k →
       and_then (ready_of reading (words_in reading) s) (λ ss. and_then (zone_by file k) (λ z. shown_in z (run_at z ss n)))
       ≡ and_then (read_of reading (words_in reading) s) (λ x. and_then (zone_by file k) (λ z. shown_in z (evaluate_at z x.tree n)))
   unfolding ready_of
-  by_check Refused e = unseen (read_of reading (words_in reading) s) (refuse NoZone 0 0)
-  by_check (Is p) e =
+  by_check None e = unseen (read_of reading (words_in reading) s) (refuse NoZone 0 0)
+  by_check (Some p) e =
       let z = zone_in file p in
       let show : Instant → Answer Local = λ x. given (local_at z x) in
       then_together (ready_of reading (words_in reading) s) (λ ss. placed (run_at z ss n)) show

@@ -5,9 +5,7 @@ use native.Mathlib.Omega.{arith}
 use mathlib.Core.Path.{◌≡◌, refl, ap, sym, subst, ◌∙◌}
 use mathlib.Core.Bool.{Bool, true, false}
 use mathlib.Core.List.{[], ◌∷◌}
-use mathlib.Core.Logic.{⊎_elim}
-use borrow.Author.Tests.{lt-leb}
-use Rattle.digits.proofs.Order.{le-or_lt}
+use Rattle.std.proofs.lemmas.Bool.Decides.{nat_tests}
 use Rattle.calendar.specs.Moments.{moment, Outcome, IsMoment, minutes_step, seconds, moment_at}
 use Rattle.phrase.specs.Tree.{DateTime}
 use Rattle.evaluation.specs.Worlds.{offset}
@@ -19,35 +17,17 @@ use Rattle.zones.specs.Instants.{instant_by, arrive, fixed_from, clock_of, Good,
 use Rattle.zones.specs.declared.instants.Instant.{Instant}
 use Rattle.zoned.specs.InZone.{in_zone}
 use Rattle.calendar.proofs.Seconds.{later_second, earlier_second}
-use Rattle.zones.proofs.Bounds.{through, settle_civil, good_moment, high, arrive_past, arrive_in, arrive_low, back_in, back_out, fixed_keeps}
+use Rattle.zones.proofs.Bounds.{through, settle_civil, good_moment, high, fixed_keeps}
 use Rattle.zoned.proofs.Joins.{zone_lawful}
 use Rattle.zoned.proofs.Follows.{Led, Follows, tree-follows}
 
 module _ (z : Zone) (v : IsZone z) where
   -- what arrives is where it arrives
   arrives : (s y : ℕ) → arrive z s ≡ moment y → s ≡ y
-  arrives s y e = ⊎_elim past here (le-or_lt (last_in z) s)
-    where
-      past : last_in z ≤ s → s ≡ y
-      past h = let f = sym (arrive_past z v s h) ∙ e in let no_way : ◌≡◌ {A = ℕ} 0 1 = cc in absurd (omega arith)
-
-      here : s < last_in z → s ≡ y
-      here h = ⊎_elim in_years_lem under (le-or_lt civil_one (civil_of z s))
-        where
-          in_years_lem : civil_one ≤ civil_of z s → s ≡ y
-          in_years_lem l = let f = sym (arrive_in z v s h l) ∙ e in cc
-
-          under : civil_of z s < civil_one → s ≡ y
-          under l = let f = sym (arrive_low z v s h l) ∙ e in let no_way : ◌≡◌ {A = ℕ} 0 1 = cc in absurd (omega arith)
+  arrives s y e = grind (arith, nat_tests)
 
   back-arrives : (k x y : ℕ) → fixed_from z true k x ≡ moment y → y + 60 * k ≡ x
-  back-arrives k x y e = ⊎_elim within out (le-or_lt (60 * k) x)
-    where
-      within : 60 * k ≤ x → y + 60 * k ≡ x
-      within h = let f = arrives (x - 60 * k) y (sym (back_in z v k x h) ∙ e) in omega arith
-
-      out : x < 60 * k → y + 60 * k ≡ x
-      out h = let f = sym (back_out z v k x h) ∙ e in let no_way : ◌≡◌ {A = ℕ} 0 1 = cc in absurd (omega arith)
+  back-arrives k x y e = grind (arith, nat_tests)
 
   -- between two instants of one offset a fixed length is the calendar's
   fixed-civil :
@@ -81,7 +61,7 @@ module _ (o : ℕ) (r : Row) where
   single = record { first = o; rows = r ∷ [] }
 
   pub one_shift : (x : ℕ) → x < last_in single → shift_at o (r ∷ []) x ≡ o
-  one_shift x h = rw (lt-leb r.at x h)
+  one_shift x h = grind (arith, nat_tests)
 
   module _ (v : IsZone single) where
     -- a civil moment that settles
@@ -96,7 +76,7 @@ module _ (o : ℕ) (r : Row) where
             (λ s _ k. let same : instant_by s t.millisecond ≡ y = cc in subst (λ (x : Instant). x.millisecond < 1000) same h.time.millisecond);
       };
     }
-    settled y (refuses _) e = let no_way : ◌≡◌ {A = ℕ} 0 1 = cc in absurd (omega arith)
+    settled y (refuses _) e = cc
 
     -- a fixed length
     moved : (back : Bool) (k : ℕ) (x y : Instant) → Shown single x → (in_zone single).fixed back k x ≡ moment y →

@@ -1,5 +1,5 @@
 -- What running any list leads to, at any instant of any file's zone: what the clocks show, or a refusal of 8 to 13 or of 21 to 23. So of phrases.
-use Prim.Native.Nat.{ℕ, ◌+◌, ◌-◌, ◌*◌, ◌≤◌, ◌<◌, min}
+use Prim.Native.Nat.{ℕ, ◌+◌, ◌-◌, ◌*◌, ◌<◌, min}
 use native.Mathlib.Omega.{arith}
 use mathlib.Core.Path.{◌≡◌, refl}
 use mathlib.Core.Bool.{Bool, true, false, cond}
@@ -8,13 +8,16 @@ use mathlib.Core.Logic.{◌⊎◌, inl, inr, ⊎_elim}
 use lib.Dec.{leb, ltb}
 use lib.ListN.{length, take, drop}
 use borrow.Author.Tests.{ltb-true}
-use Rattle.refusals.specs.Table.{InvalidMoment, NoSense, Outside, NoZone, PastLast}
+use Rattle.std.specs.Prelude.{Option, Some, None}
+use Rattle.refusals.specs.declared.Reason.{Reason}
+use Rattle.refusals.specs.declared.Reason.TheVariants.{InvalidMoment, NoSense, Outside, NoZone, PastLast}
+use Rattle.refusals.specs.Table.{number_of}
 use Rattle.refusals.specs.Answers.{Answer, given, refusal_at, and_then}
 use Rattle.refusals.specs.declared.Refusal.{Refusal}
 use Rattle.refusals.proofs.Holds.{Holds, of_given, of_refusal, Bounded, given_holds, refusal_holds, then_holds}
 use Rattle.calendar.specs.Moments.{Reach, moment, refused, and_then as reach_then, Outcome, IsMoment}
 use Rattle.calendar.proofs.Valid.{test_range}
-use Rattle.numbers.specs.Slices.{one_if}
+use Rattle.std.proofs.lemmas.Bool.Decides.{nat_tests}
 use Rattle.lexer.specs.Keywords.{words_in}
 use Rattle.lexer.specs.declared.reading.Reading.{Reading}
 use Rattle.phrase.specs.Read.{read_of}
@@ -30,9 +33,8 @@ use Rattle.ready.proofs.ReadyPhrases.{MadeReady, made_ready}
 use Rattle.ready.proofs.Settles.{act_leads, walk_leads}
 use Rattle.tzif.specs.Zones.{Zone, IsZone}
 use Rattle.tzif.specs.File.{checked_of, zone_in, zone_by, zone_of}
-use Rattle.tzif.specs.declared.file.Checked.{Checked}
-use Rattle.tzif.specs.declared.file.Checked.TheVariants.{Refused, Is}
-use Rattle.zones.specs.Civil.{shift_at, civil_of, last_in, resolve, in_years, second_of_moment}
+use Rattle.tzif.specs.declared.file.Places.{Places}
+use Rattle.zones.specs.Civil.{civil_of, last_in, resolve, in_years, second_of_moment}
 use Rattle.zones.specs.Instants.{with_millisecond, arrive, fixed_from, fixed_step, clock_of, instant_at, Good, Shown}
 use Rattle.zones.specs.declared.instants.Instant.{Instant}
 use Rattle.zones.proofs.Resolved.{only_22_23}
@@ -50,7 +52,7 @@ abbrev pub Stops : ℕ → ℕ → Refusal → Type 0
 Stops low n r = Bounded low 13 n r ⊎ Bounded 21 23 0 r
 
 -- its number alone, where the part is empty
-abbrev StopsBy : ℕ → Type 0
+abbrev StopsBy : Reason → Type 0
 StopsBy k = Stops 8 0 (refusal_at k 0 0)
 
 -- what is reached behind what was reached
@@ -70,7 +72,7 @@ module _ (z : Zone) (v : IsZone z) where
 
   -- a second with its millisecond
   with_ends :
-      (ms : ℕ) (r : Reach ℕ) → ms < 1000 → ((s : ℕ) → r ≡ moment s → Good z s) → ((k : ℕ) → r ≡ refused k → StopsBy k) →
+      (ms : ℕ) (r : Reach ℕ) → ms < 1000 → ((s : ℕ) → r ≡ moment s → Good z s) → ((k : Reason) → r ≡ refused k → StopsBy k) →
       Ends (with_millisecond ms r)
   with_ends ms (moment s) small good stops = of_given (record { good = good s refl; small = small })
   with_ends ms (refused k) small good stops = of_refusal (stops k refl)
@@ -79,25 +81,25 @@ module _ (z : Zone) (v : IsZone z) where
   settle_ends : {o : Outcome} → Leads IsMoment o → Ends ((in_zone z).settle o)
   settle_ends (leads {t} m) =
       with_ends t.millisecond (resolve z (second_of_moment t)) m.time.millisecond (settle_keeps z v t)
-      (λ k e. inr (⊎_elim (λ h. omega arith) (λ h. omega arith) (only_22_23 z v.ascending (second_of_moment t) k e)))
-  settle_ends (refuses {k} e) = let b = test_range k 9 13 e in of_refusal {r = refusal_at k 0 0} (inl (omega arith))
+      (λ k e. inr (⊎_elim (λ h. rw h (omega arith)) (λ h. rw h (omega arith)) (only_22_23 z v.ascending (second_of_moment t) k e)))
+  settle_ends (refuses {k} e) = let b = test_range (number_of k) 9 13 e in of_refusal {r = refusal_at k 0 0} (inl (omega arith))
 
   -- a fixed length arrives, or is refused by 12 or 22
-  arrive_stops : (s k : ℕ) → arrive z s ≡ refused k → StopsBy k
+  arrive_stops : (s : ℕ) (k : Reason) → arrive z s ≡ refused k → StopsBy k
   arrive_stops s k e = go (ltb s (last_in z)) (in_years (civil_of z s)) e
     where
       go : (known near : Bool) → cond known (cond near (moment s) (refused Outside)) (refused PastLast) ≡ refused k → StopsBy k
-      go true true e = let no_way : ◌≡◌ {A = ℕ} 0 1 = cc in absurd (omega arith)
-      go true false e = let same : Outside ≡ k = cc in inl (omega arith)
-      go false near e = let same : PastLast ≡ k = cc in inr (omega arith)
+      go true true e = cc
+      go true false e = let same : Outside ≡ k = cc in rw (← same) (inl (omega arith))
+      go false near e = let same : PastLast ≡ k = cc in rw (← same) (inr (omega arith))
 
-  fixed_stops : (back : Bool) (m s k : ℕ) → fixed_from z back m s ≡ refused k → StopsBy k
+  fixed_stops : (back : Bool) (m s : ℕ) (k : Reason) → fixed_from z back m s ≡ refused k → StopsBy k
   fixed_stops false m s k e = arrive_stops (s + 60 * m) k e
   fixed_stops true m s k e = go (leb (60 * m) s) e
     where
       go : (room : Bool) → cond room (arrive z (s - 60 * m)) (refused Outside) ≡ refused k → StopsBy k
       go true e = arrive_stops (s - 60 * m) k e
-      go false e = let same : Outside ≡ k = cc in inl (omega arith)
+      go false e = let same : Outside ≡ k = cc in rw (← same) (inl (omega arith))
 
   fixed_ends : (back : Bool) (m : ℕ) (x : Instant) → Shown z x → Ends (fixed_step z back m x)
   fixed_ends back m x h =
@@ -162,23 +164,16 @@ module _ (z : Zone) (v : IsZone z) where
 
   -- what the clocks show there
   local_is : (x : Instant) → Shown z x → IsLocal (local_at z x)
-  local_is x h = let by = go (shift_at z.first z.rows x.second) (below z v x.second) in record { civil = at_moment x h; west = by.0; offset = by.1 }
-    where
-      go : (o : ℕ) → o < 183600 → (one_if (ltb o 90000) ≤ 1) × (cond (ltb o 90000) (90000 - o) (o - 90000) < 93600)
-      go o most = by_side (ltb o 90000)
-        where
-          by_side : (west : Bool) → (one_if west ≤ 1) × (cond west (90000 - o) (o - 90000) < 93600)
-          by_side true = (omega arith, omega arith)
-          by_side false = (omega arith, omega arith)
+  local_is x h = let o = below z v x.second in record { civil = at_moment x h; offset = grind (arith, nat_tests) }
 
 -- with the file, or 21
 pub run_in_zone_settled : (ss : List Step) (file : List ℕ) (n : Instant) → Holds IsLocal (Stops 8 0) (run_in_zone ss file n)
 unfolding run_in_zone zone_of
 run_in_zone_settled ss file n = go (checked_of file) refl
   where
-    go : (k : Checked) → checked_of file ≡ k → Holds IsLocal (Stops 8 0) (and_then (zone_by file k) (λ z. shown_in z (run_at z ss n)))
-    go Refused e = of_refusal {r = refusal_at NoZone 0 0} (inr (omega arith))
-    go (Is p) e =
+    go : (k : Option Places) → checked_of file ≡ k → Holds IsLocal (Stops 8 0) (and_then (zone_by file k) (λ z. shown_in z (run_at z ss n)))
+    go None e = of_refusal {r = refusal_at NoZone 0 0} (inr (omega arith))
+    go (Some p) e =
         let z = zone_in file p in
         let v = file_zone file p e in
         then_holds (λ x. given (local_at z x)) (run_ends z v ss n) (λ x h. of_given (local_is z v x h))

@@ -2,7 +2,7 @@
 use Rattle.std.specs.Prelude.{cond, List, ltb}
 use Rattle.calendar.specs.Moments.{Reach, refused, and_then}
 use Rattle.phrase.specs.Tree.{DateTime}
-use Rattle.refusals.specs.Table as refusal
+use Rattle.refusals.specs.declared.Reason.TheVariants as refusal
 use Rattle.evaluation.specs.Worlds.{World}
 use Rattle.evaluation.specs.Evaluate.{evaluate_in}
 use Rattle.steps.specs.Running.{run_in}

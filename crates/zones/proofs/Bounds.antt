@@ -1,19 +1,20 @@
 -- By the bounds of a file's zone: before the last transition no civil time passes year 9999, and what is reached can be stood at.
 use Prim.Native.Nat.{ℕ, ◌+◌, ◌-◌, ◌*◌, ◌≤◌, ◌<◌}
 use native.Mathlib.Omega.{arith}
-use mathlib.Core.Path.{◌≡◌, refl, ap, sym, subst, ◌∙◌}
+use mathlib.Core.Path.{◌≡◌, refl, ap, subst, ◌∙◌}
 use mathlib.Core.Bool.{Bool, true, false}
 use mathlib.Core.List.{List, [], ◌∷◌}
-use mathlib.Core.Logic.{⊎_elim}
-use borrow.Author.Tests.{le-leb, lt-leb, lt-ltb, le-ltb}
-use Rattle.digits.proofs.Order.{le-or_lt}
-use Rattle.refusals.specs.Table.{Outside, PastLast}
+use Rattle.std.proofs.lemmas.Bool.Decides.{nat_tests}
+use Rattle.refusals.specs.declared.Reason.{Reason}
+use Rattle.refusals.specs.declared.Reason.TheVariants.{Outside, PastLast}
 use Rattle.calendar.specs.Moments.{Reach, moment, refused, and_then, IsMoment, seconds, second_number}
 use Rattle.calendar.specs.declared.moments.Moment.{Moment}
 use Rattle.tzif.specs.Zones.{Row, Zone, year_one, AllBounded, IsZone}
 use Rattle.tzif.specs.File.{IsChecked, zone_in}
 use Rattle.tzif.specs.declared.file.Places.{Places}
-use Rattle.tzif.proofs.Checked.{known, known_zone}
+use Rattle.tzif.specs.Read.{zone_read}
+use Rattle.tzif.specs.declared.zone.Zone.{Zone as Checked}
+use Rattle.tzif.proofs.Checked.{Known, known, known_zone}
 use Rattle.zones.specs.Civil.{shift_at, last_of, civil_of, last_in, resolve, civil_one, in_years, moment_of_second, second_of_moment}
 use Rattle.zones.specs.Instants.{instant_by, with_millisecond, arrive, fixed_from, fixed_step, clock_of, instant_at, Good, Shown, Kept}
 use Rattle.zones.specs.declared.instants.Instant.{Instant}
@@ -26,13 +27,12 @@ pub through :
     {A B : Type 0} (P : B → Type 0) (o : Reach A) (f : A → Reach B) (y : B) → and_then o f ≡ moment y →
     ((x : A) → o ≡ moment x → f x ≡ moment y → P y) → P y
 through P (moment x) f y e go = go x refl e
-through P (refused k) f y e go = let z : ◌≡◌ {A = ℕ} 0 1 = cc in absurd (omega arith)
+through P (refused k) f y e go = cc
 
 -- every offset is below the bound
 shift-below : (o : ℕ) (rs : List Row) → o < 183600 → AllBounded rs → (s : ℕ) → shift_at o rs s < 183600
 shift-below o [] h b s = h
-shift-below o (r ∷ rs) h b s =
-    ⊎_elim (λ k. rw (le-leb r.at s k) (shift-below r.shift rs b.0.shift b.1 s)) (λ k. rw (lt-leb r.at s k) h) (le-or_lt r.at s)
+shift-below o (r ∷ rs) h b s = let rest = shift-below r.shift rs b.0.shift b.1 s in grind (arith, nat_tests)
 
 -- the last transition is before year 9999
 last_below : (from : ℕ) (rs : List Row) → from < year_one + 315506361600 → AllBounded rs → last_of from rs < year_one + 315506361600
@@ -49,45 +49,27 @@ module _ (z : Zone) (v : IsZone z) where
 
   -- where a fixed length arrives
   pub arrive_past : (s : ℕ) → last_in z ≤ s → arrive z s ≡ refused PastLast
-  arrive_past s h = rw (le-ltb s (last_in z) h)
+  arrive_past s h = grind (arith, nat_tests)
 
   pub arrive_in : (s : ℕ) → s < last_in z → civil_one ≤ civil_of z s → arrive z s ≡ moment s
-  arrive_in s h l = rw (lt-ltb s (last_in z) h, le-leb civil_one (civil_of z s) l, lt-ltb (civil_of z s) (civil_one + seconds) (high s h))
+  arrive_in s h l = let below = high s h in grind (arith, nat_tests)
 
   pub arrive_low : (s : ℕ) → s < last_in z → civil_of z s < civil_one → arrive z s ≡ refused Outside
-  arrive_low s h l = rw (lt-ltb s (last_in z) h, lt-leb civil_one (civil_of z s) l)
+  arrive_low s h l = grind (arith, nat_tests)
 
   pub arrive_good : (s y : ℕ) → arrive z s ≡ moment y → Good z y
-  arrive_good s y e = ⊎_elim past here (le-or_lt (last_in z) s)
-    where
-      past : last_in z ≤ s → Good z y
-      past h = let f = sym (arrive_past s h) ∙ e in let no_way : ◌≡◌ {A = ℕ} 0 1 = cc in absurd (omega arith)
-
-      here : s < last_in z → Good z y
-      here h = ⊎_elim in_years_lem under (le-or_lt civil_one (civil_of z s))
-        where
-          in_years_lem : civil_one ≤ civil_of z s → Good z y
-          in_years_lem l = let f = sym (arrive_in s h l) ∙ e in let same : s ≡ y = cc in subst (Good z) same (record { known = h; low = l })
-
-          under : civil_of z s < civil_one → Good z y
-          under l = let f = sym (arrive_low s h l) ∙ e in let no_way : ◌≡◌ {A = ℕ} 0 1 = cc in absurd (omega arith)
+  arrive_good s y e = record { known = grind (arith, nat_tests); low = grind (arith, nat_tests) }
 
   pub back_out : (k s : ℕ) → s < 60 * k → fixed_from z true k s ≡ refused Outside
-  back_out k s h = rw (lt-leb (60 * k) s h)
+  back_out k s h = grind (arith, nat_tests)
 
   pub back_in : (k s : ℕ) → 60 * k ≤ s → fixed_from z true k s ≡ arrive z (s - 60 * k)
-  back_in k s h = rw (le-leb (60 * k) s h)
+  back_in k s h = grind (arith, nat_tests)
 
   -- a place that a fixed length leads to is good
   pub fixed_keeps : (back : Bool) (k x y : ℕ) → fixed_from z back k x ≡ moment y → Good z y
   fixed_keeps false k x y e = arrive_good (x + 60 * k) y e
-  fixed_keeps true k x y e = ⊎_elim within out (le-or_lt (60 * k) x)
-    where
-      within : 60 * k ≤ x → Good z y
-      within h = arrive_good (x - 60 * k) y (sym (back_in k x h) ∙ e)
-
-      out : x < 60 * k → Good z y
-      out h = let f = sym (back_out k x h) ∙ e in let no_way : ◌≡◌ {A = ℕ} 0 1 = cc in absurd (omega arith)
+  fixed_keeps true k x y e = let good = arrive_good (x - 60 * k) y in grind (arith, nat_tests)
 
   -- a second that a civil moment settles at is good
   pub settle_keeps : (t : Moment) (s : ℕ) → resolve z (second_of_moment t) ≡ moment s → Good z s
@@ -114,7 +96,7 @@ module _ (z : Zone) (v : IsZone z) where
 
   -- every second that a run may stand at has its civil time in years 1 to 9999
   pub good_years : (s : ℕ) → Good z s → in_years (civil_of z s) ≡ true
-  good_years s g = rw (le-leb civil_one (civil_of z s) g.low, lt-ltb (civil_of z s) (civil_one + seconds) (high s g.known))
+  good_years s g = let below = high s g.known in grind (arith, nat_tests)
 
   -- and a moment there
   pub good_moment : (x : Instant) → Good z x.second → x.millisecond < 1000 → IsMoment (clock_of z x)
@@ -137,20 +119,20 @@ module _ (z : Zone) (v : IsZone z) where
   instant_kept t m = with_kept t.millisecond (resolve z (second_of_moment t)) m.time.millisecond (settle_keeps t)
 
 -- a refusal
-pub refused_kept : (z : Zone) (k : ℕ) → Kept z (refused k)
-refused_kept z k = record { kept = λ x e. let no_way : ◌≡◌ {A = ℕ} 0 1 = cc in absurd (omega arith) }
+pub refused_kept : (z : Zone) (k : Reason) → Kept z (refused k)
+refused_kept z k = record { kept = λ x e. cc }
 
--- in the zone of a checked file
-module _ (l : List ℕ) (p : Places) (e : IsChecked l p) where
-  -- whose last transition stands among its places
-  pub before_last : (s : ℕ) → s < p.last → s < last_in (zone_in l p)
-  before_last s h = subst (λ (n : ℕ). s < n) (last_is l p (known l p e)) h
+-- the zone of a checked file
+pub file_zone : (l : List ℕ) (p : Places) → IsChecked l p → IsZone (zone_in l p)
+file_zone l p e = known_zone l p (known l p e)
 
-  pub last_before : (s : ℕ) → s < last_in (zone_in l p) → s < p.last
-  last_before s h = subst (λ (n : ℕ). s < n) (sym (last_is l p (known l p e))) h
+module _ (z : Checked) where
+  pub known_of : Known z.file.now z.places
+  known_of = known z.file.now z.places z.checked
 
-  pub past_last : (s : ℕ) → p.last ≤ s → last_in (zone_in l p) ≤ s
-  past_last s h = subst (λ (n : ℕ). n ≤ s) (last_is l p (known l p e)) h
+  pub zone_bounds : IsZone (zone_read z)
+  zone_bounds = file_zone z.file.now z.places z.checked
 
-  pub file_zone : IsZone (zone_in l p)
-  file_zone = known_zone l p (known l p e)
+  -- its last transition stands among its places
+  pub last_place : z.places.last ≡ last_in (zone_read z)
+  last_place = last_is z.file.now z.places known_of

@@ -3,10 +3,8 @@ use Prim.Native.Nat.{ℕ, ◌+◌, ◌-◌, ◌≤◌, ◌<◌}
 use native.Mathlib.Omega.{arith}
 use mathlib.Core.Path.{◌≡◌}
 use mathlib.Core.List.{List, [], ◌∷◌}
-use mathlib.Core.Logic.{⊎_elim}
-use borrow.Author.Tests.{le-leb, lt-leb, lt-ltb, le-ltb}
+use Rattle.std.proofs.lemmas.Bool.Decides.{nat_tests}
 use Rattle.calendar.specs.Moments.{moment}
-use Rattle.digits.proofs.Order.{le-or_lt}
 use Rattle.tzif.specs.Zones.{Row, Zone}
 use Rattle.zones.specs.Civil.{shift_at, last_of, resolve_from, civil_of, last_in, resolve}
 
@@ -19,18 +17,14 @@ OneOffset o (r ∷ q ∷ rs) = (r.shift ≡ o) × OneOffset o (q ∷ rs)
 -- the offset before the last transition
 one_shift : (o from : ℕ) (rs : List Row) (s : ℕ) → OneOffset o rs → from ≤ s → s < last_of from rs → shift_at o rs s ≡ o
 one_shift o from [] s h l k = absurd (omega arith)
-one_shift o from (r ∷ []) s h l k = rw (lt-leb r.at s k)
-one_shift o from (r ∷ q ∷ rs) s h l k =
-    ⊎_elim (λ m. rw (le-leb r.at s m, h.0) (one_shift o r.at (q ∷ rs) s h.1 m k)) (λ m. rw (lt-leb r.at s m))
-    (le-or_lt r.at s)
+one_shift o from (r ∷ []) s h l k = grind (arith, nat_tests)
+one_shift o from (r ∷ q ∷ rs) s h l k = let rest = one_shift o r.at (q ∷ rs) s h.1 in let same = h.0 in grind (arith, nat_tests)
 
 -- the instant before it
 one-resolve : (o from : ℕ) (rs : List Row) (c : ℕ) → OneOffset o rs → from + o ≤ c → c < last_of from rs + o → resolve_from from o rs c ≡ moment (c - o)
 one-resolve o from [] c h l k = absurd (omega arith)
-one-resolve o from (r ∷ []) c h l k = rw (le-leb (from + o) c l, lt-ltb c (r.at + o) k)
-one-resolve o from (r ∷ q ∷ rs) c h l k =
-    ⊎_elim (λ m. rw (le-leb (from + o) c l, le-ltb c (r.at + o) m, h.0) (one-resolve o r.at (q ∷ rs) c h.1 m k))
-    (λ m. rw (le-leb (from + o) c l, lt-ltb c (r.at + o) m)) (le-or_lt (r.at + o) c)
+one-resolve o from (r ∷ []) c h l k = grind (arith, nat_tests)
+one-resolve o from (r ∷ q ∷ rs) c h l k = let rest = one-resolve o r.at (q ∷ rs) c h.1 in let same = h.0 in grind (arith, nat_tests)
 
 module _ (z : Zone) (h : OneOffset z.first z.rows) where
   pub one-civil : (s : ℕ) → s < last_in z → civil_of z s ≡ s + z.first

@@ -10,7 +10,7 @@ use mathlib.Core.Logic.{⊎_elim}
 use lib.Dec.{leb, ltb}
 use lib.ListN.{drop}
 use borrow.Author.Tests.{le-leb, lt-leb, ne_eqb}
-use Rattle.refusals.specs.Table.{PastLast, NoInstant}
+use Rattle.refusals.specs.declared.Reason.TheVariants.{PastLast, NoInstant}
 use Rattle.calendar.specs.Moments.{moment, refused}
 use Rattle.digits.proofs.Order.{le-or_lt, Tri, below, equal, above, tri}
 use Rattle.tzif.specs.Zones.{Row}

@@ -5,7 +5,9 @@ use mathlib.Core.Path.{◌≡◌, refl, ap, sym, subst, ◌∙◌}
 use mathlib.Core.List.{List, [], ◌∷◌}
 use mathlib.Core.Logic.{◌⊎◌, inl, inr, ⊎_elim}
 use borrow.Author.Tests.{le-leb, lt-leb, lt-ltb, le-ltb}
-use Rattle.refusals.specs.Table.{PastLast, NoInstant}
+use Rattle.std.proofs.lemmas.Bool.Decides.{nat_tests}
+use Rattle.refusals.specs.declared.Reason.{Reason}
+use Rattle.refusals.specs.declared.Reason.TheVariants.{PastLast, NoInstant}
 use Rattle.calendar.specs.Moments.{Reach, moment, refused}
 use Rattle.digits.proofs.Order.{le-or_lt}
 use Rattle.tzif.specs.Zones.{Row, Zone, Ascending}
@@ -30,11 +32,11 @@ last_high from (r ∷ rs) a = omega (arith, last_high r.at rs a.1, a.0)
 module _ (from o : ℕ) (r : Row) (rs : List Row) (c : ℕ) where
   -- before the first transition
   shift_in : (x : ℕ) → x < r.at → shift_at o (r ∷ rs) x ≡ o
-  shift_in x h = rw (lt-leb r.at x h)
+  shift_in x h = grind (arith, nat_tests)
 
   -- and from it on
   shift_on : (x : ℕ) → r.at ≤ x → shift_at o (r ∷ rs) x ≡ shift_at r.shift rs x
-  shift_on x h = rw (le-leb r.at x h)
+  shift_on x h = grind (arith, nat_tests)
 
   module _ (step : from ≤ r.at) where
     onto : (x : ℕ) → Has r.at r.shift rs c x → Has from o (r ∷ rs) c x
@@ -127,17 +129,17 @@ module _ (z : Zone) (a : Ascending 0 z.rows) where
   from_found c s (found x h high least) e =
       let same : x ≡ s = cc in
       subst (Earliest c) same (record { civil = h.same; known = high; least = λ y k. least y (has c y k) })
-  from_found c s (past x h all) e = let y : ◌≡◌ {A = ℕ} 0 1 = cc in absurd (omega arith)
-  from_found c s (never free) e = let y : ◌≡◌ {A = ℕ} 0 1 = cc in absurd (omega arith)
+  from_found c s (past x h all) e = cc
+  from_found c s (never free) e = cc
 
   from_past : (c : ℕ) {R : Reach ℕ} → Second c R → R ≡ refused PastLast → Past c
-  from_past c (found x h high least) e = let y : ◌≡◌ {A = ℕ} 0 1 = cc in absurd (omega arith)
+  from_past c (found x h high least) e = cc
   from_past c (past x h all) e = record { one = x; civil = h.same; all = λ y k. all y (has c y k) }
-  from_past c (never free) e = let y : ◌≡◌ {A = ℕ} 22 23 = cc in absurd (omega arith)
+  from_past c (never free) e = cc
 
   from_never : (c : ℕ) {R : Reach ℕ} → Second c R → R ≡ refused NoInstant → Never c
-  from_never c (found x h high least) e = let y : ◌≡◌ {A = ℕ} 0 1 = cc in absurd (omega arith)
-  from_never c (past x h all) e = let y : ◌≡◌ {A = ℕ} 22 23 = cc in absurd (omega arith)
+  from_never c (found x h high least) e = cc
+  from_never c (past x h all) e = cc
   from_never c (never free) e = record { none = λ x k. free x (has c x k) }
 
   -- the resolved instant is the earliest
@@ -159,12 +161,12 @@ module _ (z : Zone) (a : Ascending 0 z.rows) where
   not-both c p n = n.none p.one p.civil
 
   -- no other refusal
-  refusal_of_lem : (c k : ℕ) {R : Reach ℕ} → Second c R → R ≡ refused k → (k ≡ 22) ⊎ (k ≡ 23)
-  refusal_of_lem c k (found x h high least) e = let y : ◌≡◌ {A = ℕ} 0 1 = cc in absurd (omega arith)
+  refusal_of_lem : (c : ℕ) (k : Reason) {R : Reach ℕ} → Second c R → R ≡ refused k → (k ≡ PastLast) ⊎ (k ≡ NoInstant)
+  refusal_of_lem c k (found x h high least) e = cc
   refusal_of_lem c k (past x h all) e = inl cc
   refusal_of_lem c k (never free) e = inr cc
 
-  pub only_22_23 : (c k : ℕ) → resolve z c ≡ refused k → (k ≡ 22) ⊎ (k ≡ 23)
+  pub only_22_23 : (c : ℕ) (k : Reason) → resolve z c ≡ refused k → (k ≡ PastLast) ⊎ (k ≡ NoInstant)
   only_22_23 c k e = refusal_of_lem c k (at_second c) e
 
   -- resolve of civil is never later

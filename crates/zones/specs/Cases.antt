@@ -1,5 +1,6 @@
 -- Worked seconds, computed: both sides of a gap, of an overlap and of the last transition.
 use Rattle.std.specs.Prelude.{ℕ, ◌+◌, ◌-◌, ◌≡◌, refl, List, [], ◌∷◌, map}
+use Rattle.refusals.specs.declared.Reason.TheVariants.{PastLast, NoInstant}
 use Rattle.calendar.specs.Moments.{Reach, moment, refused}
 use Rattle.tzif.specs.Zones.{Row, Zone}
 use Rattle.zones.specs.Civil.{shift_at, resolve}
@@ -33,8 +34,8 @@ unfoldable pub cases : List Case
 cases =
     -- the gap: its first and its last second don't occur
     case (march + 71999) (moment (march - 1))
-    ∷ case (march + 72000) (refused 23)
-    ∷ case (march + 75599) (refused 23)
+    ∷ case (march + 72000) (refused NoInstant)
+    ∷ case (march + 75599) (refused NoInstant)
     ∷ case (march + 75600) (moment march)
     -- the overlap: its first and its last second are the earlier of two
     ∷ case (november + 71999) (moment (november - 3601))
@@ -43,9 +44,9 @@ cases =
     ∷ case (november + 75600) (moment (november + 3600))
     -- the last transition
     ∷ case (last + 71999) (moment (last - 1))
-    ∷ case (last + 72000) (refused 23)
-    ∷ case (last + 75599) (refused 23)
-    ∷ case (last + 75600) (refused 22)
+    ∷ case (last + 72000) (refused NoInstant)
+    ∷ case (last + 75599) (refused NoInstant)
+    ∷ case (last + 75600) (refused PastLast)
     -- before the first transition type 0 holds
     ∷ case (9223372034137125008 + 72237) (moment 9223372034137125007)
     ∷ []
@@ -61,5 +62,5 @@ pub shifts_as_listed :
 shifts_as_listed = refl
 
 -- "all, if there is none"
-pub none_known : resolve (record { first = 90000; rows = [] }) march ≡ refused 22
+pub none_known : resolve (record { first = 90000; rows = [] }) march ≡ refused PastLast
 none_known = refl

@@ -1,12 +1,11 @@
 -- Instants and civil seconds of a zone, and civil seconds and moments.
-use Rattle.std.specs.Prelude.{ℕ, ◌+◌, ◌-◌, Bool, cond, ◌&&◌, List, [], ◌∷◌, leb, ltb}
-use Rattle.refusals.specs.Table.{PastLast, NoInstant}
+use Rattle.std.specs.Prelude.{ℕ, ◌+◌, ◌-◌, Bool, cond, ◌&&◌, List, [], ◌∷◌, leb, ltb, Result, Ok, Err}
+use Rattle.refusals.specs.declared.Reason.{Reason}
+use Rattle.refusals.specs.declared.Reason.TheVariants.{PastLast, NoInstant}
 use Rattle.calendar.specs.Moments.{Reach, moment, refused}
 use Rattle.calendar.specs.Moments.{second_number, seconds, moment_at}
 use Rattle.calendar.specs.declared.moments.Moment.{Moment}
 use Rattle.tzif.specs.Zones.{Row, Zone, year_one}
-use Rattle.zones.specs.declared.search.Resolved.{Resolved}
-use Rattle.zones.specs.declared.search.Resolved.TheVariants.{At, Refused}
 
 -- the offset of the last transition at or before s
 abbrev pub shift_at : ℕ → List Row → ℕ → ℕ
@@ -37,10 +36,10 @@ module _ (z : Zone) where
   abbrev pub resolve : ℕ → Reach ℕ
   resolve c = resolve_from 0 z.first z.rows c
 
--- the code's answer
-abbrev pub answer_of : Resolved → Reach ℕ
-answer_of (At s) = moment s
-answer_of (Refused k) = refused k
+-- the code's answer, a second or an instant
+abbrev pub answer_of : {A : Type 0} → Result A Reason → Reach A
+answer_of (Ok x) = moment x
+answer_of (Err k) = refused k
 
 -- the first civil second of year 1
 abbrev pub civil_one : ℕ

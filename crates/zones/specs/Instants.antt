@@ -1,13 +1,11 @@
 -- Instants of a zone: their civil moments, the instant of a civil moment, and fixed lengths between instants.
 use Rattle.std.specs.Prelude.{ℕ, ◌+◌, ◌-◌, ◌*◌, ◌≤◌, ◌<◌, ◌≡◌, Bool, true, false, cond, leb, ltb}
-use Rattle.refusals.specs.Table.{Outside, PastLast}
+use Rattle.refusals.specs.declared.Reason.TheVariants.{Outside, PastLast}
 use Rattle.calendar.specs.Moments.{Reach, moment, refused, and_then}
 use Rattle.calendar.specs.declared.moments.Moment.{Moment}
 use Rattle.tzif.specs.Zones.{Zone}
 use Rattle.zones.specs.Civil.{civil_of, last_in, resolve, civil_one, in_years, moment_of_second, second_of_moment}
 use Rattle.zones.specs.declared.instants.Instant.{Instant}
-use Rattle.zones.specs.declared.instants.Arrived.{Arrived}
-use Rattle.zones.specs.declared.instants.Arrived.TheVariants.{At, Refused}
 
 -- an instant by its two numbers: its second, 2^63 added, and the millisecond
 abbrev pub instant_by : ℕ → ℕ → Instant
@@ -16,11 +14,6 @@ instant_by s ms = record { second = s; millisecond = ms }
 -- a second that was reached, with a millisecond
 abbrev pub with_millisecond : ℕ → Reach ℕ → Reach Instant
 with_millisecond ms r = and_then r (λ s. moment (instant_by s ms))
-
--- the code's answer
-abbrev pub arrived_of : Arrived → Reach Instant
-arrived_of (At x) = moment x
-arrived_of (Refused k) = refused k
 
 module _ (z : Zone) where
   -- a second that a fixed length leads to: "22 .. before 12 at a fixed step on the instant"

@@ -14,10 +14,7 @@ const LIMIT: u64 = 9223372290257166608;
 pub fn in_years(c: u64) -> bool
     ensures { result ≡ in_years c }
 {
-    if c < FIRST {
-        return false;
-    }
-    c < LIMIT
+    (FIRST..LIMIT).contains(&c)
 }
 
 // The moment of a civil second, with a millisecond.

@@ -1,47 +1,31 @@
--- `coming::next_day` meets its contract. Assumes nothing.
 use native.Mathlib.Omega.{arith}
+use mathlib.Core.Path.{sym, ◌∙◌}
+use borrow.Author.Tests.{leb-false, ltb-true, ltb-false}
 use Rattle.coming.proofs.Closed.{day_start, day_past, day_late, day_counted, day_found, count_short}
 use Rattle.coming.proofs.next_day.Goals as goal
+use Rattle.coming.proofs.next_day.Goals.{else-n-c-via-then-n-c+else-count_before-c, then-c-ge-DAYS, else-c-ge-DAYS, else-n-c-via-else-n-c}
 
-pub returns-then-b-c : goal.returns-then-b-c
-returns-then-b-c c =
+pub returns-then-b-c-clause-value : goal.returns-then-b-c-clause-value
+returns-then-b-c-clause-value c = day_start _ _ _ _ _ _ c.if-b-c.true
+
+pub returns-then-b-ge-DAYS-clause-value : goal.returns-then-b-ge-DAYS-clause-value
+returns-then-b-ge-DAYS-clause-value c = day_past _ _ _ _ _ _ c.if-b-c.false c.if-b-ge-DAYS.true
+
+pub returns-then-count_before-c-clause-value : goal.returns-then-count_before-c-clause-value
+returns-then-count_before-c-clause-value c =
     let is = c.requires.0 in
-    (day_start _ _ _ _ _ _ c.if-b-c.true (omega (arith, is.begins, is.ends)), omega (arith, is.begins, is.ends))
+    day_found _ _ _ _ _ _ _ c.if-b-c.false c.if-b-ge-DAYS.false c.first_from-n.ensures c.if-n-c.true is.ends (elim c.if-c-ge-DAYS.branch [
+      | then-c-ge-DAYS w ↦
+          count_short _ _ _ c.args.c.limit _ _ is.least is.matches (omega arith) c.if-b-ge-DAYS.false w.if-c-ge-DAYS.true
+      | else-c-ge-DAYS w ↦ rw (← w.count_before.ensures) (ltb-true _ _ (sym w.value-is ∙ c.if-count_before-c.true))
+    ])
 
-pub returns-then-b-ge-DAYS : goal.returns-then-b-ge-DAYS
-returns-then-b-ge-DAYS c = (day_past _ _ _ _ _ _ c.if-b-c.false c.if-b-ge-DAYS.true, omega arith)
-
-pub first_from-n-requires : goal.first_from-n-requires
-first_from-n-requires c = let later = c.if-b-c.false in (c.requires.0, omega (arith, later), c.if-b-ge-DAYS.false)
-
-pub returns-then-n-c : goal.returns-then-n-c
-returns-then-n-c c = (day_late _ _ _ _ _ _ _ c.if-b-c.false c.if-b-ge-DAYS.false c.first_from-n.ensures c.if-n-c.true, omega arith)
-
-pub returns-then-c-ge-DAYS : goal.returns-then-c-ge-DAYS
-returns-then-c-ge-DAYS c =
-    let is = c.requires.0 in
-    let later = c.if-b-c.false in
-    let short = count_short _ _ _ c.args.c.limit _ _ is.least is.matches (omega (arith, later))
-    c.if-b-ge-DAYS.false c.if-c-ge-DAYS.true in (
-      day_found _ _ _ _ _ _ _ later c.if-b-ge-DAYS.false c.first_from-n.ensures c.if-n-c.false is.ends short,
-      omega (arith, c.first_from-n.ensures),
-    )
-
-pub count_before-requires : goal.count_before-requires
-count_before-requires c =
-    let later = c.if-b-c.false in
-    (c.requires.0, omega (arith, later), c.if-b-ge-DAYS.false)
-
-pub returns-then-count_before-c : goal.returns-then-count_before-c
-returns-then-count_before-c c =
-    let before = c.count_before.ensures in
-    (day_counted _ _ _ _ _ _ c.if-b-c.false (rw before at c.if-count_before-c.true), omega arith)
-
-pub returns : goal.returns
-returns c =
-    let is = c.requires.0 in
-    let before = c.count_before.ensures in (
-      day_found _ _ _ _ _ _ _ c.if-b-c.false c.if-b-ge-DAYS.false c.first_from-n.ensures
-          c.if-n-c.false is.ends (rw before at c.if-count_before-c.false),
-      omega (arith, c.first_from-n.ensures),
-    )
+pub returns-else-n-c-clause-value : goal.returns-else-n-c-clause-value
+returns-else-n-c-clause-value c =
+    elim c.else-n-c.branch [
+      | else-n-c-via-then-n-c+else-count_before-c w ↦ day_counted _ _ _ _ _ _ c.if-b-c.false (elim w.if-c-ge-DAYS.branch [
+        | then-c-ge-DAYS w' ↦ absurd (omega (arith, leb-false _ _ (sym w'.value-is ∙ w.if-count_before-c.false)))
+        | else-c-ge-DAYS w' ↦ rw (← w'.count_before.ensures) (ltb-false _ _ (sym w'.value-is ∙ w.if-count_before-c.false))
+      ])
+      | else-n-c-via-else-n-c w ↦ day_late _ _ _ _ _ _ _ c.if-b-c.false c.if-b-ge-DAYS.false c.first_from-n.ensures w.if-n-c.false
+    ]

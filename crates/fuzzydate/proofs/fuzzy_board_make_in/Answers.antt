@@ -1,8 +1,12 @@
-use mathlib.Core.Path.{◌∙◌}
+use Rattle.std.proofs.Common.{ap, ◌∙◌}
+use Rattle.fuzzydate.specs.Called.{done_code}
 use Rattle.fuzzydate.proofs.BoardNumbers.{make_code}
 use Rattle.fuzzydate.proofs.fuzzy_board_make_in.Goals as goal
 
 pub returns : goal.returns
 returns c =
-    let at = c.moment_in.ensures in
-    record { by_index = (λ ready keys. rw (← at) (c.make.ensures.by_index ready keys ∙ make_code _ _)); by_index_2 = rw (← at) c.make.ensures.by_index_2 }
+    let at = c.into.ensures in
+    record {
+      value = λ ready keys. rw (← at) (c.done.ensures ∙ ap done_code (c.make.ensures.value ready keys) ∙ make_code _ _);
+      state_after = rw (← at) c.make.ensures.state_after;
+    }

@@ -1,7 +1,11 @@
-use mathlib.Core.Path.{◌∙◌}
+use Rattle.std.proofs.Common.{ap, ◌∙◌}
+use Rattle.fuzzydate.specs.Called.{done_code}
 use Rattle.fuzzydate.proofs.BoardNumbers.{remove_code}
 use Rattle.fuzzydate.proofs.fuzzy_board_remove_in.Goals as goal
 
 pub returns : goal.returns
 returns c =
-    record { by_index = (λ ready. c.remove.ensures.by_index ready ∙ remove_code _ _); by_index_2 = c.remove.ensures.by_index_2 }
+    record {
+      value = λ ready. c.done.ensures ∙ ap done_code (c.remove.ensures.value ready) ∙ remove_code _ _;
+      state_after = c.remove.ensures.state_after;
+    }

@@ -3,8 +3,8 @@ use Rattle.fuzzydate.proofs.fuzzy_next.Goals as goal
 
 pub returns : goal.returns
 returns c =
-    let start = c.moment_in in
-    let asked = c.moment_in-2 in
+    let start = c.into in
+    let asked = c.into-2 in
     let whole = told_whole c.args.rule.now start.result asked.result in
     let next_of = c.next_of.ensures in
     record {

@@ -1,28 +1,20 @@
-use mathlib.Core.Path.{sym}
-use borrow.Author.Tests.{eq-eqb, ne_eqb}
-use borrow.Enum.Refused.{opened}
+use native.Mathlib.Omega.{arith}
+use Rattle.std.proofs.lemmas.Grind.{common_steps}
 use Rattle.numbers.specs.Numbers.{tens_of}
-use Rattle.numbers.proofs.NumberAnswers.{passed, promised}
+use Rattle.numbers.proofs.NumberAnswers.{promised}
 use Rattle.numbers.proofs.NumberBounds.{tens_taken}
 use Rattle.numbers.proofs.tens.Goals as goal
 
-pub returns-in_default : goal.returns-in_default
+pub returns-in_err-tens-clause-value : goal.returns-in_err-tens-clause-value
 unfolding tens_of
-returns-in_default c =
-    let all = promised
-    (rw (← c.take_if-tokens.ensures.value, ← c.word-a.ensures) (sym (passed _ _ (opened c.in_default.in_default-own.keys2))))
-    (tens_taken _) in record { value = all.0; taken = all.1 }
+returns-in_err-tens-clause-value c = grind (arith, common_steps)
 
-pub returns-then-n-eq0 : goal.returns-then-n-eq0
-unfolding tens_of
-returns-then-n-eq0 c =
-    let take-if = c.take_if-tokens in
-    let word = c.word-a in
-    let all = promised (rw (← take-if.ensures.value, ← word.ensures, c.in-Is.is, eq-eqb _ _ c.if-n-eq0.true)) (tens_taken _) in record { value = all.0; taken = all.1 }
+pub returns-in_err-tens-clause-taken : goal.returns-in_err-tens-clause-taken
+returns-in_err-tens-clause-taken c = (promised (returns-in_err-tens-clause-value c) (tens_taken _)).1
 
-pub returns : goal.returns
+pub returns-clause-value : goal.returns-clause-value
 unfolding tens_of
-returns c =
-    let take-if = c.take_if-tokens in
-    let word = c.word-a in
-    let all = promised (rw (← take-if.ensures.value, ← word.ensures, c.in-Is.is, ne_eqb _ _ c.if-n-eq0.false)) (tens_taken _) in record { value = all.0; taken = all.1 }
+returns-clause-value c = grind (arith, common_steps)
+
+pub returns-clause-taken : goal.returns-clause-taken
+returns-clause-taken c = (promised (returns-clause-value c) (tens_taken _)).1

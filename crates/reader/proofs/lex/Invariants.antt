@@ -1,20 +1,17 @@
--- `reader::lex` meets its contract. The loop's invariant: the first i lexemes that are gathered are copied. Assumes nothing.
+-- `reader::lex` meets its contract. The loop's invariant: the reader stands in the phrase, and what was read so far is in front of what is left.
+-- Assumes nothing.
 use mathlib.Core.Path.{◌≡◌}
-use mathlib.Core.List.{List}
-use Prim.Native.Nat.{ℕ, ◌-◌, ◌≤◌}
-use lib.ListN.{take}
-use lib.Seq.{sets}
-use Rattle.reader.specs.declared.gather.Gathered.{Gathered}
+use Prim.Native.Nat.{◌-◌}
+use Rattle.lexer.specs.Keywords.{words_in}
+use Rattle.lexer.proofs.Lines.{Read}
 use Rattle.reader.proofs.lex.Given as goal
 
--- the first i of the lexemes that are gathered stand in the arrays
-pub record Copied (g : Gathered) (codes₀ starts₀ codes starts : List ℕ) (i : ℕ) : Type 0 where
-  pub within : i ≤ g.count
-  pub codes_are : codes ≡ sets codes₀ 0 (take i g.codes)
-  pub starts_are : starts ≡ sets starts₀ 0 (take i g.starts)
+abbrev pub invariant-loop-token : goal.invariant-loop-token
+invariant-loop-token l = record {
+  same_reading : l.reader.reading ≡ l.fn.reading;
+  same_phrase : l.reader.phrase.now ≡ l.fn.phrase;
+  read : Read (words_in l.fn.reading) l.fn.phrase l.initial.codes l.initial.starts l.codes l.starts l.count l.reader.at;
+}
 
-abbrev pub invariant-loop-i : goal.invariant-loop-i
-invariant-loop-i l = Copied l.g l.initial.codes l.initial.starts l.codes l.starts l.i
-
-abbrev pub decreases-loop-i : goal.decreases-loop-i
-decreases-loop-i l = l.n - l.i
+abbrev pub decreases-loop-token : goal.decreases-loop-token
+decreases-loop-token l = 64 - l.count

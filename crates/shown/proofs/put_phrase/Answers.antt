@@ -7,21 +7,24 @@ use native.Mathlib.Omega.{arith}
 use borrow.Author.Tests.{le-leb, lt-leb}
 use lib.ListN.{length, length-append}
 use Rattle.digits.proofs.Stores.{sets-append}
-use Rattle.shown.specs.Phrases.{rest_text}
+use Rattle.shown.specs.Phrases.{rest_text, phrase_text}
 use Rattle.shown.proofs.put_phrase.Goals as goal
 
 pub returns-then-out-n : goal.returns-then-out-n
+unfolding phrase_text
 returns-then-out-n c =
     let args = c.args in
-    let text = args.name.now ++ rest_text args.t in
-    let size = length-append args.name.now (rest_text args.t) in
-    rw (lt-leb (length text) (length args.out.now) (omega (arith, c.if-out-n.true, c.rest_size.ensures))) (record { value = refl; buffer = refl })
+    let name = c.month_name-name.result.now in
+    let size = length-append name (rest_text args.t) in
+    rw (← c.month_name-name.ensures.0, lt-leb (length (name ++ rest_text args.t)) (length args.out.now) (omega (arith, c.if-out-n.true, c.rest_size.ensures)))
+    (record { value = refl; buffer = refl })
 
 pub returns : goal.returns
+unfolding phrase_text
 returns c =
     let args = c.args in
-    let text = args.name.now ++ rest_text args.t in
-    let rest = c.rest_size.ensures.0 in
-    let size = length-append args.name.now (rest_text args.t) in
-    let sum : length args.name.now + c.rest_size.result ≡ length text = omega arith in
-    rw (le-leb (length text) (length args.out.now) (omega (arith, c.if-out-n.false))) (record { value = rw sum; buffer = rw (c.put_rest.ensures, c.put_bytes.ensures, sets-append args.name.now (rest_text args.t), zero-add) })
+    let name = c.month_name-name.result.now in
+    let size = length-append name (rest_text args.t) in
+    let sum : length name + c.rest_size.result ≡ length (name ++ rest_text args.t) = omega (arith, c.rest_size.ensures) in
+    rw (← c.month_name-name.ensures.0, le-leb (length (name ++ rest_text args.t)) (length args.out.now) (omega (arith, c.if-out-n.false)))
+    (record { value = rw sum; buffer = rw (c.put_rest.ensures, c.put_bytes.ensures, sets-append name (rest_text args.t), zero-add) })

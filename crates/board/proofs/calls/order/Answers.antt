@@ -11,4 +11,4 @@ pub returns : goal.returns
 unfolding order_of
 returns c =
     let n = c.count in
-    record { by_index = (λ ready lengths. rw (← n.ensures.0) c.put_slots.ensures.value); by_index_2 = λ ready lengths. rw (← n.ensures.0) c.put_slots.ensures.slots_after }
+    record { value = (λ ready lengths. rw (← n.ensures.0) c.put_slots.ensures.value); slots_after = λ ready lengths. rw (← n.ensures.0) c.put_slots.ensures.slots_after }

@@ -1,13 +1,18 @@
 use native.Mathlib.Omega.{arith}
-use borrow.Author.Tests.{lt-ltb, le-ltb}
+use mathlib.Core.Path.{sym, ◌∙◌}
+use Rattle.board.specs.Boards.{memory}
+use Rattle.board.proofs.Free.{found_within, slot_found, none_found}
 use Rattle.board.proofs.slots.free_slot.Goals as goal
 
-pub returns-then-count-lt-BOARD_SLOTS : goal.returns-then-count-lt-BOARD_SLOTS
-returns-then-count-lt-BOARD_SLOTS c =
-    let few = c.if-count-lt-BOARD_SLOTS.true in
-    let count = c.count in
-    record { by_index = (λ ready keys. rw (← count.ensures.0, lt-ltb _ _ few) c.lowest_free.ensures); state_bound = λ h. rw (← count.ensures.0) few }
+pub returns-then-count-eq-BOARD_SLOTS-clause-value : goal.returns-then-count-eq-BOARD_SLOTS-clause-value
+returns-then-count-eq-BOARD_SLOTS-clause-value c =
+    λ ready keys. none_found (memory ready c.args.lengths.now keys c.args.state.now) (omega (arith, c.count.ensures.0))
 
 pub returns : goal.returns
 returns c =
-    record { by_index = (λ ready keys. rw (← c.count.ensures.0, le-ltb _ _ c.if-count-lt-BOARD_SLOTS.false)); state_bound = λ h. absurd (omega arith) }
+    let a = c.args in
+    let found = c.lowest_free.ensures in
+    record {
+      value = λ ready keys. rw found (slot_found (memory ready a.lengths.now keys a.state.now) c.told-lengths (omega (arith, c.count.ensures)));
+      bounds = λ s e. (omega (arith, found_within a.lengths.now s (sym found ∙ e), c.told-lengths), omega (arith, c.count.ensures));
+    }

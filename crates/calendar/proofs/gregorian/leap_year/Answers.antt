@@ -11,8 +11,8 @@ pub returns-then-y-eq0 : goal.returns-then-y-eq0
 unfolding leap_year
 returns-then-y-eq0 c = simp (eq-eqb _ _ c.if-y-eq0.true, and-false) (sixteenth _ c.if-y-eq0.true)
 
-pub returns : goal.returns
+pub returns-else-y-eq0 : goal.returns-else-y-eq0
 unfolding leap_year
-returns c =
+returns-else-y-eq0 c =
     let no-cycle = ne_eqb (c.args.y % 400) 0 (λ e. c.if-y-eq0.false (omega arith)) in
     simp (ne_eqb _ _ c.if-y-eq0.false, no-cycle, and-true, or-false)

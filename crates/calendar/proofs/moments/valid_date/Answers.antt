@@ -1,10 +1,11 @@
+use Rattle.std.proofs.Common.{rules}
 use Rattle.calendar.specs.Moments.{is_date}
 use Rattle.calendar.proofs.moments.valid_date.Goals as goal
 
-pub returns-then-in_range : goal.returns-then-in_range
+pub returns-then-contains : goal.returns-then-contains
 unfolding is_date
-returns-then-in_range c = rw (← c.in_range.ensures, c.if-in_range.true, c.valid_day.ensures)
+returns-then-contains c = search rules
 
-pub returns : goal.returns
+pub returns-else-contains : goal.returns-else-contains
 unfolding is_date
-returns c = rw (← c.in_range.ensures, c.if-in_range.false)
+returns-else-contains c = search rules

@@ -1,4 +1,3 @@
--- `coming::before::count_before` meets its contract. Assumes nothing.
 use Rattle.repeats.proofs.Rules.{monthly_start}
 use Rattle.coming.specs.Counts.{count_daily, count_before}
 use Rattle.coming.proofs.before.count_before.Goals as goal

@@ -1,4 +1,3 @@
--- `coming::before::count_monthly` meets its contract. Assumes nothing.
 use Prim.Native.Nat.{◌≤◌}
 use native.Mathlib.Omega.{arith}
 use Rattle.calendar.proofs.Dates.{is_date_lem}

@@ -1,4 +1,3 @@
--- `coming::before::count_weekly` meets its contract. Assumes nothing.
 use Rattle.repeats.specs.Occurrences.{weekdays_of}
 use Rattle.coming.proofs.Weekly.{Ranked, ranked}
 use Rattle.coming.proofs.before.count_weekly.Goals as goal

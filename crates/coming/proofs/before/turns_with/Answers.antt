@@ -1,4 +1,3 @@
--- `coming::before::turns_with` meets its contract. Assumes nothing.
 use mathlib.Core.Path.{◌∙◌}
 use native.Mathlib.Omega.{arith}
 use Rattle.coming.proofs.Sums.{common_test, rare_test}
@@ -14,12 +13,12 @@ pub returns-then-valid_day-2 : goal.returns-then-valid_day-2
 returns-then-valid_day-2 c =
     let a = c.args in
     let common = c.valid_day.ensures ∙ common_test a.n a.day (omega arith) in
-    let rare = c.valid_day-2.ensures ∙ rare_test a.n a.day (omega arith) in
+    let rare = c.valid_day-else-valid_day.ensures ∙ rare_test a.n a.day (omega arith) in
     rw (← common, c.if-valid_day.false, ← rare, c.if-valid_day-2.true) c.leap_years.ensures
 
-pub returns : goal.returns
-returns c =
+pub returns-else-valid_day-2 : goal.returns-else-valid_day-2
+returns-else-valid_day-2 c =
     let a = c.args in
     let common = c.valid_day.ensures ∙ common_test a.n a.day (omega arith) in
-    let rare = c.valid_day-2.ensures ∙ rare_test a.n a.day (omega arith) in
+    let rare = c.valid_day-else-valid_day.ensures ∙ rare_test a.n a.day (omega arith) in
     rw (← common, c.if-valid_day.false, ← rare, c.if-valid_day-2.false) (omega arith, omega arith)

@@ -6,7 +6,7 @@ use Rattle.dates.proofs.duration.read_duration.Given as goal
 
 -- what was passed, and then what is joined to it, is the answer
 abbrev pub invariant-loop-reading : goal.invariant-loop-reading
-invariant-loop-reading l = Joined sub_daily_kept l.reading (taken_answer (duration_of l.reading l.l)) l.l l.end l.sub_daily
+invariant-loop-reading l = Joined sub_daily_kept l.reading (taken_answer (duration_of l.reading l.l)) l.l l.taken l.sub_daily
 
 abbrev pub decreases-loop-reading : goal.decreases-loop-reading
-decreases-loop-reading l = length l.l - l.end
+decreases-loop-reading l = length l.l - l.taken

@@ -14,6 +14,3 @@ pub record Behind (out₀ out : List ℕ) (at k n i rest : ℕ) : Type 0 where
 
 abbrev pub invariant-loop-i : goal.invariant-loop-i
 invariant-loop-i l = Behind l.initial.out l.out l.at l.k l.n l.i l.rest
-
-abbrev pub decreases-loop-i : goal.decreases-loop-i
-decreases-loop-i l = l.i

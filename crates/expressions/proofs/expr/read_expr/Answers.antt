@@ -1,36 +1,26 @@
-use mathlib.Core.Path.{ap}
 use native.Mathlib.Omega.{arith}
-use Rattle.dates.specs.Dates.{parsed_date}
-use Rattle.dates.proofs.Parsed.{found}
+use Rattle.std.proofs.lemmas.Grind.{common_steps}
 use Rattle.expressions.specs.DateExprs.{date_expr_of}
 use Rattle.expressions.proofs.ExprAnswers.{expr_promised}
 use Rattle.expressions.proofs.expr.read_expr.Goals as goal
 
-pub read_tail-requires : goal.read_tail-requires
-read_tail-requires c =
-    let b = found (ap parsed_date c.in-Is.is) c.read_date.ensures.took in
-    omega arith
-
-pub returns-in-Is : goal.returns-in-Is
+pub returns-in_err-d-clause-value : goal.returns-in_err-d-clause-value
 unfolding date_expr_of
-returns-in-Is c =
-    let all = expr_promised c.args.reading c.args.l.now (rw (
-      ← c.read_date.ensures.result_value,
-      c.in-Is.is,
-    ) c.read_tail.ensures) in record { value = all.0; expr_counted = all.1 }
+returns-in_err-d-clause-value c = grind (arith, common_steps)
 
-pub returns-in-Nothing : goal.returns-in-Nothing
-unfolding date_expr_of
-returns-in-Nothing c =
-    let all = expr_promised c.args.reading c.args.l.now (rw (
-      ← c.read_date.ensures.result_value,
-      c.in-Nothing.is,
-    ) c.read_undated.ensures) in record { value = all.0; expr_counted = all.1 }
+pub returns-in_err-d-clause-expr_counted : goal.returns-in_err-d-clause-expr_counted
+returns-in_err-d-clause-expr_counted c = (expr_promised c.args.reading c.args.l.now (returns-in_err-d-clause-value c)).1
 
-pub returns-in-Overflow : goal.returns-in-Overflow
+pub returns-in-Some-clause-value : goal.returns-in-Some-clause-value
 unfolding date_expr_of
-returns-in-Overflow c =
-    let all = expr_promised c.args.reading c.args.l.now (rw (
-      ← c.read_date.ensures.result_value,
-      c.in-Overflow.is,
-    )) in record { value = all.0; expr_counted = all.1 }
+returns-in-Some-clause-value c = grind (arith, common_steps)
+
+pub returns-in-Some-clause-expr_counted : goal.returns-in-Some-clause-expr_counted
+returns-in-Some-clause-expr_counted c = (expr_promised c.args.reading c.args.l.now (returns-in-Some-clause-value c)).1
+
+pub returns-in-None-clause-value : goal.returns-in-None-clause-value
+unfolding date_expr_of
+returns-in-None-clause-value c = grind (arith, common_steps)
+
+pub returns-in-None-clause-expr_counted : goal.returns-in-None-clause-expr_counted
+returns-in-None-clause-expr_counted c = (expr_promised c.args.reading c.args.l.now (returns-in-None-clause-value c)).1

@@ -11,39 +11,38 @@ use Rattle.lexer.specs.Keywords.{words_in, count_in}
 use Rattle.lexer.specs.Words.{Word, ordered}
 use Rattle.lexer.specs.Table.{sorted, spelling_at, Stands}
 use Rattle.lexer.specs.Visits.{onward, visits}
-use Rattle.lexer.specs.declared.find.Order.{Order}
-use Rattle.lexer.specs.declared.find.Order.TheVariants.{Less, Same, More}
-use Rattle.lexer.specs.declared.find.Found.{Found}
-use Rattle.lexer.specs.declared.find.Found.TheVariants.{Lexeme}
+use Rattle.std.specs.declared.cmp.Ordering.{Ordering}
+use Rattle.std.specs.declared.cmp.Ordering.TheVariants.{Less, Equal, Greater}
+use Rattle.std.specs.Prelude.{Option, Some}
 use Rattle.lexer.specs.declared.find.Looked.{Looked}
 use Rattle.lexer.specs.declared.reading.Reading.{Reading}
 use Rattle.lexer.proofs.Order.{clash}
 use Rattle.lexer.proofs.Sorting.{meaning_sorted}
 use Rattle.lexer.proofs.Halves.{all_less, all_more, none_before, absent, present}
-use Rattle.lexer.proofs.Rows.{rows_count, rows_increasing, count_most, in_table, row_short, row_small}
+use Rattle.lexer.proofs.Rows.{rows_count, rows_increasing, in_table, row_short, row_small}
 use Rattle.lexer.proofs.Visited.{visits_part}
 use Rattle.lexer.proofs.find.find.Invariants.{Below, Above}
 use Rattle.lexer.proofs.find.find.Goals as goal
-use Rattle.lexer.proofs.find.find.Goals.{After-compare-o}
+use Rattle.lexer.proofs.find.find.Goals.{After-compare-order}
 
 -- an answer by its two parts
-looked : {f g : Found} {n m : ℕ} → f ≡ g → n ≡ m → ◌≡◌ {A = Looked} (record { found = f; count = n }) (record { found = g; count = m })
+looked : {f g : Option ℕ} {n m : ℕ} → f ≡ g → n ≡ m → ◌≡◌ {A = Looked} (record { code = f; count = n }) (record { code = g; count = m })
 looked e d = cc
 
 -- no row is left between `lo` and `hi`: none spells w
 none_left : (ws : List Word) (w : List ℕ) (lo hi : ℕ) → hi ≤ lo → Below ws w lo → Above ws w hi
-    → (k : ℕ) → k < length ws → ordered (spelling_at ws k) w ≡ Same → ⊥
+    → (k : ℕ) → k < length ws → ordered (spelling_at ws k) w ≡ Equal → ⊥
 none_left ws w lo hi l low high k h = go (tri k lo)
   where
-    go : Tri k lo → ordered (spelling_at ws k) w ≡ Same → ⊥
+    go : Tri k lo → ordered (spelling_at ws k) w ≡ Equal → ⊥
     go (below a) e = clash (low k a) e tt
     go (equal a) e = clash (high k (omega arith) h) e tt
     go (above a) e = clash (high k (omega arith) h) e tt
 
 -- the middle row beside the word
-module _ (c : After-compare-o) where
+module _ (c : After-compare-order) where
   abbrev reading : Reading
-  reading = c.args.reading
+  reading = c.args.words.reading
 
   abbrev rows : List Word
   rows = sorted (words_in reading)
@@ -59,12 +58,12 @@ module _ (c : After-compare-o) where
   mid_in = in_table reading mid mid_below
 
   -- how it stands to the word is what was compared
-  compared : (w : List ℕ) → Stands c.args.head c.args.tail w → ordered (spelling_at rows mid) w ≡ c.compare-o.result
+  compared : (w : List ℕ) → Stands c.args.head c.args.tail w → ordered (spelling_at rows mid) w ≡ c.compare-order.result
   compared w k =
-      k.orders (spelling_at rows mid) (row_small reading mid mid_below) (row_short reading mid mid_below) ∙ sym c.compare-o.ensures
+      k.orders (spelling_at rows mid) (row_small reading mid mid_below) (row_short reading mid mid_below) ∙ sym c.compare-order.ensures
 
   -- the rows left have it in the middle
-  halved : (w : List ℕ) → Stands c.args.head c.args.tail w → (o : Order) → c.compare-o.result ≡ o
+  halved : (w : List ℕ) → Stands c.args.head c.args.tail w → (o : Ordering) → c.compare-order.result ≡ o
       → visits (slice c.loop-lo.lo c.loop-lo.hi rows) w
       ≡ suc (onward o (visits (slice (mid + 1) c.loop-lo.hi rows) w) (visits (slice c.loop-lo.lo mid rows) w))
   halved w k o e =
@@ -73,9 +72,9 @@ module _ (c : After-compare-o) where
 
 pub loop-lo-init : goal.loop-lo-init
 loop-lo-init c =
-    let reading = c.args.reading in
+    let reading = c.args.words.reading in
     let count = rows_count reading in
-    let hi : c.count_in-hi.result ≡ count_in reading = c.count_in-hi.ensures in
+    let hi : c.count-hi.result ≡ count_in reading = c.count-hi.ensures in
     record {
       within = omega arith;
       ends = omega arith;
@@ -83,31 +82,13 @@ loop-lo-init c =
       known = λ w k. record {
         low = λ i h. absurd (omega arith);
         high = λ i h l. absurd (omega arith);
-        counted = omega (arith, ap (λ (ws : List Word). visits ws w) (take_all c.count_in-hi.result (sorted (words_in reading)) (omega arith)));
+        counted = omega (arith, ap (λ (ws : List Word). visits ws w) (take_all c.count-hi.result (sorted (words_in reading)) (omega arith)));
       };
     }
 
-pub overflow_add-mid : goal.overflow_add-mid
-overflow_add-mid c = omega (arith, count_most c.args.reading)
-
-pub overflow_sub-mid : goal.overflow_sub-mid
-overflow_sub-mid c = omega arith
-
-pub compare-o-requires : goal.compare-o-requires
-compare-o-requires c = (c.requires, omega arith)
-
-pub overflow_add-count : goal.overflow_add-count
-overflow_add-count c = omega (arith, count_most c.args.reading)
-
-pub overflow_add-lo : goal.overflow_add-lo
-overflow_add-lo c = omega arith
-
-pub loop-lo-smaller-in-Less : goal.loop-lo-smaller-in-Less
-loop-lo-smaller-in-Less c = omega arith
-
 pub loop-lo-preserved-in-Less : goal.loop-lo-preserved-in-Less
 loop-lo-preserved-in-Less c =
-    let here = (goal.at.loop-lo-preserved-in-Less c).After-compare-o in
+    let here = (goal.at.loop-lo-preserved-in-Less c).After-compare-order in
     let told = c.in-Less.is in
     record {
       within = omega arith;
@@ -122,27 +103,21 @@ loop-lo-preserved-in-Less c =
           };
     }
 
-pub lexeme_at-requires : goal.lexeme_at-requires
-lexeme_at-requires c = (c.requires, omega arith)
-
-pub returns-in-Same : goal.returns-in-Same
-returns-in-Same c =
-    let here = (goal.at.returns-in-Same c).After-compare-o in
+pub returns-in-Equal : goal.returns-in-Equal
+returns-in-Equal c =
+    let here = (goal.at.returns-in-Equal c).After-compare-order in
     λ w k.
-    let told = c.in-Same.is in
-    let e : ordered (spelling_at (rows here) (mid here)) w ≡ Same = compared here w k ∙ told in
+    let told = c.in-Equal.is in
+    let e : ordered (spelling_at (rows here) (mid here)) w ≡ Equal = compared here w k ∙ told in
     let none = none_before (rows here) (rows_increasing (reading here)) w (mid here) (mid_in here) e in
     looked
-    (ap Lexeme c.lexeme_at.ensures ∙ sym (present (rows here) w (mid here) (mid_in here) none e) ∙ meaning_sorted (words_in (reading here)) w)
-    (omega (arith, (c.loop-lo.invariant.known w k).counted, halved here w k Same told))
-
-pub loop-lo-smaller : goal.loop-lo-smaller
-loop-lo-smaller c = omega arith
+    (ap Some c.lexeme_at.ensures ∙ sym (present (rows here) w (mid here) (mid_in here) none e) ∙ meaning_sorted (words_in (reading here)) w)
+    (omega (arith, (c.loop-lo.invariant.known w k).counted, halved here w k Equal told))
 
 pub loop-lo-preserved : goal.loop-lo-preserved
 loop-lo-preserved c =
-    let here = (goal.at.loop-lo-preserved c).After-compare-o in
-    let told = c.in-More.is in
+    let here = (goal.at.loop-lo-preserved c).After-compare-order in
+    let told = c.in-Greater.is in
     record {
       within = omega arith;
       ends = omega arith;
@@ -152,7 +127,7 @@ loop-lo-preserved c =
           record {
             low = known.low;
             high = all_more (rows here) (rows_increasing (reading here)) w (mid here) (mid_in here) (compared here w k ∙ told);
-            counted = omega (arith, known.counted, halved here w k More told);
+            counted = omega (arith, known.counted, halved here w k Greater told);
           };
     }
 
@@ -162,7 +137,7 @@ returns c =
     λ w k.
     let l = c.loop-lo in
     let known = l.invariant.known w k in
-    let words = words_in c.args.reading in
+    let words = words_in c.args.words.reading in
     let end : l.lo ≡ l.hi = omega (arith, c.loop-lo-test.false) in
     let none : slice l.lo l.hi (sorted words) ≡ [] = rw end (slice_empty l.hi (sorted words)) in
     looked

@@ -1,78 +1,69 @@
--- `lexer::table::bytes_at` meets its contract. The loop's invariant: v was read, and the bytes from p + j on follow it. Assumes nothing.
-use mathlib.Core.Path.{◌≡◌, sym, ◌∙◌}
-use Prim.Native.Nat.{ℕ, suc, ◌+◌, ◌*◌, ◌-◌, ◌<◌}
+-- `lexer::table::bytes_at` meets its contract. Assumes nothing.
+use mathlib.Core.Path.{◌≡◌, refl, sym, ◌∙◌}
+use Prim.Native.Nat.{ℕ, suc, ◌+◌, ◌*◌, ◌-◌, ◌≤◌, ◌<◌, ◌^◌}
+use mathlib.Core.List.{List}
+use native.Mathlib.Numerals.{add-one}
 use native.Mathlib.Omega.{arith}
-use lib.ListN.{length, get_or}
-use lib.Seq.{drop-cons}
+use lib.ListN.{length, get_or, take, drop, length-take, drop_of_length-le}
+use lib.Seq.{drop-cons, get_or-take, get_or-drop}
 use Rattle.lexer.specs.Table.{Room}
 use Rattle.lexer.proofs.Rooms.{room_begins, room_byte, room_below}
 use Rattle.lexer.proofs.table.bytes_at.Goals as goal
-use Rattle.lexer.proofs.table.bytes_at.Goals.{After-shared_slice_known-1, In-loop-j}
+use Rattle.lexer.proofs.table.bytes_at.Goals.{After-row_known-1}
 
--- there is room for one byte more
-next-room : (c : In-loop-j) (b : ℕ) → b < 256 →
-    let l = c.loop-j in
-    Room (l.v * 256 + b) (c.args.n - (l.j + 1))
-next-room c b h =
-    let l = c.loop-j in
+-- one byte more
+record More (items : List ℕ) (v j b : ℕ) : Type 0 where
+  room : Room (v * 256 + b) (length items - (j + 1))
+  below : v * 256 + b < 2 ^ 64
+
+more : (items : List ℕ) (v j b : ℕ) → j < length items → b < 256 → Room v (length items - j) → More items v j b
+more items v j b l h r =
+    let less : length items - j ≡ suc (length items - (j + 1)) = omega arith in
+    let next = room_byte v (length items - (j + 1)) b (rw less at r) h in
+    record { room = next; below = room_below _ _ next }
+
+-- at the first byte
+first : (items : List ℕ) → length items ≤ 8 → Room 0 (length items - 0)
+first items h = let e : length items - 0 ≡ length items = omega arith in rw e (room_begins (length items) h)
+
+-- the bytes that are read
+module _ (c : After-row_known-1) where
+  abbrev items : List ℕ
+  items = take (c.args.p + c.args.n - c.args.p) (drop c.args.p c.args.bytes.now)
+
+  byte_below : get_or items c.loop-b.b-index 0 < 256
+  byte_below =
+      let p = c.args.p in
+      let bytes = c.args.bytes.now in
+      let is =
+      get_or-take (p + c.args.n - p) (drop p bytes) c.loop-b.b-index 0 (omega (arith, c.loop-b-test.true, length-take (p + c.args.n - p) (drop p bytes)))
+      ∙ get_or-drop p bytes c.loop-b.b-index 0 in
+      rw is (c.type_inv.bytes (p + c.loop-b.b-index)).fits
+
+  next : More items c.loop-b.v c.loop-b.b-index (get_or items c.loop-b.b-index 0)
+  next = more items c.loop-b.v c.loop-b.b-index (get_or items c.loop-b.b-index 0) c.loop-b-test.true byte_below c.loop-b.invariant.room
+
+pub loop-b-init : goal.loop-b-init
+loop-b-init c =
+    let p = c.args.p in
     let n = c.args.n in
-    let less : n - l.j ≡ suc (n - (l.j + 1)) = omega arith in
-    room_byte l.v (n - (l.j + 1)) b (rw less at l.invariant.room) h
-
--- the next byte
-module _ (c : After-shared_slice_known-1) where
-  abbrev byte : ℕ
-  byte = get_or c.args.words.now (c.args.p + c.loop-j.j) 0
-
-  byte_below : byte < 256
-  byte_below = (c.shared_slice_known-1.given (c.args.p + c.loop-j.j)).fits
-
-pub loop-j-init : goal.loop-j-init
-loop-j-init c =
-    let a = c.args in
-    let e : a.p + 0 ≡ a.p = omega arith in
-    let n : a.n - 0 ≡ a.n = omega arith in
-    record { within = omega arith; room = rw n (room_begins a.n c.requires.1); number = rw (e, n) }
+    let count = length-take (p + n - p) (drop p c.args.bytes.now) in
+    record { room = first _ (omega (arith, count, c.requires)); number = refl }
 
 pub overflow_mul-v : goal.overflow_mul-v
-overflow_mul-v c = let r = room_below _ _ (next-room (goal.at.overflow_mul-v c).In-loop-j 0 (omega arith)) in omega arith
+overflow_mul-v c = let m = more _ _ _ 0 c.loop-b-test.true (omega arith) c.loop-b.invariant.room in omega (arith, m.below)
 
 pub overflow_add-v : goal.overflow_add-v
-overflow_add-v c = omega arith
+overflow_add-v c = omega (arith, (next (goal.at.overflow_add-v c).After-row_known-1).below)
 
-pub bounds-words-p : goal.bounds-words-p
-bounds-words-p c = omega (arith, c.requires.0)
-
-pub overflow_cast-v : goal.overflow_cast-v
-overflow_cast-v c = omega (arith, byte_below (goal.at.overflow_cast-v c).After-shared_slice_known-1)
-
-pub overflow_add-v-in-loop-j : goal.overflow_add-v-in-loop-j
-overflow_add-v-in-loop-j c =
-    let there = (goal.at.overflow_add-v-in-loop-j c).After-shared_slice_known-1 in
-    let r = room_below _ _ (next-room (goal.at.overflow_add-v-in-loop-j c).In-loop-j (byte there) (byte_below there)) in omega arith
-
-pub overflow_add-j : goal.overflow_add-j
-overflow_add-j c = omega arith
-
-pub loop-j-smaller : goal.loop-j-smaller
-loop-j-smaller c = omega arith
-
-pub loop-j-preserved : goal.loop-j-preserved
-loop-j-preserved c =
-    let there = (goal.at.loop-j-preserved c).After-shared_slice_known-1 in
-    let l = c.loop-j in
-    let a = c.args in
-    let less : a.n - l.j ≡ suc (a.n - (l.j + 1)) = omega arith in
-    let more : a.p + (l.j + 1) ≡ suc (a.p + l.j) = omega arith in
-    let in_words : a.p + l.j < length a.words.now = omega (arith, c.requires.0) in
-    record {
-      within = omega arith;
-      room = next-room (goal.at.loop-j-preserved c).In-loop-j (byte there) (byte_below there);
-      number = l.invariant.number ∙ rw (less, more, drop-cons a.words.now (a.p + l.j) 0 in_words);
-    }
+pub loop-b-preserved : goal.loop-b-preserved
+loop-b-preserved c =
+    let here = (goal.at.loop-b-preserved c).After-row_known-1 in
+    record { room = (next here).room; number = c.loop-b.invariant.number ∙ rw (drop-cons (items here) c.loop-b.b-index 0 c.loop-b-test.true, add-one) refl }
 
 pub returns : goal.returns
 returns c =
-    let l = c.loop-j in
-    let none : c.args.n - l.j ≡ 0 = omega arith in
-    sym (l.invariant.number ∙ rw none)
+    let items = take c.args.n (drop c.args.p c.args.bytes.now) in
+    let same : c.args.p + c.args.n - c.args.p ≡ c.args.n = omega arith in
+    let number = rw same at c.loop-b.invariant.number in
+    sym (number ∙ rw (drop_of_length-le items (rw same at c.loop-b-test.false)) refl)

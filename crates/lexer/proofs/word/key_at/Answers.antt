@@ -28,11 +28,6 @@ last_end s a at {end} many e h =
     let q = ap (λ (k : ℕ). run Letter (drop k s)) h in
     omega arith
 
-pub overflow_sub-h : goal.overflow_sub-h
-overflow_sub-h c =
-    let args = c.args in
-    omega (arith, block_end 8 args.s.now args.a c.block_at-h.ensures)
-
 pub returns-then-h-a-lt8 : goal.returns-then-h-a-lt8
 unfolding head_of
 returns-then-h-a-lt8 c =

@@ -1,25 +1,29 @@
-use mathlib.Core.Path.{sym}
 use native.Mathlib.Omega.{arith}
-use Rattle.phrase.proofs.Phrases.{codes_stored, read_answered}
+use Rattle.std.proofs.lemmas.Grind.{common_steps}
+use Rattle.phrase.proofs.Phrases.{lexing_refused, read_answered}
 use Rattle.phrase.proofs.read.read.Goals as goal
 
-pub slice_bounds-codes-end : goal.slice_bounds-codes-end
-slice_bounds-codes-end c = (codes_stored _ c.args.phrase.now c.lex-line.ensures.value c.lex-line.ensures.codes).0
+pub returns-in_err-n : goal.returns-in_err-n
+returns-in_err-n c =
+    let refused = lexing_refused c.args.reading c.args.phrase.now (rw c.in_err-n.was at c.lex.ensures.value) in
+    grind (arith, common_steps, refused)
 
-pub slice_bounds-gather-end : goal.slice_bounds-gather-end
-slice_bounds-gather-end c =
-    let lex = c.lex-line in
-    sym (codes_stored _ c.args.phrase.now lex.ensures.value lex.ensures.codes).1
+pub returns-in-Ok-Some : goal.returns-in-Ok-Some
+returns-in-Ok-Some c =
+    let read = read_answered c.args.reading c.args.phrase.now (rw c.in_ok-n.was at c.lex.ensures.value) c.lex.ensures.codes c.lex.ensures.starts c.gather.ensures in
+    grind (arith, common_steps, read)
 
-pub gather-x-requires : goal.gather-x-requires
-gather-x-requires c =
-    let lex = c.lex-line in
-    let b = codes_stored _ c.args.phrase.now lex.ensures.value lex.ensures.codes in
-    omega arith
+pub returns-in-Ok-Some-2 : goal.returns-in-Ok-Some-2
+returns-in-Ok-Some-2 c =
+    let read = read_answered c.args.reading c.args.phrase.now (rw c.in_ok-n.was at c.lex.ensures.value) c.lex.ensures.codes c.lex.ensures.starts c.gather.ensures in
+    grind (arith, common_steps, read)
 
-pub returns : goal.returns
-returns c =
-    let args = c.args in
-    let lex = c.lex-line in
-    read_answered args.reading args.phrase.now lex.ensures.value lex.ensures.codes lex.ensures.starts c.gather-x.ensures
-    c.judged-end.ensures
+pub returns-in-Ok-None : goal.returns-in-Ok-None
+returns-in-Ok-None c =
+    let read = read_answered c.args.reading c.args.phrase.now (rw c.in_ok-n.was at c.lex.ensures.value) c.lex.ensures.codes c.lex.ensures.starts c.gather.ensures in
+    grind (arith, common_steps, read)
+
+pub returns-in-Err : goal.returns-in-Err
+returns-in-Err c =
+    let read = read_answered c.args.reading c.args.phrase.now (rw c.in_ok-n.was at c.lex.ensures.value) c.lex.ensures.codes c.lex.ensures.starts c.gather.ensures in
+    grind (arith, common_steps, read)

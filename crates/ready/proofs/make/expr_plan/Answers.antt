@@ -1,18 +1,22 @@
 use Prim.Native.Nat.{◌+◌, ◌≤◌, ◌<◌}
 use native.Mathlib.Omega.{arith}
-use mathlib.Core.Path.{◌≡◌, refl, ap, ◌∙◌}
-use mathlib.Core.Bool.{true}
+use mathlib.Core.Path.{◌≡◌, refl, ap, sym, ◌∙◌}
+use mathlib.Core.Bool.{Bool, true, false}
+use Rattle.std.proofs.Common.{◌⊎◌, inl, inr}
 use lib.ListN.{length}
 use lib.Seq.{slice}
-use Rattle.dates.specs.Durations.{size}
+use Rattle.dates.specs.Durations.{Duration, size}
+use Rattle.dates.specs.declared.date.Date.{Date}
 use Rattle.expressions.specs.declared.expr.Expr.{Expr}
-use Rattle.expressions.specs.Shapes.{has_duration}
+use Rattle.expressions.specs.declared.expr.Expr.TheVariants.{DateExpressionAfter, After, DateExpressionBefore, Before}
+use Rattle.expressions.specs.Shapes.{expr_from, has_duration, size_expr}
 use Rattle.phrase.specs.Chains.{row_duration}
-use Rattle.steps.specs.Plans.{add_to}
+use Rattle.steps.specs.Plans.{add_to, begun}
+use Rattle.steps.specs.declared.plan.Start.TheVariants.{OnDate}
 use Rattle.steps.specs.declared.plan.Plan.{Plan}
 use Rattle.steps.specs.declared.plan.Move.TheVariants.{BackTo, ForwardTo}
 use Rattle.steps.specs.declared.plan.Step.TheVariants.{By}
-use Rattle.ready.specs.Made.{expr_steps}
+use Rattle.ready.specs.Made.{add_duration, expr_steps, held}
 use Rattle.ready.proofs.Rows.{row_size}
 use Rattle.ready.proofs.Within.{may_add, within_start, within_wider, within_behind}
 use Rattle.ready.proofs.make.expr_plan.Goals as goal
@@ -34,33 +38,29 @@ row c h d =
     let parts = c.args.parts in
     (row_size parts.items c.args.own parts.n (own c h d).0 (within c), c.requires.0)
 
-pub from_date-requires : goal.from_date-requires
-from_date-requires c = own (goal.at.from_date-requires c).Start c.in-DateExpressionAfter.is refl
+-- a date with a duration from it, however it is said
+record Lasting (e : Expr) (back : Bool) (d : Date) : Type 0 where
+  has : has_duration e ≡ true
+  steps : (dur : Duration) → expr_steps held (expr_from e dur) ≡ add_duration held back (begun (OnDate d)) dur
+  parts : (dur : Duration) → size_expr (expr_from e dur) ≡ size dur
+
+on : (e : Expr) (d : Date) → (e ≡ DateExpressionAfter d) ⊎ (e ≡ After d) → Lasting e false d
+unfolding expr_steps
+on e d (inl b) = rw b (record { has = refl; steps = λ dur. refl; parts = λ dur. refl })
+on e d (inr b) = rw b (record { has = refl; steps = λ dur. refl; parts = λ dur. refl })
+
+back : (e : Expr) (d : Date) → (e ≡ DateExpressionBefore d) ⊎ (e ≡ Before d) → Lasting e true d
+unfolding expr_steps
+back e d (inl b) = rw b (record { has = refl; steps = λ dur. refl; parts = λ dur. refl })
+back e d (inr b) = rw b (record { has = refl; steps = λ dur. refl; parts = λ dur. refl })
+
+pub from_date-requires-in-DateExpressionAfter : goal.from_date-requires-in-DateExpressionAfter
+from_date-requires-in-DateExpressionAfter c =
+    let l = on c.args.expr c.in-DateExpressionAfter.d c.in-DateExpressionAfter.is in (c.requires.1 l.has, c.requires.0)
 
 pub from_date-requires-in-DateExpressionBefore : goal.from_date-requires-in-DateExpressionBefore
-from_date-requires-in-DateExpressionBefore c = own (goal.at.from_date-requires-in-DateExpressionBefore c).Start c.in-DateExpressionBefore.is refl
-
-pub from_date-requires-in-WeekdayExpressionBefore : goal.from_date-requires-in-WeekdayExpressionBefore
-from_date-requires-in-WeekdayExpressionBefore c = own (goal.at.from_date-requires-in-WeekdayExpressionBefore c).Start c.in-WeekdayExpressionBefore.is refl
-
-pub add-requires : goal.add-requires
-add-requires c =
-    let all = row (goal.at.add-requires c).Start c.in-WeekdayExpressionBefore.is refl in
-    may_add c.from_date-in-WeekdayExpressionBefore.ensures.within (By (BackTo c.in-WeekdayExpressionBefore.w)) (omega arith) (omega arith)
-
-pub from_date-requires-in-WeekdayExpressionAfter : goal.from_date-requires-in-WeekdayExpressionAfter
-from_date-requires-in-WeekdayExpressionAfter c = own (goal.at.from_date-requires-in-WeekdayExpressionAfter c).Start c.in-WeekdayExpressionAfter.is refl
-
-pub add-requires-in-WeekdayExpressionAfter : goal.add-requires-in-WeekdayExpressionAfter
-add-requires-in-WeekdayExpressionAfter c =
-    let all = row (goal.at.add-requires-in-WeekdayExpressionAfter c).Start c.in-WeekdayExpressionAfter.is refl in
-    may_add c.from_date-in-WeekdayExpressionAfter.ensures.within (By (ForwardTo c.in-WeekdayExpressionAfter.w)) (omega arith) (omega arith)
-
-pub from_date-requires-in-Before : goal.from_date-requires-in-Before
-from_date-requires-in-Before c = own (goal.at.from_date-requires-in-Before c).Start c.in-Before.is refl
-
-pub from_date-requires-in-After : goal.from_date-requires-in-After
-from_date-requires-in-After c = own (goal.at.from_date-requires-in-After c).Start c.in-After.is refl
+from_date-requires-in-DateExpressionBefore c =
+    let l = back c.args.expr c.in-DateExpressionBefore.d c.in-DateExpressionBefore.is in (c.requires.1 l.has, c.requires.0)
 
 pub returns-in-Date : goal.returns-in-Date
 unfolding expr_steps
@@ -69,16 +69,6 @@ returns-in-Date c = rw c.in-Date.is (record { value = c.single.ensures; within =
 pub returns-in-DateRelative : goal.returns-in-DateRelative
 unfolding expr_steps
 returns-in-DateRelative c = rw c.in-DateRelative.is (record { value = c.date_relative.ensures.0; within = c.date_relative.ensures.1 })
-
-pub returns-in-DateExpressionAfter : goal.returns-in-DateExpressionAfter
-unfolding expr_steps
-returns-in-DateExpressionAfter c =
-    rw c.in-DateExpressionAfter.is (record { value = c.from_date.ensures.value; within = within_wider c.from_date.ensures.within (omega arith) })
-
-pub returns-in-DateExpressionBefore : goal.returns-in-DateExpressionBefore
-unfolding expr_steps
-returns-in-DateExpressionBefore c =
-    rw c.in-DateExpressionBefore.is (record { value = c.from_date-in-DateExpressionBefore.ensures.value; within = within_wider c.from_date-in-DateExpressionBefore.ensures.within (omega arith) })
 
 pub returns-in-UnitRelative : goal.returns-in-UnitRelative
 unfolding expr_steps
@@ -93,11 +83,21 @@ pub returns-in-WeekdayRelative : goal.returns-in-WeekdayRelative
 unfolding expr_steps
 returns-in-WeekdayRelative c = rw c.in-WeekdayRelative.is (record { value = c.weekday_relative.ensures.0; within = c.weekday_relative.ensures.1 })
 
+pub add-requires : goal.add-requires
+add-requires c =
+    let all = row (goal.at.add-requires c).Start c.in-WeekdayExpressionBefore.is refl in
+    may_add c.from_date.ensures.within (By (BackTo c.in-WeekdayExpressionBefore.w)) (omega arith) (omega arith)
+
+pub add-requires-in-WeekdayExpressionAfter : goal.add-requires-in-WeekdayExpressionAfter
+add-requires-in-WeekdayExpressionAfter c =
+    let all = row (goal.at.add-requires-in-WeekdayExpressionAfter c).Start c.in-WeekdayExpressionAfter.is refl in
+    may_add c.from_date-in-WeekdayExpressionAfter.ensures.within (By (ForwardTo c.in-WeekdayExpressionAfter.w)) (omega arith) (omega arith)
+
 pub returns-in-WeekdayExpressionBefore : goal.returns-in-WeekdayExpressionBefore
 unfolding expr_steps
 returns-in-WeekdayExpressionBefore c =
     let step = By (BackTo c.in-WeekdayExpressionBefore.w) in
-    let from = c.from_date-in-WeekdayExpressionBefore.ensures in
+    let from = c.from_date.ensures in
     rw c.in-WeekdayExpressionBefore.is
     (record {
       value = c.add.ensures ∙ ap (λ (p : Plan). add_to p step) from.value;
@@ -115,16 +115,6 @@ returns-in-WeekdayExpressionAfter c =
       within = within_behind from.within step c.add-in-WeekdayExpressionAfter.ensures (omega arith) (omega arith);
     })
 
-pub returns-in-Before : goal.returns-in-Before
-unfolding expr_steps
-returns-in-Before c =
-    rw c.in-Before.is (record { value = c.from_date-in-Before.ensures.value; within = within_wider c.from_date-in-Before.ensures.within (omega arith) })
-
-pub returns-in-After : goal.returns-in-After
-unfolding expr_steps
-returns-in-After c =
-    rw c.in-After.is (record { value = c.from_date-in-After.ensures.value; within = within_wider c.from_date-in-After.ensures.within (omega arith) })
-
 pub returns-in-Weekday : goal.returns-in-Weekday
 unfolding expr_steps
 returns-in-Weekday c =
@@ -134,3 +124,19 @@ pub returns-in-Empty : goal.returns-in-Empty
 unfolding expr_steps
 returns-in-Empty c =
     rw c.in-Empty.is (record { value = c.single-in-Empty.ensures; within = within_start _ c.single-in-Empty.ensures (omega arith) })
+
+pub returns-in-DateExpressionAfter : goal.returns-in-DateExpressionAfter
+returns-in-DateExpressionAfter c =
+    let a = c.args in
+    let from = c.from_date-in-DateExpressionAfter.ensures in
+    let l = on a.expr c.in-DateExpressionAfter.d c.in-DateExpressionAfter.is in
+    let row = row_duration (slice a.own a.parts.n a.parts.items) in
+    record { value = from.value ∙ sym (l.steps row); within = rw (l.parts row) (within_wider from.within (omega arith)) }
+
+pub returns-in-DateExpressionBefore : goal.returns-in-DateExpressionBefore
+returns-in-DateExpressionBefore c =
+    let a = c.args in
+    let from = c.from_date-in-DateExpressionBefore.ensures in
+    let l = back a.expr c.in-DateExpressionBefore.d c.in-DateExpressionBefore.is in
+    let row = row_duration (slice a.own a.parts.n a.parts.items) in
+    record { value = from.value ∙ sym (l.steps row); within = rw (l.parts row) (within_wider from.within (omega arith)) }

@@ -6,10 +6,9 @@ use Rattle.records.proofs.record.is_record.Goals as goal
 pub returns-then-w-forms : goal.returns-then-w-forms
 returns-then-w-forms c =
     let w = c.args.w in
-    rw (by_kind w.kind w.form w.a w.b w.c (omega (arith, c.struct_known-1.given)), ← c.forms.ensures, lt-ltb _ _ c.if-w-forms.true)
-    c.may_have.ensures
+    rw (by_kind w.kind w.form w.a w.b w.c (omega arith), ← c.forms.ensures, lt-ltb _ _ c.if-w-forms.true) c.may_have.ensures
 
-pub returns : goal.returns
-returns c =
+pub returns-else-w-forms : goal.returns-else-w-forms
+returns-else-w-forms c =
     let w = c.args.w in
-    rw (by_kind w.kind w.form w.a w.b w.c (omega (arith, c.struct_known-1.given)), ← c.forms.ensures, le-ltb _ _ c.if-w-forms.false)
+    rw (by_kind w.kind w.form w.a w.b w.c (omega arith), ← c.forms.ensures, le-ltb _ _ c.if-w-forms.false)

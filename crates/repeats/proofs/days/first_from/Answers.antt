@@ -2,12 +2,6 @@ use Rattle.repeats.specs.Firsts.{first_from}
 use Rattle.repeats.proofs.Rules.{monthly_start}
 use Rattle.repeats.proofs.days.first_from.Goals as goal
 
-pub first_daily-requires : goal.first_daily-requires
-first_daily-requires c = let pre = c.requires in (pre.0.least, pre.0.most, pre.1, pre.2)
-
-pub first_weekly-requires : goal.first_weekly-requires
-first_weekly-requires c = let pre = c.requires in (pre.0.least, pre.0.most, pre.1, pre.2)
-
 pub first_monthly-requires : goal.first_monthly-requires
 first_monthly-requires c =
     let pre = c.requires in
@@ -16,11 +10,11 @@ first_monthly-requires c =
 
 pub returns-in-Daily : goal.returns-in-Daily
 unfolding first_from
-returns-in-Daily c = rw (c.in-Daily.is, ← c.first_daily.ensures) c.within.ensures
+returns-in-Daily c = rw (c.in-Daily.is, ← c.first_daily.ensures) c.min.ensures
 
 pub returns-in-Weekly : goal.returns-in-Weekly
 unfolding first_from
-returns-in-Weekly c = rw (c.in-Weekly.is, ← c.first_weekly.ensures) c.within-in-Weekly.ensures
+returns-in-Weekly c = rw (c.in-Weekly.is, ← c.first_weekly.ensures) c.min-in-Weekly.ensures
 
 pub returns-in-Monthly : goal.returns-in-Monthly
 unfolding first_from

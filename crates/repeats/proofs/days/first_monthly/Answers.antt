@@ -31,9 +31,6 @@ month_after c =
 pub overflow_sub-month_from : goal.overflow_sub-month_from
 overflow_sub-month_from c = omega (arith, month_after (goal.at.overflow_sub-month_from c).After-month_from)
 
-pub rounded_up-turn-requires : goal.rounded_up-turn-requires
-rounded_up-turn-requires c = let pre = c.requires in (pre.0, pre.1, omega (arith, c.month_from.ensures.1))
-
 pub month_with_day-n-requires : goal.month_with_day-n-requires
 month_with_day-n-requires c =
     let day = (is_date_lem c.args.c.start (omega (arith, c.requires.4, c.requires.5))).day_low in
@@ -52,9 +49,9 @@ returns-then-n-lt-MONTHS c =
     let first = first_monthly_is args.c.day args.c.interval args.c.start args.b in
     rw (first, ← month, ← c.day_in.ensures.0) (omega (arith, c.day_in.ensures.1))
 
-pub returns : goal.returns
-returns c =
+pub returns-else-n-lt-MONTHS : goal.returns-else-n-lt-MONTHS
+returns-else-n-lt-MONTHS c =
     let args = c.args in
-    let month = the-month (goal.at.returns c).After-month_with_day-n in
+    let month = the-month (goal.at.returns-else-n-lt-MONTHS c).After-month_with_day-n in
     let first = first_monthly_is args.c.day args.c.interval args.c.start args.b in
     rw (first, ← month) (omega (arith, past args.c.day c.month_with_day-n.result c.if-n-lt-MONTHS.false))

@@ -1,11 +1,8 @@
 use mathlib.Core.Path.{◌≡◌}
-use Prim.Native.Nat.{◌-◌, ◌≤◌}
+use Prim.Native.Nat.{◌-◌}
 use Rattle.repeats.specs.Held.{seek}
 use Rattle.repeats.specs.Occurrences.{weekdays_of}
 use Rattle.repeats.proofs.days.next_weekday.Given as goal
 
 abbrev pub invariant-loop-k : goal.invariant-loop-k
-invariant-loop-k l = (l.k ≤ 7) × (seek (weekdays_of l.bits l.s) l.w (7 - l.w) ≡ seek (weekdays_of l.bits l.s) l.k (7 - l.k))
-
-abbrev pub decreases-loop-k : goal.decreases-loop-k
-decreases-loop-k l = 7 - l.k
+invariant-loop-k l = seek (weekdays_of l.bits l.s) l.w (7 - l.w) ≡ seek (weekdays_of l.bits l.s) l.k (7 - l.k)

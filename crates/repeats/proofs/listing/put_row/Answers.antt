@@ -1,34 +1,14 @@
+use Prim.Native.Nat.{◌+◌, ◌-◌}
 use native.Mathlib.Omega.{arith}
-use mathlib.Core.Path.{◌≡◌}
-use Prim.Native.Nat.{suc, ◌+◌}
-use lib.ListN.{length-set}
+use mathlib.Core.Path.{◌≡◌, sym, ◌∙◌}
+use lib.Seq.{sets-eq}
+use Rattle.std.proofs.Common.{append_assoc}
+use Rattle.std.proofs.lemmas.List.{drop-drop}
+use Rattle.calendar.specs.Moments.{seven}
 use Rattle.repeats.proofs.listing.put_row.Goals as goal
-
-pub bounds-moments-at-2 : goal.bounds-moments-at-2
-bounds-moments-at-2 c = simp length-set (omega arith)
-
-pub bounds-moments-at-3 : goal.bounds-moments-at-3
-bounds-moments-at-3 c = simp length-set (omega arith)
-
-pub bounds-moments-at-4 : goal.bounds-moments-at-4
-bounds-moments-at-4 c = simp length-set (omega arith)
-
-pub bounds-moments-at-5 : goal.bounds-moments-at-5
-bounds-moments-at-5 c = simp length-set (omega arith)
-
-pub bounds-moments-at-6 : goal.bounds-moments-at-6
-bounds-moments-at-6 c = simp length-set (omega arith)
-
-pub bounds-moments-at-7 : goal.bounds-moments-at-7
-bounds-moments-at-7 c = simp length-set (omega arith)
 
 pub returns : goal.returns
 returns c =
-    let at = c.args.at in
-    let one : at + 1 ≡ suc at = omega arith in
-    let two : at + 2 ≡ suc (suc at) = omega arith in
-    let three : at + 3 ≡ suc (suc (suc at)) = omega arith in
-    let four : at + 4 ≡ suc (suc (suc (suc at))) = omega arith in
-    let five : at + 5 ≡ suc (suc (suc (suc (suc at)))) = omega arith in
-    let six : at + 6 ≡ suc (suc (suc (suc (suc (suc at))))) = omega arith in
-    rw (one, two, three, four, five, six)
+    let fits : c.args.at + 7 - c.args.at ≡ 7 = omega arith in
+    rw (c.copy_from_slice.ensures.after, c.from.ensures) (simp (fits, append_assoc, drop-drop))
+    ∙ sym (sets-eq (seven c.args.t) c.args.moments.now c.args.at c.requires)

@@ -1,13 +1,11 @@
 -- `rules::part::month_part` meets its contract. Assumes nothing.
-use mathlib.Core.Path.{sym, ◌∙◌}
-use Rattle.rules.proofs.Names.{named_length}
 use Rattle.rules.proofs.part.month_part.Goals as goal
 
-pub rest-requires : goal.rest-requires
-rest-requires c = named_length _ _ (sym c.named.ensures ∙ c.if-named.true)
+pub returns-in_err-number-in-Some : goal.returns-in_err-number-in-Some
+returns-in_err-number-in-Some c = rw (c.in-Some.ensures.0, c.from_residual.ensures, ← c.in-Some.ensures.1, ← c.without_plus.ensures, ← c.in_err-number-in-Some.ensures)
 
-pub returns-then-named : goal.returns-then-named
-returns-then-named c = rw (← c.named.ensures, c.if-named.true, c.number.ensures, c.without_plus.ensures, c.rest.ensures)
+pub returns-in_ok-number-in-Some : goal.returns-in_ok-number-in-Some
+returns-in_ok-number-in-Some c = rw (c.in-Some.ensures.0, ← c.in-Some.ensures.1, ← c.without_plus.ensures, ← c.in_ok-number-in-Some.ensures)
 
-pub returns : goal.returns
-returns c = rw (← c.named.ensures, c.if-named.false) c.week_part.ensures
+pub returns-in-None : goal.returns-in-None
+returns-in-None c = rw c.in-None.ensures c.week_part.ensures

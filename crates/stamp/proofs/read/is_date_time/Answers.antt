@@ -1,34 +1,21 @@
 -- `stamp::read::is_date_time` meets its contract. Assumes nothing.
-use Rattle.stamp.proofs.Grammar.{by_fraction}
+use mathlib.Core.Path.{◌≡◌, ◌∙◌, ap}
+use mathlib.Core.Bool.{true, false}
+use mathlib.Core.List.{List, map}
+use Prim.Native.Nat.{ℕ}
+use Rattle.std.proofs.Common.{rules, tests}
+use Rattle.std.proofs.lemmas.Iterator.{cases_from_any, YieldsList-from_slice}
+use Rattle.digits.specs.Forms.{of_form}
+use Rattle.stamp.specs.Grammar.{date_time, is_of}
+use Rattle.stamp.proofs.Grammar.{tested}
 use Rattle.stamp.proofs.read.is_date_time.Goals as goal
-
-pub returns-then-of_three : goal.returns-then-of_three
-returns-then-of_three c = rw (by_fraction, ← c.of_three.ensures, c.if-of_three.true)
-
-pub returns-then-of_three-2 : goal.returns-then-of_three-2
-returns-then-of_three-2 c = rw (by_fraction, ← c.of_three.ensures, c.if-of_three.false, ← c.of_three-2.ensures, c.if-of_three-2.true)
-
-pub returns-then-of_three-3 : goal.returns-then-of_three-3
-returns-then-of_three-3 c =
-    rw (
-      by_fraction,
-      ← c.of_three.ensures,
-      c.if-of_three.false,
-      ← c.of_three-2.ensures,
-      c.if-of_three-2.false,
-      ← c.of_three-3.ensures,
-      c.if-of_three-3.true,
-    )
 
 pub returns : goal.returns
 returns c =
-    rw (
-      by_fraction,
-      ← c.of_three.ensures,
-      c.if-of_three.false,
-      ← c.of_three-2.ensures,
-      c.if-of_three-2.false,
-      ← c.of_three-3.ensures,
-      c.if-of_three-3.false,
-      ← c.of_three-4.ensures,
-    )
+    let s = c.args.text.now in
+    let forms = c.iter.result.rest.now in
+    let same : map (λ f. f.now) forms ≡ date_time = search rules in
+    tested forms s c.any.result
+    (cases_from_any _ _ c.any.result (λ f. of_form f.now s ≡ true) (λ f. of_form f.now s ≡ false) c.any.ensures.ran (YieldsList-from_slice forms cc)
+    (λ x q k. search (rules, tests)) (λ x q k. search (rules, tests)))
+    ∙ ap (λ (fs : List (List ℕ)). is_of fs s) same

@@ -1,16 +1,7 @@
 -- `stamp::read::read_stamp` meets its contract. Assumes nothing.
 use mathlib.Core.Path.{sym, ◌∙◌}
-use Rattle.stamp.specs.Stamps.{stamp_of}
 use Rattle.stamp.proofs.Grammar.{parts}
 use Rattle.stamp.proofs.read.read_stamp.Goals as goal
 
 pub judge-requires : goal.judge-requires
 judge-requires c = (parts _ (sym c.is_date_time.ensures ∙ c.if-is_date_time.true)).size
-
-pub returns-then-is_date_time : goal.returns-then-is_date_time
-unfolding stamp_of
-returns-then-is_date_time c = rw (← c.is_date_time.ensures, c.if-is_date_time.true, c.judge.ensures)
-
-pub returns : goal.returns
-unfolding stamp_of
-returns c = rw (← c.is_date_time.ensures, c.if-is_date_time.false)

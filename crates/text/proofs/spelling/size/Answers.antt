@@ -4,11 +4,11 @@ use Rattle.text.specs.Texts.{text_of}
 use Rattle.text.proofs.Spelled.{refusal_length}
 use Rattle.text.proofs.spelling.size.Goals as goal
 
-pub returns-in-At : goal.returns-in-At
+pub returns-in-Ok : goal.returns-in-Ok
 unfolding text_of
-returns-in-At c = rw c.in-At.is
+returns-in-Ok c = rw c.in-Ok.is
 
-pub returns-in-Refused : goal.returns-in-Refused
+pub returns-in-Err : goal.returns-in-Err
 unfolding text_of
-returns-in-Refused c =
-    rw c.in-Refused.is (omega (arith, refusal_length c.in-Refused.r.number c.in-Refused.r.place, c.width.ensures.0, c.width-in-Refused.ensures.0))
+returns-in-Err c =
+    rw (c.in-Err.is, ← c.number.ensures.value) (omega (arith, refusal_length c.number.result c.in-Err.r.place, c.width.ensures.0, c.width-in-Err.ensures.0))

@@ -5,28 +5,29 @@ use Prim.Native.Nat.{ℕ, ◌+◌, ◌≤◌}
 use native.Mathlib.Omega.{arith}
 use lib.ListN.{length}
 use lib.Seq.{sets}
+use Rattle.std.proofs.Common.{Result, Ok, Err}
 use Rattle.digits.specs.Digits.{width_of}
 use Rattle.digits.specs.Stores.{Written}
 use Rattle.refusals.specs.declared.Refusal.{Refusal}
 use Rattle.calendar.specs.declared.moments.Moment.{Moment}
-use Rattle.text.specs.Answers.{answer_from, Answered, At, Refused}
+use Rattle.text.specs.Answers.{answer_from, number_of}
 use Rattle.text.specs.Texts.{text_of, fitting}
 use Rattle.text.proofs.Spelled.{refusal_length, fits, passes}
 use Rattle.text.proofs.spelling.write_answer.Goals as goal
 
 -- there is room for a moment
-moment_room : (a : Answered) (t : Moment) {room : ℕ} → length (text_of (answer_from a)) ≤ room → a ≡ At t → 19 ≤ room
+moment_room : (a : Result Moment Refusal) (t : Moment) {room : ℕ} → length (text_of (answer_from a)) ≤ room → a ≡ Ok t → 19 ≤ room
 unfolding text_of
 moment_room a t h e = rw e at h
 
 -- for a refusal
-refusal_room : (a : Answered) (r : Refusal) {room : ℕ} → length (text_of (answer_from a)) ≤ room → a ≡ Refused r → 12 + width_of r.number + width_of r.place ≤ room
+refusal_room : (a : Result Moment Refusal) (r : Refusal) {room : ℕ} → length (text_of (answer_from a)) ≤ room → a ≡ Err r → 12 + width_of (number_of r.reason) + width_of r.place ≤ room
 unfolding text_of
 refusal_room a r h e = rw (e, refusal_length) at h
 
 -- what is written is the whole answer
 whole :
-    (a : Answered) {n : ℕ} {out after : List ℕ} → n ≡ length (text_of (answer_from a)) → length (text_of (answer_from a)) ≤ length out
+    (a : Result Moment Refusal) {n : ℕ} {out after : List ℕ} → n ≡ length (text_of (answer_from a)) → length (text_of (answer_from a)) ≤ length out
     → after ≡ sets out 0 (text_of (answer_from a)) → Written (fitting (length out) (text_of (answer_from a))) n out after
 whole a n h e = rw (fits _ _ h) (record { count = n; stored = e })
 
@@ -37,15 +38,15 @@ returns-then-out-n c =
     rw (passes (length args.out.now) (text_of (answer_from args.a)) (omega arith)) (record { count = refl; stored = refl })
 
 pub put_moment-requires : goal.put_moment-requires
-put_moment-requires c = moment_room c.args.a c.in-At.t (omega (arith, c.size-n.ensures, c.if-out-n.false)) c.in-At.is
+put_moment-requires c = moment_room c.args.a c.in-Ok.t (omega (arith, c.size-n.ensures, c.if-out-n.false)) c.in-Ok.is
 
 pub put_refusal-requires : goal.put_refusal-requires
-put_refusal-requires c = refusal_room c.args.a c.in-Refused.r (omega (arith, c.size-n.ensures, c.if-out-n.false)) c.in-Refused.is
+put_refusal-requires c = rw c.number.ensures.value (refusal_room c.args.a c.in-Err.r (omega (arith, c.size-n.ensures, c.if-out-n.false)) c.in-Err.is)
 
-pub returns-in-At : goal.returns-in-At
+pub returns-in-Ok : goal.returns-in-Ok
 unfolding text_of
-returns-in-At c = whole c.args.a c.size-n.ensures (omega (arith, c.size-n.ensures, c.if-out-n.false)) (rw (c.put_moment.ensures, c.in-At.is))
+returns-in-Ok c = whole c.args.a c.size-n.ensures (omega (arith, c.size-n.ensures, c.if-out-n.false)) (rw (c.put_moment.ensures, c.in-Ok.is))
 
-pub returns-in-Refused : goal.returns-in-Refused
+pub returns-in-Err : goal.returns-in-Err
 unfolding text_of
-returns-in-Refused c = whole c.args.a c.size-n.ensures (omega (arith, c.size-n.ensures, c.if-out-n.false)) (rw (c.put_refusal.ensures, c.in-Refused.is))
+returns-in-Err c = whole c.args.a c.size-n.ensures (omega (arith, c.size-n.ensures, c.if-out-n.false)) (rw (c.put_refusal.ensures, c.in-Err.is, c.number.ensures.value))

@@ -10,15 +10,15 @@ use Rattle.text.proofs.stream.write_next.Goals as goal
 pub overflow_add-result : goal.overflow_add-result
 overflow_add-result c =
     let line = c.args.line.now in
-    omega (arith, c.write_line.ensures.count, answer_limit c.in-Now.t line)
+    omega (arith, c.write_line.ensures.count, answer_limit c.in-Some.t line)
 
-pub returns-in-Nothing : goal.returns-in-Nothing
-returns-in-Nothing c = rw c.in-Nothing.is (record { count = sym (add-zero _); stored = refl })
+pub returns-in-None : goal.returns-in-None
+returns-in-None c = rw c.in-None.is (record { count = sym (add-zero _); stored = refl })
 
-pub returns-in-Now : goal.returns-in-Now
-returns-in-Now c =
+pub returns-in-Some : goal.returns-in-Some
+returns-in-Some c =
     let w = c.write_line.ensures in
     let args = c.args in
-    let text = answer_line c.in-Now.t args.line.now in
-    rw c.in-Now.is
+    let text = answer_line c.in-Some.t args.line.now in
+    rw c.in-Some.is
     (record { count = omega (arith, w.count); stored = rw w.stored (lent_part args.out.now args.count text) })

@@ -1,11 +1,12 @@
-use borrow.Author.Tests.{eq-eqb, ne_eqb}
+use Rattle.std.proofs.Common.{arith}
+use Rattle.std.proofs.lemmas.Bool.Decides.{nat_tests}
 use Rattle.tzif.specs.File.{last_at}
 use Rattle.tzif.proofs.file.last_at.Goals as goal
 
 pub returns-then-n-eq0 : goal.returns-then-n-eq0
 unfolding last_at
-returns-then-n-eq0 c = rw (eq-eqb _ _ c.if-n-eq0.true)
+returns-then-n-eq0 c = grind (arith, nat_tests)
 
-pub returns : goal.returns
+pub returns-else-n-eq0 : goal.returns-else-n-eq0
 unfolding last_at
-returns c = rw (ne_eqb _ _ c.if-n-eq0.false) c.time_at.ensures
+returns-else-n-eq0 c = grind (arith, nat_tests)

@@ -1,22 +1,16 @@
-use native.Mathlib.Omega.{arith}
-use native.Mathlib.Nat.{sub-zero}
-use mathlib.Core.Path.{sym, ◌∙◌}
-use Rattle.tzif.proofs.Entries.{each_on, each_off, each_over}
+use Prim.Native.Nat.{ℕ}
+use mathlib.Core.Bool.{Bool}
+use Rattle.std.proofs.Common.{refl, arith, rules, tests}
+use Rattle.std.proofs.lemmas.Iterator.{YieldsList-from_range}
+use Rattle.std.proofs.lemmas.Iterator.Search.{all_from_yields_List}
+use Rattle.tzif.specs.File.{is_transition}
+use Rattle.tzif.proofs.Entries.{each_listed}
 use Rattle.tzif.proofs.tables.are_transitions.Goals as goal
 
-pub loop-i-init : goal.loop-i-init
-loop-i-init c = (omega arith, simp sub-zero)
-
-pub is_transition-requires : goal.is_transition-requires
-is_transition-requires c = (c.requires, omega arith)
-
-pub loop-i-preserved : goal.loop-i-preserved
-loop-i-preserved c =
-    (omega arith, c.loop-i.invariant.1 ∙ each_on _ c.loop-i.i _ c.loop-i-test.true (sym c.is_transition.ensures ∙ c.if-is_transition.true))
-
-pub returns-else-is_transition : goal.returns-else-is_transition
-returns-else-is_transition c =
-    sym (c.loop-i.invariant.1 ∙ each_off _ c.loop-i.i _ c.loop-i-test.true (sym c.is_transition.ensures ∙ c.if-is_transition.false))
-
 pub returns : goal.returns
-returns c = sym (c.loop-i.invariant.1 ∙ each_over _ c.loop-i.i _ c.loop-i-test.false)
+returns c =
+    let count = c.args.h.timecnt in
+    let test : ℕ → Bool = is_transition c.args.file.now c.args.b c.args.h in
+    rw (← (each_listed test 0 count))
+    (all_from_yields_List test _ _ _ c.all.ensures.ran
+    (YieldsList-from_range 0 _ count refl (omega arith)) (λ x b q k. search (rules, tests)))

@@ -1,21 +1,16 @@
-use native.Mathlib.Omega.{arith}
-use native.Mathlib.Nat.{sub-zero}
-use mathlib.Core.Path.{sym, ◌∙◌}
-use Rattle.tzif.proofs.Entries.{each_on, each_off, each_over}
+use Prim.Native.Nat.{ℕ}
+use mathlib.Core.Bool.{Bool}
+use Rattle.std.proofs.Common.{refl, arith, rules, tests}
+use Rattle.std.proofs.lemmas.Iterator.{YieldsList-from_range}
+use Rattle.std.proofs.lemmas.Iterator.Search.{all_from_yields_List}
+use Rattle.tzif.specs.File.{is_type}
+use Rattle.tzif.proofs.Entries.{each_listed}
 use Rattle.tzif.proofs.tables.are_types.Goals as goal
 
-pub loop-j-init : goal.loop-j-init
-loop-j-init c = (omega arith, simp sub-zero)
-
-pub is_type-requires : goal.is_type-requires
-is_type-requires c = (c.requires, omega arith)
-
-pub loop-j-preserved : goal.loop-j-preserved
-loop-j-preserved c =
-    (omega arith, c.loop-j.invariant.1 ∙ each_on _ c.loop-j.j _ c.loop-j-test.true (sym c.is_type.ensures ∙ c.if-is_type.true))
-
-pub returns-else-is_type : goal.returns-else-is_type
-returns-else-is_type c = sym (c.loop-j.invariant.1 ∙ each_off _ c.loop-j.j _ c.loop-j-test.true (sym c.is_type.ensures ∙ c.if-is_type.false))
-
 pub returns : goal.returns
-returns c = sym (c.loop-j.invariant.1 ∙ each_over _ c.loop-j.j _ c.loop-j-test.false)
+returns c =
+    let count = c.args.h.typecnt in
+    let test : ℕ → Bool = is_type c.args.file.now c.args.b c.args.h in
+    rw (← (each_listed test 0 count))
+    (all_from_yields_List test _ _ _ c.all.ensures.ran
+    (YieldsList-from_range 0 _ count refl (omega arith)) (λ x b q k. search (rules, tests)))

@@ -1,10 +1,12 @@
+use Rattle.std.proofs.Common.{arith}
+use Rattle.std.proofs.lemmas.Bool.Decides.{nat_tests}
 use Rattle.tzif.specs.File.{is_type}
 use Rattle.tzif.proofs.tables.is_type.Goals as goal
 
-pub returns-then-is_offset : goal.returns-then-is_offset
+pub returns-then-contains : goal.returns-then-contains
 unfolding is_type
-returns-then-is_offset c = rw (← c.offset_at.ensures, ← c.is_offset.ensures, c.if-is_offset.true, ← c.octet.ensures.0)
+returns-then-contains c = grind (arith, nat_tests)
 
-pub returns : goal.returns
+pub returns-else-contains : goal.returns-else-contains
 unfolding is_type
-returns c = rw (← c.offset_at.ensures, ← c.is_offset.ensures, c.if-is_offset.false)
+returns-else-contains c = grind (arith, nat_tests)

@@ -1,15 +1,11 @@
-use Prim.Native.Nat.{◌*◌}
-use native.Mathlib.Omega.{arith}
-use borrow.Author.Tests.{le-leb, lt-leb}
-use Rattle.tzif.proofs.Checked.{known, last_high}
+use Rattle.std.proofs.Common.{arith}
+use Rattle.std.proofs.lemmas.Bool.Decides.{nat_tests}
+use Rattle.tzif.proofs.Checked.{last_high}
+use Rattle.zones.proofs.Bounds.{known_of}
 use Rattle.zones.proofs.instants.go_back.Goals as goal
 
-pub returns-then-k-ge-FAR : goal.returns-then-k-ge-FAR
-returns-then-k-ge-FAR c =
-    rw (lt-leb (60 * c.args.k) c.args.s (omega (arith, c.requires.1, c.if-k-ge-FAR.true, last_high _ _ (known _ _ c.requires.0))))
-
 pub returns-then-s-far : goal.returns-then-s-far
-returns-then-s-far c = rw (lt-leb _ _ c.if-s-far.true)
+returns-then-s-far c = let high = last_high _ _ (known_of c.args.zone) in grind (arith, nat_tests)
 
 pub returns : goal.returns
-returns c = rw (le-leb _ _ c.if-s-far.false) c.arrive.ensures
+returns c = let high = last_high _ _ (known_of c.args.zone) in grind (arith, nat_tests)

@@ -1,13 +1,9 @@
--- `zones::search::resolve` meets its contract. The loop's invariant: the pieces from the one behind k transitions on say what all say.
-use Prim.Native.Nat.{◌-◌, ◌≤◌}
 use mathlib.Core.Path.{◌≡◌}
-use Rattle.tzif.specs.File.{zone_in}
+use Rattle.tzif.specs.Read.{zone_read}
 use Rattle.zones.specs.Civil.{resolve}
 use Rattle.zones.specs.Search.{resolve_at}
 use Rattle.zones.proofs.search.resolve.Given as goal
 
+-- the pieces from the one behind k transitions on say what all say
 abbrev pub invariant-loop-k : goal.invariant-loop-k
-invariant-loop-k l = (l.k ≤ l.p.count) × (resolve (zone_in l.file l.p) l.c ≡ resolve_at l.file l.p l.k l.c)
-
-abbrev pub decreases-loop-k : goal.decreases-loop-k
-decreases-loop-k l = l.p.count - l.k
+invariant-loop-k l = resolve (zone_read l.zone) l.c ≡ resolve_at l.zone.file.now l.zone.places l.k l.c

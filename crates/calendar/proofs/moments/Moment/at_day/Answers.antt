@@ -1,9 +1,5 @@
-use native.Mathlib.Omega.{arith}
 use Rattle.calendar.specs.Gregorian.{year_of, day_of_year, month_of_day, day_of}
 use Rattle.calendar.proofs.moments.Moment.at_day.Goals as goal
-
-pub month_of-m-requires : goal.month_of-m-requires
-month_of-m-requires c = rw c.leap_year-leap.ensures (omega arith)
 
 pub returns : goal.returns
 unfolding year_of day_of_year month_of_day day_of

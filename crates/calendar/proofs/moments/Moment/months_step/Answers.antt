@@ -1,12 +1,11 @@
+use Rattle.std.proofs.Common.{rules, arith}
 use Rattle.calendar.proofs.Steps.{months_in, months_out}
 use Rattle.calendar.proofs.moments.Moment.months_step.Goals as goal
 
-pub returns-then-n-lt-MONTHS : goal.returns-then-n-lt-MONTHS
-returns-then-n-lt-MONTHS c =
-    let place = rw c.month_number.ensures.0 at c.moved-n.ensures in
-    rw c.in_month.ensures (let all = months_in _ _ _ c.requires place c.if-n-lt-MONTHS.true in record { result_value = all.0; valid = all.1 })
+pub returns-in_err-n : goal.returns-in_err-n
+returns-in_err-n c = search (rules, months_out)
 
 pub returns : goal.returns
 returns c =
-    let place = rw c.month_number.ensures.0 at c.moved-n.ensures in
-    let all = months_out _ _ _ c.requires place c.if-n-lt-MONTHS.false in record { result_value = all.0; valid = all.1 }
+    let all = months_in c.args.back c.args.k c.args.self c.requires c.in_ok-n.n (grind arith) in
+    rw c.in_month.ensures (record { result_value = all.0; valid = all.1 })

@@ -1,11 +1,11 @@
-use mathlib.Core.Path.{sym, ◌∙◌}
+use Rattle.std.proofs.Common.{rules}
 use Rattle.calendar.specs.Moments.{is_moment}
 use Rattle.calendar.proofs.moments.Moment.valid.Goals as goal
 
 pub returns-then-valid_date : goal.returns-then-valid_date
 unfolding is_moment
-returns-then-valid_date c = simp (sym c.valid_date.ensures ∙ c.if-valid_date.true, c.valid_time.ensures)
+returns-then-valid_date c = search rules
 
-pub returns : goal.returns
+pub returns-else-valid_date : goal.returns-else-valid_date
 unfolding is_moment
-returns c = simp (sym c.valid_date.ensures ∙ c.if-valid_date.false)
+returns-else-valid_date c = search rules

@@ -1,7 +1,0 @@
--- `test_repeats::write_lines` is safe and ends. Assumes nothing.
-use Prim.Native.Nat.{◌-◌}
-use lib.ListN.{length}
-use Rattle.test_repeats.proofs.write_lines.Given as goal
-
-abbrev pub decreases-loop-at : goal.decreases-loop-at
-decreases-loop-at g l = length l.text - l.at
