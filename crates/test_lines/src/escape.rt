@@ -1,8 +1,10 @@
 // The bytes that a line's text stands for: `\xHH` is one byte, every other byte stands for itself.
-ghost use Rattle.std.specs.Prelude.{◌≤◌, length};
+ghost use Rattle.std.specs.Prelude.{◌≤◌, ◌<◌, length, IfSome};
 
 // A hexadecimal digit's number.
-fn hex(digit: u8) -> Option<u8> {
+fn hex(digit: u8) -> Option<u8>
+    ensures { IfSome result (λ n. n < 16) }
+{
     match digit {
         b'0'..=b'9' => Some(digit - b'0'),
         b'a'..=b'f' => Some(digit - b'a' + 10),

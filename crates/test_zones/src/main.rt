@@ -5,6 +5,8 @@
 // two seconds behind it. Writes for each of these 0, or the refusal's number, place and length, then the second and the nine numbers of the lent arrays.
 #![tactic(auto)]
 
+ghost use Rattle.std.specs.Prelude.{◌<◌};
+
 use fuzzydate::{fuzzy_make_ready, fuzzy_read_in_zone, fuzzy_run_in_zone};
 use std::io;
 use test_input::each_line_of;
@@ -39,7 +41,9 @@ fn write_due(rt: &impl Print, answer: u64, due: [u64; 1], moment: [u32; 9]) -> i
 }
 
 // The number of a hexadecimal digit.
-fn nibble(digit: u8) -> u8 {
+fn nibble(digit: u8) -> u8
+    ensures { result < 16 }
+{
     if digit <= b'9' {
         digit % 16
     } else {
