@@ -1,7 +1,8 @@
 // Reads inputs and their lines, for the programs that the gate runs.
 #![tactic(auto)]
 
-ghost use Rattle.std.specs.Prelude.{◌≤◌, length, IfOk};
+ghost use Rattle.std.specs.Prelude.{◌≡◌, ◌+◌, ◌*◌, ◌≤◌, ◌<◌, length, IfOk, MatchOption};
+ghost use Rattle.digits.specs.Digits.{two_at};
 
 use digits::digit::two;
 use std::io;
@@ -54,7 +55,9 @@ pub fn each_line_of<F: FnMut(&[u8]) -> io::Result<()>>(
 }
 
 // The number of the four digits at a place, where there are so many bytes.
-pub fn four(text: &[u8], at: usize) -> Option<u32> {
+pub fn four(text: &[u8], at: usize) -> Option<u32>
+    ensures { MatchOption result (length text.now < at + 4) (λ n. n ≡ 100 * two_at text.now at + two_at text.now (at + 2)) }
+{
     let digits = text.get(at..)?.first_chunk::<4>()?;
     Some(100 * two(digits, 0) + two(digits, 2))
 }
