@@ -1,17 +1,18 @@
 // A ready phrase run from its bytes at an instant of a zone. The steps ahead of a time of day are those of the fixed offset's runner.
-ghost use Rattle.std.specs.Prelude.{◌≡◌, true, ◌-◌, ◌*◌, ◌/◌, ◌≤◌, length};
+ghost use Rattle.std.specs.Prelude.{◌≡◌, true, ◌+◌, ◌-◌, ◌*◌, ◌/◌, ◌≤◌, length};
 ghost use Rattle.tzif.specs.Read.{zone_read};
 ghost use Rattle.zones.specs.Civil.{answer_of};
 ghost use Rattle.zones.specs.Instants.{Shown, Kept};
 ghost use Rattle.steps.specs.Running.{act_in, walk_in, lead_in, is_list};
-ghost use Rattle.records.specs.Records.{steps_at, decode_of};
+ghost use Rattle.records.specs.Words.{step_from};
+ghost use Rattle.records.specs.Records.{words_at, steps_at, decode_of};
 ghost use Rattle.zoned.specs.InZone.{in_zone, run_at};
 ghost use Rattle.zoned.specs.Kinds.{startKind, moveKind, kind_of, civil_step, up_to_time};
 
 use records::run::{is_list, step_at, walk};
 use refusals::Reason;
 use steps::plan::{Move, Start, Step};
-use steps::run::{act, one_if_time, times_due};
+use steps::run::{one_if_time, times_due};
 use tzif::zone::Zone;
 use zones::civil::in_years;
 use zones::instants::{Instant, clock_of, fixed_step, settle};
@@ -81,27 +82,29 @@ struct Walk<'a> {
 }
 
 impl Walk<'_> {
-    // A step on the civil time of x, with its result settled.
-    fn act_civil(&self, step: Step, x: Instant) -> Result<Instant, Reason>
-        requires { Shown (zone_read self.now.zone) x }
-        ensures result_value { answer_of result ≡ civil_step (zone_read self.now.zone) step self.now.instant x }
+    // The step of record i on the civil time of x, with its result settled. It is walked: with one caller, `act` stays a part of `walk`.
+    fn act_civil(&self, i: usize, x: Instant) -> Result<Instant, Reason>
+        requires { (16 * i + 16 ≤ length self.now.ready.now) × Shown (zone_read self.now.zone) x }
+        ensures result_value { answer_of result
+            ≡ civil_step (zone_read self.now.zone) (step_from (words_at self.now.ready.now (16 * i))) self.now.instant x }
         ensures kept { Kept (zone_read self.now.zone) (answer_of result) }
     {
         let at = clock_of(self.zone, self.instant);
         let t = clock_of(self.zone, x);
-        settle(self.zone, act(step, at, t))
+        settle(self.zone, walk(self.ready, i, i + 1, at, t))
     }
 
-    // A step in the zone from x.
-    fn act_in(&self, step: Step, x: Instant) -> Result<Instant, Reason>
-        requires { Shown (zone_read self.now.zone) x }
-        ensures result_value { answer_of result ≡ act_in (in_zone (zone_read self.now.zone)) step self.now.instant x }
+    // The step of record i in the zone from x.
+    fn act_in(&self, i: usize, x: Instant) -> Result<Instant, Reason>
+        requires { (16 * i + 16 ≤ length self.now.ready.now) × Shown (zone_read self.now.zone) x }
+        ensures result_value { answer_of result
+            ≡ act_in (in_zone (zone_read self.now.zone)) (step_from (words_at self.now.ready.now (16 * i))) self.now.instant x }
         ensures kept { Kept (zone_read self.now.zone) (answer_of result) }
     {
-        match kind_of(step) {
+        match kind_of(step_at(self.ready, i)) {
             Kind::Stays => Ok(x),
             Kind::Fixed { back, count } => fixed_step(self.zone, back, count, x),
-            Kind::Civil => self.act_civil(step, x),
+            Kind::Civil => self.act_civil(i, x),
         }
     }
 
@@ -115,7 +118,7 @@ impl Walk<'_> {
     {
         let mut x = from;
         for i in k..self.ready.len() / 16 {
-            x = self.act_in(step_at(self.ready, i), x)?;
+            x = self.act_in(i, x)?;
         }
         Ok(x)
     }

@@ -27,7 +27,7 @@ turned :
 turned c x e =
     let ready = c.args.self.now.ready.now in
     let next = steps_next (length ready / 16) c.loop-i.i ready c.loop-i-test.true in
-    c.loop-i.invariant.same ∙ rw (next, ← c.step_at.ensures, ← c.act_in.ensures.result_value, e)
+    c.loop-i.invariant.same ∙ rw (next, ← c.act_in.ensures.result_value, e)
 
 pub returns-in_err-x-clause-result_value : goal.returns-in_err-x-clause-result_value
 returns-in_err-x-clause-result_value c =
