@@ -1,17 +1,13 @@
 -- A text of the grammar is a moment, one of four fractions and one of three offsets. Assumes nothing.
-use Prim.Native.Nat.{ℕ, ◌+◌, ◌-◌, ◌≤◌, ◌<◌, zero-le}
+use Prim.Native.Nat.{ℕ, ◌+◌, ◌-◌, ◌≤◌, ◌<◌}
 use Prim.Native.Char.{code}
 use Prim.Native.String.{String}
 use native.Mathlib.Omega.{arith}
 use mathlib.Core.Path.{◌≡◌, refl, sym, ap, ◌∙◌}
 use mathlib.Core.Bool.{Bool, true, false, ◌||◌, cond, or_assoc}
-use mathlib.Core.List.{List, [], ◌∷◌, ◌++◌, map}
+use mathlib.Core.List.{List, [], ◌∷◌, ◌++◌}
 use lib.Dec.{ltb}
-use denote.Ref.{Bor}
-use Rattle.std.specs.Bool.{MatchBool}
-use Rattle.std.specs.List.{HoldsAt, AllWithin}
-use Rattle.std.proofs.lemmas.List.Recursion.{or_is}
-use lib.ListN.{length, take, drop, get_or, length-append}
+use lib.ListN.{length, take, drop, length-append}
 use lib.Seq.{drop-drop}
 use Rattle.digits.specs.Bytes.{bytes_of}
 use Rattle.digits.specs.Forms.{of_form}
@@ -53,27 +49,6 @@ from_one (f ∷ fs) s {Q} each h = go (of_form f s) refl (from_one fs s each.1)
     go : (b : Bool) → of_form f s ≡ b → (is_of fs s ≡ true → Q) → Q
     go true e others = each.0 e
     go false e others = others (rw e at h)
-
--- a test of each alternative tells whether a text is of the rule
-pub tested :
-    (fs : List (Bor (List ℕ))) (s : List ℕ) (r : Bool) →
-    MatchBool r ((k : ℕ) × (k < length fs) × HoldsAt (λ f. of_form f.now s ≡ true) fs k) (AllWithin (λ f. of_form f.now s ≡ false) fs 0 (length fs)) →
-    r ≡ is_of (map (λ f. f.now) fs) s
-unfolding is_of
-tested fs s r h = or_is (λ l. is_of (map (λ f. f.now) l) s) (λ f. of_form f.now s) refl (λ f l. refl) fs none r (yes r h) (nowhere r h)
-  where
-    none : Bor (List ℕ)
-    none = record { ref_ptr = (0, 0); now = [] }
-
-    yes : (b : Bool) → MatchBool b ((k : ℕ) × (k < length fs) × HoldsAt (λ f. of_form f.now s ≡ true) fs k) (AllWithin (λ f. of_form f.now s ≡ false) fs 0 (length fs))
-        → b ≡ true → (k : ℕ) × (k < length fs) × (of_form (get_or fs k none).now s ≡ true)
-    yes true t e = (t.0, t.1, t.2 none)
-    yes false t e = absurd cc
-
-    nowhere : (b : Bool) → MatchBool b ((k : ℕ) × (k < length fs) × HoldsAt (λ f. of_form f.now s ≡ true) fs k) (AllWithin (λ f. of_form f.now s ≡ false) fs 0 (length fs))
-        → b ≡ false → (k : ℕ) → k < length fs → of_form (get_or fs k none).now s ≡ false
-    nowhere true t e = absurd cc
-    nowhere false t e = λ k less. t k none zero-le less
 
 -- a text of two rules, the one or the other
 pub either_of : (a b : Rule) (s : List ℕ) → is_of (a ++ b) s ≡ (is_of a s || is_of b s)
