@@ -180,7 +180,9 @@ fn base_plan(r: &Chain) -> Plan
     }
 }
 
-// The steps of a reading: those of each link's duration, from the last link to the first, behind those of the base.
+// The steps of a reading: those of each link's duration, from the last link to the first, behind those of the base. Kept a call of its own,
+// so that the room for a list is not held while a phrase is read.
+#[inline(never)]
 pub(crate) fn plan_of(r: Chain) -> Plan
     requires { Formed r × (size_tree (tree_of r) ≤ 21) }
     ensures { result ≡ tree_steps held (tree_of r) }
