@@ -1,12 +1,13 @@
 -- The lowest free slot, place by place, and of a board.
 use Prim.Native.Nat.{ℕ, zero, suc, ◌+◌, ◌≤◌, ◌<◌}
-use native.Mathlib.Nat.{not-suc-le-zero, le_of_suc-le-suc}
+use native.Mathlib.Nat.{add-zero, not-suc-le-zero, le_of_suc-le-suc}
 use native.Mathlib.Omega.{arith}
 use mathlib.Core.Path.{◌≡◌, refl, ap}
 use mathlib.Core.Bool.{Bool, true, false, cond}
 use mathlib.Core.List.{List, [], ◌∷◌}
 use lib.Dec.{eqb, ltb}
-use lib.ListN.{length, get_or}
+use lib.ListN.{length, get_or, drop}
+use lib.Seq.{drop-cons}
 use borrow.Author.Tests.{eq-eqb, ne_eqb, eqb-true, ltb-true, ltb-false, lt-ltb, le-ltb}
 use Rattle.std.specs.Prelude.{position, Option, Some, None}
 use Rattle.std.specs.List.{position_or_len}
@@ -17,6 +18,10 @@ use Rattle.calendar.specs.Moments.{moment_in}
 use Rattle.board.specs.Boards.{Memory, count_in, is_filled, lowest_free, free_slot, slot_for, slot_from}
 use Rattle.board.specs.Scans.{Sized, IsBoard}
 use Rattle.board.proofs.Orders.{order_full}
+
+-- a free one, behind none that is free, is the lowest
+pub free_here : (l : List ℕ) (i : ℕ) → lowest_free l ≡ i + lowest_free (drop i l) → i < length l → get_or l i 0 ≡ 0 → i ≡ lowest_free l
+free_here l i before h e = rw (before, drop-cons l i 0 h, eq-eqb (get_or l i 0) 0 e, add-zero)
 
 -- the lowest free one is the first that is free
 pub lowest_place : (l : List ℕ) → lowest_free l ≡ position_or_len (λ n. eqb n 0) l

@@ -18,7 +18,7 @@ use Rattle.dates.specs.Units.{is_article, unit_of, month_of, weekday_of, relativ
 use Rattle.dates.specs.Durations.{Duration, specific_of, article_of, concrete_of, duration_turn, duration_of}
 use Rattle.dates.specs.Times.{minute_of, half_of, clock_of, time_of}
 use Rattle.dates.specs.declared.date.Date.{Date}
-use Rattle.dates.specs.Dates.{named_day_of, day_month_year_of, month_day_of, is_delim, behind_second_of, delimited_of, date_of}
+use Rattle.dates.specs.Dates.{named_day_of, day_month_year_of, year_of, month_day_of, is_delim, behind_second_of, delimited_of, date_of}
 use Rattle.dates.proofs.LexemesTaken.{num_took}
 use Rattle.dates.proofs.Durations.{then_same}
 
@@ -112,10 +112,14 @@ day_month_year_plain : (l : List ℕ) → day_month_year_of First (plain_of l) �
 unfolding day_month_year_of
 day_month_year_plain l = simp (number_plain, drop-plain, month_plain)
 
+-- a year behind month and day
+year_plain : (l : List ℕ) → year_of First (num_of First (plain_of l)) ≡ year_of First (num_of First l)
+year_plain l = num_unread (year_of First) (λ a. refl) First l
+
 -- month and day, with or without a year
 month_day_plain : (month : ℕ) (l : List ℕ) → month_day_of First month (plain_of l) ≡ month_day_of First month l
 unfolding month_day_of
-month_day_plain month l = simp (drop-plain, number_plain)
+month_day_plain month l = simp (drop-plain, number_plain, year_plain)
 
 -- what follows the second number, behind a delimiter that is a word
 behind_plain : (delim : ℕ) → ltb delim NUM ≡ true → (num1 num2 t : ℕ) (l : List ℕ)
