@@ -150,7 +150,8 @@ fn expr_plan(expr: Expr, parts: Parts, own: u8) -> Plan
         Expr::Date(d) => single(Start::OnDate(d)),
         Expr::DateRelative(d, s, u) => date_relative(d, s, u),
         Expr::DateExpressionAfter(d) | Expr::After(d) => from_date(d, parts, own, false),
-        Expr::DateExpressionBefore(d) | Expr::Before(d) => from_date(d, parts, own, true),
+        Expr::DateExpressionBefore(d) => from_date(d, parts, own, true),
+        Expr::Before(d) => from_date(d, parts, own, true),
         Expr::UnitRelative(s, u) => unit_relative(s, u),
         Expr::RelativeWeekday(s, w) => single(Start::InWeek(s, w)),
         Expr::WeekdayRelative(w, s, u) => weekday_relative(w, s, u),
@@ -174,9 +175,8 @@ fn base_plan(r: &Chain) -> Plan
 {
     match r.base {
         Base::Now => single(Start::Now),
-        Base::DateTime(expr) | Base::TimeDate(expr) => {
-            add(expr_plan(expr, r.parts, r.own), Step::AtTime(r.time))
-        }
+        Base::DateTime(expr) => add(expr_plan(expr, r.parts, r.own), Step::AtTime(r.time)),
+        Base::TimeDate(expr) => add(expr_plan(expr, r.parts, r.own), Step::AtTime(r.time)),
     }
 }
 

@@ -28,12 +28,20 @@ dated r e (inl b) = record { steps = rw b; parts = rw b; own = λ formed has. fo
 dated r e (inr b) = record { steps = rw b; parts = rw b; own = λ formed has. formed.own (rw b has) }
 
 pub expr_plan-requires : goal.expr_plan-requires
-expr_plan-requires c = (c.requires.0.parts, (dated c.args.r.now c.in-DateTime.expr c.in-DateTime.is).own c.requires.0)
+expr_plan-requires c = (c.requires.0.parts, (dated c.args.r.now c.in-DateTime.expr (inl c.in-DateTime.is)).own c.requires.0)
+
+pub expr_plan-requires-in-TimeDate : goal.expr_plan-requires-in-TimeDate
+expr_plan-requires-in-TimeDate c = (c.requires.0.parts, (dated c.args.r.now c.in-TimeDate.expr (inr c.in-TimeDate.is)).own c.requires.0)
 
 pub add-requires : goal.add-requires
 add-requires c =
-    let same = (dated c.args.r.now c.in-DateTime.expr c.in-DateTime.is).parts in
+    let same = (dated c.args.r.now c.in-DateTime.expr (inl c.in-DateTime.is)).parts in
     may_add c.expr_plan.ensures.within (AtTime c.args.r.now.time) (omega arith) (omega (arith, same, c.requires.1))
+
+pub add-requires-in-TimeDate : goal.add-requires-in-TimeDate
+add-requires-in-TimeDate c =
+    let same = (dated c.args.r.now c.in-TimeDate.expr (inr c.in-TimeDate.is)).parts in
+    may_add c.expr_plan-in-TimeDate.ensures.within (AtTime c.args.r.now.time) (omega arith) (omega (arith, same, c.requires.1))
 
 pub returns-in-Now : goal.returns-in-Now
 unfolding tree_steps
@@ -41,6 +49,12 @@ returns-in-Now c = rw c.in-Now.is (started _ c.single.ensures (omega arith))
 
 pub returns-in-DateTime : goal.returns-in-DateTime
 returns-in-DateTime c =
-    let base = dated c.args.r.now c.in-DateTime.expr c.in-DateTime.is in
+    let base = dated c.args.r.now c.in-DateTime.expr (inl c.in-DateTime.is) in
     rw (base.steps, base.parts)
     (behind (c.expr_plan.ensures.value, c.expr_plan.ensures.within) (AtTime c.args.r.now.time) c.add.ensures (omega arith) (omega arith))
+
+pub returns-in-TimeDate : goal.returns-in-TimeDate
+returns-in-TimeDate c =
+    let base = dated c.args.r.now c.in-TimeDate.expr (inr c.in-TimeDate.is) in
+    rw (base.steps, base.parts)
+    (behind (c.expr_plan-in-TimeDate.ensures.value, c.expr_plan-in-TimeDate.ensures.within) (AtTime c.args.r.now.time) c.add-in-TimeDate.ensures (omega arith) (omega arith))

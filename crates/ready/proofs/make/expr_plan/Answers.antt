@@ -58,9 +58,12 @@ pub from_date-requires-in-DateExpressionAfter : goal.from_date-requires-in-DateE
 from_date-requires-in-DateExpressionAfter c =
     let l = on c.args.expr c.in-DateExpressionAfter.d c.in-DateExpressionAfter.is in (c.requires.1 l.has, c.requires.0)
 
-pub from_date-requires-in-DateExpressionBefore : goal.from_date-requires-in-DateExpressionBefore
-from_date-requires-in-DateExpressionBefore c =
-    let l = back c.args.expr c.in-DateExpressionBefore.d c.in-DateExpressionBefore.is in (c.requires.1 l.has, c.requires.0)
+pub from_date-requires : goal.from_date-requires
+from_date-requires c =
+    let l = back c.args.expr c.in-DateExpressionBefore.d (inl c.in-DateExpressionBefore.is) in (c.requires.1 l.has, c.requires.0)
+
+pub from_date-requires-in-Before : goal.from_date-requires-in-Before
+from_date-requires-in-Before c = let l = back c.args.expr c.in-Before.d (inr c.in-Before.is) in (c.requires.1 l.has, c.requires.0)
 
 pub returns-in-Date : goal.returns-in-Date
 unfolding expr_steps
@@ -86,7 +89,7 @@ returns-in-WeekdayRelative c = rw c.in-WeekdayRelative.is (record { value = c.we
 pub add-requires : goal.add-requires
 add-requires c =
     let all = row (goal.at.add-requires c).Start c.in-WeekdayExpressionBefore.is refl in
-    may_add c.from_date.ensures.within (By (BackTo c.in-WeekdayExpressionBefore.w)) (omega arith) (omega arith)
+    may_add c.from_date-in-WeekdayExpressionBefore.ensures.within (By (BackTo c.in-WeekdayExpressionBefore.w)) (omega arith) (omega arith)
 
 pub add-requires-in-WeekdayExpressionAfter : goal.add-requires-in-WeekdayExpressionAfter
 add-requires-in-WeekdayExpressionAfter c =
@@ -97,7 +100,7 @@ pub returns-in-WeekdayExpressionBefore : goal.returns-in-WeekdayExpressionBefore
 unfolding expr_steps
 returns-in-WeekdayExpressionBefore c =
     let step = By (BackTo c.in-WeekdayExpressionBefore.w) in
-    let from = c.from_date.ensures in
+    let from = c.from_date-in-WeekdayExpressionBefore.ensures in
     rw c.in-WeekdayExpressionBefore.is
     (record {
       value = c.add.ensures ∙ ap (λ (p : Plan). add_to p step) from.value;
@@ -136,7 +139,15 @@ returns-in-DateExpressionAfter c =
 pub returns-in-DateExpressionBefore : goal.returns-in-DateExpressionBefore
 returns-in-DateExpressionBefore c =
     let a = c.args in
-    let from = c.from_date-in-DateExpressionBefore.ensures in
-    let l = back a.expr c.in-DateExpressionBefore.d c.in-DateExpressionBefore.is in
+    let from = c.from_date.ensures in
+    let l = back a.expr c.in-DateExpressionBefore.d (inl c.in-DateExpressionBefore.is) in
+    let row = row_duration (slice a.own a.parts.n a.parts.items) in
+    record { value = from.value ∙ sym (l.steps row); within = rw (l.parts row) (within_wider from.within (omega arith)) }
+
+pub returns-in-Before : goal.returns-in-Before
+returns-in-Before c =
+    let a = c.args in
+    let from = c.from_date-in-Before.ensures in
+    let l = back a.expr c.in-Before.d (inr c.in-Before.is) in
     let row = row_duration (slice a.own a.parts.n a.parts.items) in
     record { value = from.value ∙ sym (l.steps row); within = rw (l.parts row) (within_wider from.within (omega arith)) }
