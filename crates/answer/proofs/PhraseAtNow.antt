@@ -25,7 +25,7 @@ use Rattle.answer.proofs.Leads.{valid_leads, second_leads, clocked_leads, time_o
 
 module _ (reading : Reading) (s : List ℕ) {x : TreeRead} (read : read_of reading (words_in reading) s ≡ given x) where
   -- a phrase that is read is answered by its reading
-  by_reading : (n : Moment) → answer_of reading (words_in reading) s n ≡ reading_at n x
+  pub by_reading : (n : Moment) → answer_of reading (words_in reading) s n ≡ reading_at n x
   unfolding answer_of
   by_reading n = rw read
 

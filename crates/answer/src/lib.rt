@@ -13,6 +13,7 @@ use phrase::read::read;
 use refusals::{Reason, Refusal};
 
 // A phrase at a now, in one of the readings: refusals 1 to 7, then 8, then 9 to 13; or the moment.
+#[tactic(auto, using(crate::proofs::ReadAnswers::answering))]
 pub fn answer(reading: Reading, phrase: &[u8], at: Moment) -> Result<Moment, Refusal>
     ensures { answer_from result ≡ answer_of reading (words_in reading) phrase.now at }
 {

@@ -1,9 +1,10 @@
 -- What comes next of a rule, by the closed forms of its course, and as the code asks for it.
-use mathlib.Core.Path.{◌≡◌, refl, ap, ◌∙◌}
+use mathlib.Core.Path.{◌≡◌, refl, ap, sym, ◌∙◌}
 use mathlib.Core.Bool.{Bool, true, false, cond, ◌&&◌}
 use lib.Dec.{ltb}
 use Rattle.std.proofs.Common.{Some, None, Result, Ok, Err}
 use Rattle.refusals.specs.declared.Reason.{Reason}
+use Rattle.refusals.specs.declared.Reason.TheVariants.{NoStart}
 use Prim.Native.Nat.{ℕ, ◌-◌, ◌≤◌, ◌<◌, min}
 use native.Mathlib.Omega.{arith}
 use borrow.Author.Tests.{le-leb, lt-leb, le-ltb, lt-ltb}
@@ -13,8 +14,8 @@ use Rattle.calendar.specs.declared.moments.Moment.{Moment}
 use Rattle.rules.specs.Rule.{IsRule}
 use Rattle.rules.specs.declared.Rule.{Rule}
 use Rattle.repeats.specs.Firsts.{first_from}
-use Rattle.repeats.specs.Occurrences.{Repeat, holds}
-use Rattle.repeats.specs.Courses.{repeat_in, days_in, IsCourse, begun_of}
+use Rattle.repeats.specs.Occurrences.{Repeat, holds, start_fits}
+use Rattle.repeats.specs.Courses.{count_of, course_of, repeat_in, days_in, IsCourse, begun_of}
 use Rattle.repeats.specs.declared.courses.Course.{Course}
 use Rattle.repeats.proofs.Begins.{from_fits, not-begun, begun_course, begun_days}
 use Rattle.repeats.proofs.Held.{held_short}
@@ -51,6 +52,25 @@ module _ (r : Rule) (t : Moment) (b : Result Course Reason) (e : b ≡ begun_of 
   pub next_off : (k : Reason) (asked : Moment) → b ≡ Err k → Err k ≡ answered (next_of r t asked)
   unfolding next_of
   next_off k asked h = let off = not-begun r t b e k h in rw (off.0, off.1)
+
+-- the same by the test of the start, whatever form the caller of `begin` has
+module _ (r : Rule) (t : Moment) where
+  fits : IsRule r → IsMoment t → start_fits r t ≡ true → Fits r t (course_of r t)
+  fits v m e = next_closed r t (Ok (course_of r t)) (rw e) (course_of r t) refl v m
+
+  -- what `next_day` asks of the course; the test stands in the claim, so that it shows r and t
+  pub next_asks : IsRule r → IsMoment t → start_fits r t ≡ true → (start_fits r t ≡ true) × (IsCourse (course_of r t) × (1 ≤ count_of r.bound))
+  next_asks v m e = let f = fits v m e in (e, (f.course, f.count))
+
+  pub next_fit : (asked : Moment) → IsRule r → IsMoment t → IsMoment asked → start_fits r t ≡ true →
+      let c = course_of r t in next_of r t asked ≡ moment_or t (next_day (repeat_in c) c.interval c.start c.limit c.count (asked_day t asked))
+  next_fit asked v m w e = (fits v m e).closed asked w
+
+  pub next_none : (asked : Moment) → start_fits r t ≡ false → answered (next_of r t asked) ≡ Err NoStart
+  next_none asked e = sym (next_off r t (Err NoStart) (rw e) NoStart asked refl)
+
+-- what asking for the next one needs
+pub ruleset asking = (next_asks, next_fit, next_none)
 
 -- the code's ways to the day, one after the other; n is what is found from b on
 module _ (r : Repeat) (i s limit c b : ℕ) where

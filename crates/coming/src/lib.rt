@@ -46,6 +46,7 @@ fn next_day(c: Course, b: u32) -> Option<u32>
 }
 
 // The first occurrence at or after the asked moment, or 19 or 20.
+#[tactic(auto, using(crate::proofs::Closed::asking))]
 pub fn next(rule: Rule, start: Moment, asked: Moment) -> Result<Moment, Reason>
     requires { IsRule rule × IsMoment start × IsMoment asked }
     ensures { result ≡ answered (next_of rule start asked) }

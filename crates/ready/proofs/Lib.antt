@@ -8,3 +8,4 @@ pub mod Settles
 pub mod Rows
 pub mod Within
 pub mod Links
+pub mod ReadReady

@@ -14,6 +14,7 @@ use steps::plan::Plan;
 pub mod make;
 
 // A phrase made ready in one of the readings: its steps, or what reading refuses, 1 to 7.
+#[tactic(auto, using(crate::proofs::ReadReady::making))]
 pub fn make_ready(reading: Reading, phrase: &[u8]) -> Result<Plan, Refusal>
     ensures { result ≡ ready_answer (ready_of reading (words_in reading) phrase.now) }
 {

@@ -130,3 +130,10 @@ module _ (r : Rule) (t : Moment) (b : Result Course Reason) (e : b ≡ begun_of 
   pub begun_days : (c : Course) → b ≡ Ok c → IsRule r → days_of r t ≡ given (days_in c)
   unfolding days_of
   begun_days c h v = let f = from_fits c h in rw (f.0, f.1, same_list r t v)
+
+-- the same by the test of the start, whatever form the caller of `begin` has; the test stands in the claim, so that it shows r and t
+pub fit_begins : (r : Rule) (t : Moment) → IsRule r → IsMoment t → start_fits r t ≡ true → (start_fits r t ≡ true) × IsCourse (course_of r t)
+fit_begins r t v m e = (e, is_course r t v m e)
+
+-- what listing needs
+pub ruleset listing = (fit_begins, same_list)

@@ -44,6 +44,7 @@ fn put_rows(c: Course, t: Moment, moments: &mut [u32]) -> usize
 }
 
 // The occurrences of a rule from its start on, in order, up to the buffer's room: 19 for a start that doesn't match or lies past UNTIL.
+#[tactic(auto, using(crate::proofs::Begins::listing), unfolding(crate::specs::Occurrences::days_of))]
 pub fn list(rule: Rule, start: Moment, moments: &mut [u32]) -> Result<usize, Reason>
     requires { IsRule rule × IsMoment start }
     ensures value { result ≡ wrote_of (list_of rule start (length moments.old)) }

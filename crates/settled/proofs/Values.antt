@@ -21,6 +21,8 @@ use Rattle.tzif.specs.File.{IsChecked}
 use Rattle.tzif.specs.declared.file.Places.{Places}
 use Rattle.tzif.specs.declared.zone.Zone.{Zone}
 use Rattle.zones.specs.Civil.{answer_of}
+use Rattle.zones.specs.Instants.{settled_of}
+use Rattle.zones.specs.declared.instants.Instant.{Instant}
 use Rattle.zoned.specs.Local.{located_of}
 use Rattle.zoned.specs.declared.local.Local.{Local}
 use Rattle.board.specs.Boards.{head_from}
@@ -97,6 +99,20 @@ reached_back (Err k) = refl
 
 pub reached_one : (x y : Result Moment Reason) → reached_of x ≡ reached_of y → x ≡ y
 reached_one = given_back reached_of reach reached_back
+
+module _ {R : Type 0} where
+  abbrev settled_back : Result (Reach Instant) R → Result (Result Instant Reason) R
+  settled_back (Ok x) = Ok (reach x)
+  settled_back (Err k) = Err k
+
+  settled_again : (x : Result (Result Instant Reason) R) → settled_back (settled_of x) ≡ x
+  settled_again (Ok (Ok x)) = refl
+  settled_again (Ok (Err k)) = refl
+  settled_again (Err k) = refl
+
+  -- where a civil answer settles, or why it was refused ahead of that
+  pub settled_one : (x y : Result (Result Instant Reason) R) → settled_of x ≡ settled_of y → x ≡ y
+  settled_one = given_back settled_of settled_back settled_again
 
 stamp_back : (x : Result Stamp Reason) → reason (stamp_answer x) ≡ x
 stamp_back (Ok st) = refl

@@ -1,6 +1,8 @@
 -- The promises of `zones`. Assumes nothing.
+use denote.RattleType.{RattleType}
+use denote.Param.Laws.{Laws}
 use Rattle.settled.proofs.Settled.{Settled, same, through}
-use Rattle.settled.proofs.Values.{reach_one}
+use Rattle.settled.proofs.Values.{reach_one, settled_one}
 use Rattle.zones.proofs.civil.in_years.Reads as in_years'
 use Rattle.zones.proofs.civil.moment_of_second.Reads as moment_of_second'
 use Rattle.zones.proofs.civil.second_of_moment.Reads as second_of_moment'
@@ -35,5 +37,5 @@ fixed_step = through fixed_step'.Post _ (λ κs. reach_one) (same fixed_step'.Po
 pub clock_of : Settled clock_of'.Post
 clock_of = same clock_of'.Post _ _ (λ κs a z e p. p.0)
 
-pub settle : Settled settle'.Post
-settle = through settle'.Post _ (λ κs. reach_one) (same settle'.Post _ _ (λ κs a z e p. p.0))
+pub settle : (T : RattleType) (L : Laws T) → Settled (settle'.Post T L)
+settle = λ T L. through (settle'.Post T L) _ (λ κs. settled_one) (same (settle'.Post T L) _ _ (λ κs a z e p. p.0))

@@ -1,14 +1,16 @@
 // A ready phrase run from its bytes at an instant of a zone. The steps ahead of a time of day are those of the fixed offset's runner.
 ghost use Rattle.std.specs.Prelude.{◌≡◌, true, ◌+◌, ◌-◌, ◌*◌, ◌/◌, ◌≤◌, length};
+ghost use Rattle.calendar.specs.Moments.{and_then, reached_of, Valid};
 ghost use Rattle.tzif.specs.Read.{zone_read};
 ghost use Rattle.zones.specs.Civil.{answer_of};
-ghost use Rattle.zones.specs.Instants.{Shown, Kept};
+ghost use Rattle.zones.specs.Instants.{instant_at, Shown, Kept};
 ghost use Rattle.steps.specs.Running.{act_in, walk_in, lead_in, is_list};
 ghost use Rattle.records.specs.Words.{step_from};
 ghost use Rattle.records.specs.Records.{words_at, steps_at, decode_of};
 ghost use Rattle.zoned.specs.InZone.{in_zone, run_at};
 ghost use Rattle.zoned.specs.Kinds.{startKind, moveKind, kind_of, civil_step, up_to_time};
 
+use calendar::moments::Moment;
 use records::run::{is_list, step_at, walk};
 use refusals::Reason;
 use steps::plan::{Move, Start, Step};
@@ -72,6 +74,15 @@ fn up_to_time(b: &[u8]) -> usize
     count
 }
 
+// The instant of a civil answer, which is refused by the steps ahead of it or by the zone.
+fn instant_of(zone: Zone<'_>, at: Result<Moment, Reason>) -> Result<Instant, Reason>
+    requires { Valid (reached_of at) }
+    ensures result_value { answer_of result ≡ and_then (reached_of at) (instant_at (zone_read zone.entry)) }
+    ensures kept { Kept (zone_read zone.entry) (answer_of result) }
+{
+    settle(zone, at)?
+}
+
 // What a run has at hand: the bytes of a ready phrase, a zone, and the now, an instant that a run may stand at.
 #[derive(Clone, Copy)]
 struct Walk<'a> {
@@ -91,7 +102,7 @@ impl Walk<'_> {
     {
         let at = clock_of(self.zone, self.instant);
         let t = clock_of(self.zone, x);
-        settle(self.zone, walk(self.ready, i, i + 1, at, t))
+        instant_of(self.zone, walk(self.ready, i, i + 1, at, t))
     }
 
     // The step of record i in the zone from x.
@@ -135,7 +146,7 @@ impl Walk<'_> {
         }
         let k = up_to_time(self.ready);
         let at = clock_of(self.zone, self.instant);
-        let x = settle(self.zone, walk(self.ready, 0, k, at, at))?;
+        let x = instant_of(self.zone, walk(self.ready, 0, k, at, at))?;
         self.walk_in(k, x)
     }
 }

@@ -1,9 +1,9 @@
 // Instants of a zone: their civil moments, the instant of a civil moment, and fixed lengths between instants.
-ghost use Rattle.std.specs.Prelude.{◌≡◌, true, false, ◌<◌};
-ghost use Rattle.calendar.specs.Moments.{IsMoment, and_then, reached_of, Valid};
+ghost use Rattle.std.specs.Prelude.{◌≡◌, true, false, ◌<◌, IfOk};
+ghost use Rattle.calendar.specs.Moments.{IsMoment};
 ghost use Rattle.tzif.specs.Read.{zone_read};
 ghost use Rattle.zones.specs.Civil.{answer_of};
-ghost use Rattle.zones.specs.Instants.{with_millisecond, arrive, fixed_from, fixed_step, clock_of, instant_at, Shown, Kept};
+ghost use Rattle.zones.specs.Instants.{with_millisecond, arrive, fixed_from, fixed_step, clock_of, settled, settled_of, Shown, Kept};
 
 use super::civil::{in_years, moment_of_second, second_of_moment};
 use super::search::{civil_of, resolve};
@@ -86,12 +86,12 @@ pub fn clock_of(zone: Zone<'_>, x: Instant) -> Moment
     moment_of_second(civil_of(zone, x.second), x.millisecond)
 }
 
-// The instant of a civil moment that was reached.
-pub fn settle(zone: Zone<'_>, at: Result<Moment, Reason>) -> Result<Instant, Reason>
-    requires { Valid (reached_of at) }
-    ensures result_value { answer_of result ≡ and_then (reached_of at) (instant_at (zone_read zone.entry)) }
-    ensures kept { Kept (zone_read zone.entry) (answer_of result) }
+// The instant of a civil moment that was reached. A refusal ahead of it stays, whatever type tells it.
+pub fn settle<R>(zone: Zone<'_>, at: Result<Moment, R>) -> Result<Result<Instant, Reason>, R>
+    requires { IfOk at IsMoment }
+    ensures result_value { settled_of result ≡ settled (zone_read zone.entry) at }
+    ensures kept { IfOk result (λ x. Kept (zone_read zone.entry) (answer_of x)) }
 {
     let t = at?;
-    with_millisecond(resolve(zone, second_of_moment(t)), t.millisecond)
+    Ok(with_millisecond(resolve(zone, second_of_moment(t)), t.millisecond))
 }

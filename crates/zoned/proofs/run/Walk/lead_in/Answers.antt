@@ -16,11 +16,11 @@ use Rattle.zoned.specs.InZone.{in_zone}
 use Rattle.zoned.proofs.Acts.{at_shown}
 use Rattle.zoned.proofs.Ahead.{some_record, lead_dated, lead_now}
 use Rattle.zoned.proofs.run.Walk.lead_in.Goals as goal
-use Rattle.zoned.proofs.run.Walk.lead_in.Goals.{After-settle}
+use Rattle.zoned.proofs.run.Walk.lead_in.Goals.{After-instant_of}
 
 -- where the time of day leads, and from there the steps behind it
 led :
-    (c : After-settle) (x : Result Instant Reason) → c.settle.result ≡ x → let walk = c.args.self.now in
+    (c : After-instant_of) (x : Result Instant Reason) → c.instant_of.result ≡ x → let walk = c.args.self.now in
     let z = zone_read walk.zone in
     let ready = walk.ready.now in
     let k = c.up_to_time-k.result in
@@ -33,7 +33,7 @@ led c x e =
     let first = rw c.step_at.ensures at due in
     let lead = lead_dated (zone_read walk.zone) walk.ready.now c.requires walk.instant k.result k.ensures.0 k.ensures.1 first in
     let walked = rw (sub-zero, c.clock_of-at.ensures.0) at c.walk.ensures.result_value in
-    lead ∙ rw (← walked, ← c.settle.ensures.result_value, e)
+    lead ∙ rw (← walked, ← c.instant_of.ensures.result_value, e)
 
 pub step_at-requires : goal.step_at-requires
 step_at-requires c = omega (arith, some_record c.args.self.now.ready.now c.requires)
@@ -47,11 +47,11 @@ returns-then-times_due-ne1-clause-result_value c =
 pub returns-in_err-x-clause-result_value : goal.returns-in_err-x-clause-result_value
 returns-in_err-x-clause-result_value c =
     let p = err_from_is_err_and c.from_residual.result c.from_residual.ensures.1 in
-    rw (p.1, p.2) (sym (led (goal.at.returns-in_err-x-clause-result_value c).After-settle _ c.in_err-x.was))
+    rw (p.1, p.2) (sym (led (goal.at.returns-in_err-x-clause-result_value c).After-instant_of _ c.in_err-x.was))
 
 pub walk_in-requires-2 : goal.walk_in-requires-2
-walk_in-requires-2 c = at_shown _ c.settle.ensures.kept c.in_ok-x.was
+walk_in-requires-2 c = at_shown _ c.instant_of.ensures.kept c.in_ok-x.was
 
 pub returns-clause-result_value : goal.returns-clause-result_value
 returns-clause-result_value c =
-    c.walk_in-2.ensures.result_value ∙ sym (led (goal.at.returns-clause-result_value c).After-settle _ c.in_ok-x.was)
+    c.walk_in-2.ensures.result_value ∙ sym (led (goal.at.returns-clause-result_value c).After-instant_of _ c.in_ok-x.was)
